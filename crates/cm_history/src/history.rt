@@ -1,0 +1,81 @@
+ghost use Rattle.std.specs.Prelude.{◌≡◌, ◌==◌, ◌<◌, ◌≤◌, ◌+◌, ◌++◌, ◌∷◌, [], length, slice_get, Some, OnOk, OnErr};
+
+use crate::act::Entry;
+use cm_base::OutOfMemory;
+use std::alloc::Global;
+use std::marker::Model;
+
+/// What was asked of units, in order. Contracts see its entries, and how many more have room.
+#[derive(Drop)]
+pub struct History {
+    entries: Vec<Entry>,
+    spare: u64,
+}
+
+impl Model for History {
+    ghost use Rattle.std.specs.Prelude.{◌≤◌, ◌+◌, vec_len, vec_capacity};
+    ghost use Rattle.cm_history.specs.Record.{Record};
+
+    ghost Value = { Record };
+
+    ghost view = { λ h. record { entries = h.entries.items; spare = h.spare } };
+
+    ghost invariant = { λ h. vec_len h.entries + h.spare ≤ vec_capacity h.entries };
+}
+
+impl History {
+    /// The history without entries. It takes no memory.
+    pub fn empty(alloc: Global) -> History
+        ensures { result ≡ record { entries = []; spare = 0 } }
+    {
+        History {
+            entries: Vec::new(alloc),
+            spare: 0,
+        }
+    }
+
+    pub fn len(&self) -> usize
+        ensures { result ≡ length self.now.entries }
+    {
+        self.entries.len()
+    }
+
+    pub fn is_empty(&self) -> bool
+        ensures { result ≡ (length self.now.entries == 0) }
+    {
+        self.entries.is_empty()
+    }
+
+    /// The entry at this place.
+    pub fn at(&self, index: usize) -> &Entry
+        requires { index < length self.now.entries }
+        ensures { slice_get self.now.entries index ≡ Some result.now }
+    {
+        &self.entries[index]
+    }
+
+    /// Makes room for so many more entries. At `OutOfMemory` the room is as before.
+    pub fn reserve(&mut self, more: u64) -> Result<(), OutOfMemory>
+        ensures same { self.new.entries ≡ self.old.entries }
+        ensures room { OnOk result (more ≤ self.new.spare) }
+        ensures kept { self.old.spare ≤ self.new.spare }
+        ensures err { OnErr result (self.new ≡ self.old) }
+    {
+        if more <= self.spare {
+            return Ok(());
+        }
+        self.entries.reserve(more as usize)?;
+        self.spare = more;
+        Ok(())
+    }
+
+    /// Adds an entry to the end, for which there is room. It takes no memory.
+    pub fn append(&mut self, entry: Entry)
+        requires { 0 < self.old.spare }
+        ensures added { self.new.entries ≡ self.old.entries ++ entry ∷ [] }
+        ensures room { self.new.spare + 1 ≡ self.old.spare }
+    {
+        self.entries.push(entry).unwrap();
+        self.spare -= 1;
+    }
+}

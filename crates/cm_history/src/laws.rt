@@ -1,0 +1,27 @@
+ghost use Rattle.std.specs.Prelude.{ℕ, List, Bool, length, ◌<◌, ◌≤◌};
+ghost use Rattle.lba_ranges.specs.declared.ranges.Range.{Range};
+ghost use Rattle.lba_ranges.specs.HeldBlocks.{HeldBlocks};
+ghost use Rattle.cm_history.specs.declared.act.Entry.{Entry};
+ghost use Rattle.cm_history.specs.Legal.{IsLegal};
+ghost use Rattle.cm_history.specs.Laws.{IsRedeemed, TokenPromise, IsStarted, CountPromise};
+
+use crate::history::History;
+use cm_base::Config;
+
+/// A redeemed token shows the blocks as they stood at the one Populate that made it.
+pub fn token_law(_config: &Config, _history: &History, _place: usize)
+    requires { IsLegal _config.now _history.now.entries }
+    ensures { (e : Entry) (text : List ℕ) (target : ℕ) (list : HeldBlocks)
+        → IsRedeemed _config.now _history.now.entries _place e text target list
+        → TokenPromise _config.now _history.now.entries _place e text list }
+{}
+
+/// What an operation has written is the first `count` blocks of its list, piece by piece.
+pub fn count_law(_config: &Config, _history: &History, _start: usize, _until: usize)
+    requires legal { IsLegal _config.now _history.now.entries }
+    requires later { _start < _until }
+    requires within { _until ≤ length _history.now.entries }
+    ensures { (e : Entry) (id : ℕ) (background : Bool) (ranges : List Range) (rod : HeldBlocks)
+        → IsStarted _config.now _history.now.entries _start e id background ranges rod
+        → CountPromise _config.now _history.now.entries _start _until e id ranges }
+{}

@@ -1,0 +1,71 @@
+-- Programs of acts, which each outcome moves on
+use Rattle.std.specs.Prelude.{ℕ, List, [], Option, Some, None}
+use Rattle.scsi_sense.specs.SenseCode.{SenseCode}
+use Rattle.cm_frame.specs.declared.frame.Reply.{Reply}
+use Rattle.cm_history.specs.declared.act.Act.{Act}
+use Rattle.cm_history.specs.declared.answer.Answer.{Answer}
+use Rattle.cmd_program.specs.declared.step.Outcome.{Outcome}
+use Rattle.cmd_program.specs.declared.step.Step.{Step}
+
+-- an act that is asked of a unit
+pub record Ask : Type 0 where
+  pub unit : ℕ
+  pub act : Act
+
+-- A command ends with a reply; or it asks for an act, says what it still has to ask if it must give up there,
+-- and goes on by the answer; or it has given up, and asks a last time before its reply.
+pub data Program : Type 0 where
+  Ends : Reply → Program
+  Asks : Ask → Option Ask → (Answer → Program) → Program
+  GivesUp : Option Ask → Reply → Program
+
+-- what the program does next
+abbrev pub next : Program → Step
+next (Ends reply) = Step.Done reply
+next (Asks ask last go_on) = Step.Do ask.unit ask.act
+next (GivesUp (Some ask) reply) = Step.Do ask.unit ask.act
+next (GivesUp None reply) = Step.Done reply
+
+-- the program gives up, unless it did so before
+abbrev pub give_up : Program → Reply → Program
+give_up (Ends ended) reply = GivesUp None reply
+give_up (Asks ask last go_on) reply = GivesUp last reply
+give_up (GivesUp last first) reply = GivesUp None first
+
+-- the program after an answer; a last question is asked once, whatever its answer
+abbrev pub go_on_by : Program → Answer → Program
+go_on_by (Ends reply) answer = Ends reply
+go_on_by (Asks ask last go_on) answer = go_on answer
+go_on_by (GivesUp last reply) answer = GivesUp None reply
+
+-- the program after an outcome
+abbrev pub moved : Program → Outcome → Program
+moved program (Outcome.Answered answer) = go_on_by program answer
+moved program Outcome.Full = give_up program Reply.Full
+moved program Outcome.NoMemory = give_up program Reply.Busy
+
+-- ---- words for programs
+
+-- GOOD, with this data
+abbrev pub good : List ℕ → Program
+good bytes = Ends (Reply.Good bytes)
+
+-- GOOD, with no data
+abbrev pub done : Program
+done = good []
+
+abbrev pub refused : SenseCode → Program
+refused sense = Ends (Reply.Check sense)
+
+-- the reply to an answer of another form than the act can have, which does not come
+abbrev pub never : Program
+never = Ends Reply.Busy
+
+-- a refusal ends the command; any other answer goes on
+abbrev pub unless_refused : Program → Answer → Program
+unless_refused rest (Answer.Refused sense) = refused sense
+unless_refused rest _ = rest
+
+-- an act at which nothing is left to ask if the command must give up
+abbrev pub ask_then : ℕ → Act → (Answer → Program) → Program
+ask_then unit act go_on = Asks (record { unit = unit; act = act }) None go_on

@@ -1,0 +1,71 @@
+-- Commands that ask for one act, or for none
+use Rattle.std.specs.Prelude.{ℕ, ◌/◌, ◌==◌, List, take, length, Option, Some, None, Result, Ok, Err, Bool, true, false, if◌then◌else◌}
+use Rattle.cm_base.specs.Configuration.{Configuration}
+use Rattle.cm_base.specs.Units.{unit_of}
+use Rattle.lba_ranges.specs.HeldBlocks.{HeldBlocks, cut}
+use Rattle.lba_ranges.specs.declared.ranges.Range.{Range}
+use Rattle.scsi_sense.specs.SenseCode.{SenseCode}
+use Rattle.scsi_sense.specs.Codes.{bad_cdb}
+use Rattle.block_params.specs.declared.lists.PopulateList.{PopulateList}
+use Rattle.scsi_inquiry.specs.UnitData.{standard, vpd}
+use Rattle.cm_history.specs.declared.act.Act.{Act}
+use Rattle.cm_history.specs.declared.answer.Answer.{Answer}
+use Rattle.cmd_program.specs.Program.{Program, good, done, refused, never, unless_refused, ask_then}
+use Rattle.cmd_program.specs.Told.{blocks_bytes, map_bytes, report_bytes, report_token_bytes, copy_bytes}
+
+-- the blocks of data that came with a WRITE
+abbrev pub blocks_in : ℕ → List ℕ → HeldBlocks
+blocks_in size bytes = record { block_length = size; items = cut size (length bytes / size) bytes }
+
+-- ---- what is told of each answer; `room` is the allocation length
+
+abbrev pub told_read : Answer → Program
+told_read (Answer.Blocks list) = good (blocks_bytes list)
+told_read (Answer.Refused sense) = refused sense
+told_read _ = never
+
+abbrev pub told_map : ℕ → Answer → Program
+told_map room (Answer.Status runs) = good (take room (map_bytes runs))
+told_map room (Answer.Refused sense) = refused sense
+told_map room _ = never
+
+abbrev pub told_report : ℕ → Answer → Program
+told_report room (Answer.Report report) = good (take room (report_bytes report))
+told_report room (Answer.Refused sense) = refused sense
+told_report room _ = never
+
+abbrev pub told_token : Configuration → ℕ → ℕ → Answer → Program
+told_token config unit room (Answer.Report report) = good (take room (report_token_bytes config unit report))
+told_token config unit room (Answer.Refused sense) = refused sense
+told_token config unit room _ = never
+
+abbrev pub told_copy : ℕ → Answer → Program
+told_copy room (Answer.Copy result) = good (take room (copy_bytes result))
+told_copy room (Answer.Refused sense) = refused sense
+told_copy room _ = never
+
+-- ---- the commands
+
+-- one act, and GOOD with no data
+abbrev pub act_alone : ℕ → Act → Program
+act_alone unit act = ask_then unit act (unless_refused done)
+
+-- a page, if there is one
+abbrev pub page_told : ℕ → Option (List ℕ) → Program
+page_told room None = refused bad_cdb
+page_told room (Some page) = good (take room page)
+
+abbrev pub inquiry : ℕ → Bool → ℕ → ℕ → Program
+inquiry unit true page room = page_told room (vpd unit page)
+inquiry unit false page room = if page == 0 then good (take room standard) else refused bad_cdb
+
+abbrev pub write : Configuration → ℕ → ℕ → List ℕ → Program
+write config unit lba out = act_alone unit (Act.Write lba (blocks_in (unit_of config unit).block_length out))
+
+abbrev pub unmap : ℕ → Result (List Range) SenseCode → Program
+unmap unit (Err sense) = refused sense
+unmap unit (Ok ranges) = act_alone unit (Act.Unmap ranges)
+
+abbrev pub populate : ℕ → ℕ → Result PopulateList SenseCode → Program
+populate unit id (Err sense) = refused sense
+populate unit id (Ok list) = act_alone unit (Act.Populate id list.timeout list.ranges)

@@ -1,0 +1,3 @@
+pub mod HeldBlocks
+pub mod Denoted
+pub mod Writings

@@ -1,0 +1,147 @@
+ghost use Rattle.std.specs.Prelude.{◌≡◌, ◌+◌, ◌*◌, ◌<◌, ◌≤◌, ◌^◌, ◌++◌, [], length, slice_range, IfOk, OnOk, OnErr};
+ghost use Rattle.std.specs.Option.{option_copied};
+ghost use Rattle.lba_ranges.specs.HeldBlocks.{HeldBlocks, filled, IsFull, held_at, AllSized};
+
+use crate::fill::Piece;
+use cm_base::{OutOfMemory, Payload};
+use std::alloc::Global;
+use std::marker::Model;
+
+/// A list of blocks, each of which holds bytes or is unmapped.
+#[derive(Drop)]
+pub struct BlockList {
+    block_length: u32,
+    count: u64,
+    pieces: Vec<Piece>,
+}
+
+impl Model for BlockList {
+    ghost use Rattle.std.specs.Prelude.{◌≡◌, length};
+    ghost use Rattle.lba_ranges.specs.HeldBlocks.{HeldBlocks, items_of, AllFull};
+
+    ghost Value = { HeldBlocks };
+
+    ghost view = { λ b. record {
+      block_length = b.block_length;
+      items = items_of b.block_length b.pieces.items;
+    } };
+
+    ghost invariant = { λ b. (b.count ≡ length (items_of b.block_length b.pieces.items))
+        × AllFull b.block_length b.pieces.items };
+}
+
+impl BlockList {
+    pub fn empty(alloc: Global, block_length: u32) -> BlockList
+        ensures length { result.block_length ≡ block_length }
+        ensures empty { result.items ≡ [] }
+    {
+        BlockList {
+            block_length,
+            count: 0,
+            pieces: Vec::new(alloc),
+        }
+    }
+
+    pub fn blocks(&self) -> u64
+        ensures { result ≡ length self.now.items }
+    {
+        self.count
+    }
+
+    pub fn block_length(&self) -> u32
+        ensures { result ≡ self.now.block_length }
+    {
+        self.block_length
+    }
+
+    pub fn push(&mut self, piece: Piece) -> Result<(), OutOfMemory>
+        requires full { IsFull self.old.block_length piece.count piece.fill }
+        requires room { length self.old.items + piece.count < 2 ^ 64 }
+        ensures ok { OnOk result (self.new ≡ record self.old {
+          items = self.old.items ++ filled self.old.block_length piece.count piece.fill;
+        }) }
+        ensures err { OnErr result (self.new ≡ self.old) }
+    {
+        let count = piece.count;
+        self.pieces.push(piece)?;
+        self.count += u64::from(count);
+        Ok(())
+    }
+
+    pub fn held(&self, index: u64) -> Option<&[u8]>
+        ensures { option_copied result ≡ held_at self.now.items index }
+    {
+        let mut left = index;
+        for piece in &self.pieces {
+            if left < u64::from(piece.count) {
+                return piece.held(self.block_length, left as u32);
+            }
+            left -= u64::from(piece.count);
+        }
+        None
+    }
+
+    /// What each block holds.
+    pub fn items(&self, alloc: Global) -> Result<Vec<Option<Payload>>, OutOfMemory>
+        ensures items { IfOk result (λ v. v.items ≡ self.now.items) }
+        ensures sized { IfOk result (λ v. AllSized self.now.block_length v.items) }
+    {
+        let mut items = Vec::new(alloc);
+        for index in 0..self.count {
+            let item = match self.held(index) {
+                Some(bytes) => Some(Payload::copy_from_slice(alloc, bytes)?),
+                None => None,
+            };
+            items.push(item)?;
+        }
+        Ok(items)
+    }
+
+    /// Adds some blocks of a run, which share its bytes.
+    fn push_part(&mut self, piece: &Piece, from: u32, count: u32) -> Result<(), OutOfMemory>
+        requires full { IsFull self.old.block_length piece.now.count piece.now.fill }
+        requires within { from + count ≤ piece.now.count }
+        requires room { length self.old.items + count < 2 ^ 64 }
+        ensures ok { OnOk result (self.new ≡ record self.old {
+          items = self.old.items
+              ++ slice_range (filled self.old.block_length piece.now.count piece.now.fill) from (from + count);
+        }) }
+    {
+        if count == 0 {
+            return Ok(());
+        }
+        let part = piece.part(self.block_length, from, count)?;
+        self.push(part)
+    }
+
+    /// Some blocks of the list, which share its bytes.
+    pub fn slice(&self, alloc: Global, from: u64, count: u64) -> Result<BlockList, OutOfMemory>
+        requires { from + count ≤ length self.now.items }
+        ensures { IfOk result (λ r. r ≡ record self.now { items = slice_range self.now.items from (from + count) }) }
+    {
+        let mut list = BlockList::empty(alloc, self.block_length);
+        let mut skip = from;
+        let mut left = count;
+        for piece in &self.pieces {
+            let whole = u64::from(piece.count);
+            let before = skip.min(whole);
+            let taken = left.min(whole - before);
+            list.push_part(piece, before as u32, taken as u32)?;
+            skip -= before;
+            left -= taken;
+        }
+        Ok(list)
+    }
+
+    /// Adds all blocks of another list.
+    pub fn append(&mut self, mut other: BlockList) -> Result<(), OutOfMemory>
+        requires size { self.old.block_length ≡ other.block_length }
+        requires room { length self.old.items + length other.items < 2 ^ 64 }
+        ensures ok { OnOk result (self.new ≡ record self.old { items = self.old.items ++ other.items }) }
+        ensures err { OnErr result (self.new ≡ self.old) }
+    {
+        self.pieces.append(&mut other.pieces)?;
+        self.count += other.count;
+        Ok(())
+    }
+}

@@ -1,0 +1,70 @@
+-- The table of the commands, and what it reads in a CDB
+use Rattle.std.specs.Prelude.{ℕ, ◌-◌, ◌==◌, List, [], ◌∷◌, find, Option, Some, None, Result, Ok, Err, Bool, true, false, not, ◌&&◌, ◌||◌, nat_lt, if◌then◌else◌}
+use Rattle.cm_base.specs.Fields.{byte, field, bits, bit}
+use Rattle.scsi_sense.specs.SenseCode.{SenseCode}
+use Rattle.scsi_sense.specs.Codes.{unknown_operation, bad_cdb}
+use Rattle.scsi_cdb.specs.declared.Cdb.{Cdb}
+
+-- A row: operation code, service action where there is one, bytes of the CDB, and what the bytes ask for
+pub record Row : Type 0 where
+  pub code : ℕ
+  pub action : Option ℕ
+  pub size : ℕ
+  pub command : List ℕ → Cdb
+
+-- a row with no service action
+abbrev pub row : ℕ → ℕ → (List ℕ → Cdb) → Row
+row code size command = record { code = code; action = None; size = size; command = command }
+
+-- a row with a service action, whose CDB has 16 bytes
+abbrev pub action_row : ℕ → ℕ → (List ℕ → Cdb) → Row
+action_row code action command = record { code = code; action = Some action; size = 16; command = command }
+
+abbrev pub table : List Row
+table =
+    row 0x00 6 (λ b. Cdb.TestUnitReady)
+    ∷ row 0x03 6 (λ b. Cdb.RequestSense (byte b 4))
+    ∷ row 0x12 6 (λ b. Cdb.Inquiry (bit b 1 0) (byte b 2) (field b 3 4))
+    ∷ row 0x25 10 (λ b. Cdb.ReadCapacity10)
+    ∷ row 0x28 10 (λ b. Cdb.Read (field b 2 5) (field b 7 8))
+    ∷ row 0x2a 10 (λ b. Cdb.Write (field b 2 5) (field b 7 8))
+    ∷ row 0x42 10 (λ b. Cdb.Unmap (field b 7 8))
+    ∷ row 0x88 16 (λ b. Cdb.Read (field b 2 9) (field b 10 13))
+    ∷ row 0x8a 16 (λ b. Cdb.Write (field b 2 9) (field b 10 13))
+    ∷ action_row 0x83 0x00 (λ b. Cdb.ExtendedCopy (field b 10 13))
+    ∷ action_row 0x83 0x10 (λ b. Cdb.PopulateToken (field b 6 9) (field b 10 13))
+    ∷ action_row 0x83 0x11 (λ b. Cdb.WriteUsingToken (field b 6 9) (field b 10 13))
+    ∷ action_row 0x83 0x1c (λ b. Cdb.CopyAbort (field b 2 5))
+    ∷ action_row 0x84 0x00 (λ b. Cdb.CopyStatus1 (byte b 2) (field b 10 13))
+    ∷ action_row 0x84 0x03 (λ b. Cdb.CopyParameters (field b 10 13))
+    ∷ action_row 0x84 0x05 (λ b. Cdb.CopyStatus4 (field b 2 5) (field b 10 13))
+    ∷ action_row 0x84 0x07 (λ b. Cdb.TokenInformation (field b 2 5) (field b 10 13))
+    ∷ action_row 0x9e 0x10 (λ b. Cdb.ReadCapacity16 (field b 10 13))
+    ∷ action_row 0x9e 0x12 (λ b. Cdb.GetLbaStatus (field b 2 9) (field b 10 13))
+    ∷ row 0xa0 12 (λ b. Cdb.ReportLuns (field b 6 9)) ∷ []
+
+-- the service action is in bits 4..0 of byte 1
+abbrev pub has_action : List ℕ → Option ℕ → Bool
+has_action b None = true
+has_action b (Some action) = bits b 1 4 0 == action
+
+-- the row is that of the CDB
+abbrev pub is_row_of : List ℕ → Row → Bool
+is_row_of b r = (byte b 0 == r.code) && has_action b r.action
+
+-- protection, more than 2048 blocks, ANCHOR or DESC
+abbrev pub has_bad_field : List ℕ → Cdb → Bool
+has_bad_field b (Cdb.Read lba count) = not (bits b 1 7 5 == 0) || nat_lt 2048 count
+has_bad_field b (Cdb.Write lba count) = not (bits b 1 7 5 == 0) || nat_lt 2048 count
+has_bad_field b (Cdb.Unmap length) = bit b 1 0
+has_bad_field b (Cdb.RequestSense length) = bit b 1 0
+has_bad_field b _ = false
+
+-- NACA is bit 2 of the last byte
+abbrev pub decoded_by : List ℕ → Option Row → Result Cdb SenseCode
+decoded_by b None = Err unknown_operation
+decoded_by b (Some r) = if bit b (r.size - 1) 2 || has_bad_field b (r.command b) then Err bad_cdb else Ok (r.command b)
+
+-- what the 16 bytes ask for
+abbrev pub decoded : List ℕ → Result Cdb SenseCode
+decoded b = decoded_by b (find (is_row_of b) table)

@@ -1,0 +1,4 @@
+pub mod SenseCode
+pub mod SenseBytes
+pub mod Codes
+pub mod Faults
