@@ -58,9 +58,10 @@ impl OutputBuffer {
 
     /// Pushes all bytes. At `WriteFailed` the buffer keeps those that the sink did not take.
     pub fn flush<O: Sink>(&mut self, sink: &mut O) -> Result<(), WriteFailed>
-        ensures grown { (front : List ℕ) × (front ++ self.new ≡ self.old)
-            × Appends (O.taken sink.old) (O.taken sink.new) front }
+        ensures grown { OnOk result (Appends (O.taken sink.old) (O.taken sink.new) self.old) }
         ensures whole { OnOk result (self.new ≡ []) }
+        ensures begun { OnErr result ((front : List ℕ) × (front ++ self.new ≡ self.old)
+            × Appends (O.taken sink.old) (O.taken sink.new) front) }
         ensures sound { OnOk result (O.write_faults sink.new ≡ O.write_faults sink.old) }
         ensures faulted { OnErr result (Faulted (O.write_faults sink.old) (O.write_faults sink.new)) }
         ensures told { StaysTold (O.taken sink.old) (O.taken sink.new) }
