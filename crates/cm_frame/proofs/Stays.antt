@@ -6,19 +6,11 @@ use Rattle.std.proofs.lemmas.List.{drop-append-le, take-append-le, length-append
 use Rattle.cm_frame.specs.declared.frame.Request.{Request}
 use Rattle.cm_base.specs.declared.parsed.Parsed.{Parsed}
 use Rattle.cm_base.specs.declared.parsed.Parsed.TheVariants.{Whole, Short, Bad}
-use Rattle.cm_frame.specs.Fields.{number_of, part, field, is_between}
+use Rattle.cm_base.specs.Fields.{byte, field, part, is_between}
+use Rattle.cm_base.proofs.FieldLaws.{part-stays, field-stays, byte-stays}
 use Rattle.cm_frame.specs.Grammar.{data_limit, header_text}
 use Rattle.cm_frame.specs.Reading.{first_fault, unit_checks, unit_in, units_in, or_later, units_fault, units_told, config_in, judged_units, read_header, read_request, begin_in, read_run, read_pump, read_item}
 use Rattle.cm_frame.specs.Laws.{IsJudged, StaysJudged}
-
--- a part that is there is the same, whatever comes behind
-pub part-stays : (place n : ℕ) (a b : List ℕ) → place + n ≤ length a → part place n (a ++ b) ≡ part place n a
-part-stays place n a b there =
-    let rest : n ≤ length (drop place a) = omega (arith, length-drop place a) in
-    ap (take n) (drop-append-le place a b (omega arith)) ∙ take-append-le n (drop place a) b rest
-
-pub field-stays : (place n : ℕ) (a b : List ℕ) → place + n ≤ length a → field place n (a ++ b) ≡ field place n a
-field-stays place n a b there = ap number_of (part-stays place n a b there)
 
 -- behind a test that so many bytes are there
 pub guard-stays : {A : Type 0} (m n : ℕ) (a b : List ℕ) (y x : Parsed A) → m ≡ n → IsJudged (cond (nat_lt (length a) n) Short x)
@@ -94,7 +86,7 @@ pump-stays a b judged = guard-stays 11 11 a b _ _ refl judged (λ all j.
 
 pub item-stays : StaysJudged read_item
 item-stays a b judged = guard-stays 1 1 a b _ _ refl judged (λ one j.
-    let kind_is : byte (a ++ b) 0 ≡ byte a 0 = field-stays 0 1 a b one in
+    let kind_is : byte (a ++ b) 0 ≡ byte a 0 = byte-stays 0 a b one in
     test-stays _ _ _ _ _ _ (ap (λ k. k == 1) kind_is) j (λ k. begin-stays a b k) (λ k.
     test-stays _ _ _ _ _ _ (ap (λ k. k == 2) kind_is) k (λ l. run-stays a b l) (λ l.
     test-stays _ _ _ _ _ _ (ap (λ k. k == 3) kind_is) l (λ m. pump-stays a b m) (λ m. refl))))
@@ -108,7 +100,7 @@ unit_checks-stay a b all =
     let f12 = field-stays 12 4 a b (omega arith) in
     let f16 = field-stays 16 8 a b (omega arith) in
     let f24 = field-stays 24 4 a b (omega arith) in
-    let f28 = field-stays 28 1 a b (omega arith) in
+    let f28 = byte-stays 28 a b (omega arith) in
     let f29 = field-stays 29 3 a b (omega arith) in
     rw (f0, f8, f12, f16, f24, f28, f29) refl
 
@@ -119,7 +111,7 @@ unit_in-stays a b all =
     let f12 = field-stays 12 4 a b (omega arith) in
     let f16 = field-stays 16 8 a b (omega arith) in
     let f24 = field-stays 24 4 a b (omega arith) in
-    let f28 = field-stays 28 1 a b (omega arith) in
+    let f28 = byte-stays 28 a b (omega arith) in
     rw (f0, f8, f12, f16, f24, f28) refl
 
 units_fault-stays : (n place : ℕ) (a b : List ℕ) → 32 * n ≤ length a → units_fault n place (a ++ b) ≡ units_fault n place a
