@@ -3,7 +3,8 @@ use Rattle.std.proofs.Common.{◌≡◌, ℕ, zero, suc, ◌+◌, ◌-◌, ◌<�
 use Rattle.std.specs.Prelude.{nat_le, slice_range}
 use Rattle.std.proofs.lemmas.Bool.{and_parts}
 use Rattle.std.proofs.lemmas.Bool.Decides.{nat_tests}
-use Rattle.std.proofs.lemmas.List.Sums.{sum_by-cons}
+use Rattle.std.proofs.lemmas.List.{take_more}
+use Rattle.std.proofs.lemmas.List.Sums.{sum_by-cons, sum_by_push, sum_by-take-le}
 use Rattle.lba_ranges.specs.declared.ranges.Range.{Range}
 use Rattle.lba_ranges.specs.Denoted.{row, blocks_of, total, is_within}
 
@@ -50,6 +51,11 @@ pub blocks_of-drop : (rs : List Range) (i : ℕ) (d : Range) → i < length rs
     → blocks_of (drop i rs) ≡ row (get_or rs i d).lba (get_or rs i d).count ++ blocks_of (drop (i + 1) rs)
 blocks_of-drop rs i d h = rw (add-one, drop-cons rs i d) refl
 
+-- the blocks of the first ranges and of the next one
+pub blocks_of-more : (rs : List Range) (i : ℕ) (d : Range) → i < length rs
+    → blocks_of (take (i + 1) rs) ≡ blocks_of (take i rs) ++ row (get_or rs i d).lba (get_or rs i d).count
+blocks_of-more rs i d h = ap blocks_of (take_more rs i d h) ∙ blocks_of-push (take i rs) (get_or rs i d)
+
 pub length-blocks_of : (rs : List Range) → length (blocks_of rs) ≡ total rs
 length-blocks_of [] = refl
 length-blocks_of (r ∷ rs) =
@@ -71,3 +77,41 @@ within-push blocks [] r all h = let e : nat_le (r.lba + r.count) blocks ≡ true
 within-push blocks (q ∷ rs) r all h =
     let both = and_parts (nat_le (q.lba + q.count) blocks) (is_within blocks rs) all in
     rw both.0 (within-push blocks rs r both.1 h)
+
+-- a range at a place ends within the blocks
+pub within-at : (blocks : ℕ) (rs : List Range) (k : ℕ) (r : Range) → is_within blocks rs ≡ true → slice_get rs k ≡ Some r → r.lba + r.count ≤ blocks
+within-at blocks [] k r all e = cc
+within-at blocks (q ∷ rs) zero r all e =
+    let same : q ≡ r = cc in
+    let first = le-within blocks q (and_parts (nat_le (q.lba + q.count) blocks) (is_within blocks rs) all).0 in
+    rw same at first
+within-at blocks (q ∷ rs) (suc k) r all e = within-at blocks rs k r (and_parts (nat_le (q.lba + q.count) blocks) (is_within blocks rs) all).1 e
+
+-- ranges that end within some blocks end within more blocks
+pub within-more : (blocks more : ℕ) (rs : List Range) → blocks ≤ more → is_within blocks rs ≡ true → is_within more rs ≡ true
+within-more blocks more [] h all = refl
+within-more blocks more (q ∷ rs) h all =
+    let both = and_parts (nat_le (q.lba + q.count) blocks) (is_within blocks rs) all in
+    let low = le-within blocks q both.0 in
+    let first : nat_le (q.lba + q.count) more ≡ true = grind (arith, nat_tests) in
+    rw first (within-more blocks more rs h both.1)
+
+-- the first ones and the next one
+pub take-get : {X : Type 0} (xs : List X) (n : ℕ) (x : X) → slice_get xs n ≡ Some x → take (n + 1) xs ≡ take n xs ++ x ∷ []
+take-get [] n x e = cc
+take-get (y ∷ xs) zero x e = let same : y ≡ x = cc in rw same refl
+take-get (y ∷ xs) (suc n) x e = let next : suc n + 1 ≡ suc (n + 1) = omega arith in rw next (ap (λ l. y ∷ l) (take-get xs n x e))
+
+pub blocks_of-get : (rs : List Range) (k : ℕ) (r : Range) → slice_get rs k ≡ Some r
+    → blocks_of (take (k + 1) rs) ≡ blocks_of (take k rs) ++ row r.lba r.count
+blocks_of-get rs k r e = ap blocks_of (take-get rs k r e) ∙ blocks_of-push (take k rs) r
+
+-- the first ranges denote no more blocks than all of them
+pub total-take : (rs : List Range) (k : ℕ) → total (take k rs) ≤ total rs
+total-take rs k = sum_by-take-le (λ (r : Range). r.count) rs k
+
+pub total-get : (rs : List Range) (k : ℕ) (r : Range) → slice_get rs k ≡ Some r → total (take k rs) + r.count ≤ total rs
+total-get rs k r e =
+    let next = ap total (take-get rs k r e) ∙ sum_by_push (λ (q : Range). q.count) (take k rs) r in
+    let all = total-take rs (k + 1) in
+    omega arith

@@ -14,6 +14,17 @@ pub struct Range {
 }
 
 impl Range {
+    /// Adds the numbers of the range's blocks to the end.
+    fn push_blocks(&self, blocks: &mut Vec<u64>) -> Result<(), OutOfMemory>
+        requires { self.now.lba + self.now.count ≤ 2 ^ 64 }
+        ensures { OnOk result (blocks.new.items ≡ blocks.old.items ++ row self.now.lba self.now.count) }
+    {
+        for index in 0..self.count {
+            blocks.push(self.lba + u64::from(index))?;
+        }
+        Ok(())
+    }
+
     /// A block is in both ranges.
     fn meets(&self, other: &Range) -> bool
         ensures { result ≡ meets self.now other.now }
@@ -100,6 +111,18 @@ impl RangeList {
             blocks += u64::from(range.count);
         }
         blocks
+    }
+
+    /// The numbers of the blocks that the ranges denote, in order.
+    pub fn blocks(&self, alloc: Global) -> Result<Vec<u64>, OutOfMemory>
+        requires { IsTrue (is_within (2 ^ 64) self.now) }
+        ensures { IfOk result (λ blocks. blocks.items ≡ blocks_of self.now) }
+    {
+        let mut blocks = Vec::new(alloc);
+        for range in &self.ranges {
+            range.push_blocks(&mut blocks)?;
+        }
+        Ok(blocks)
     }
 
     /// Two places of the list denote one block.
