@@ -1,0 +1,17 @@
+use Rattle.std.proofs.Common.{append_assoc}
+use Rattle.lba_ranges.proofs.Cells.{AllFull-at, items_of-more, items_bytes-append}
+use Rattle.lba_ranges.proofs.list.BlockList.read_into.Goals as goal
+
+pub read_into-requires : goal.read_into-requires
+read_into-requires c =
+    AllFull-at _ c.deref-piece-items.result.now _ _ (rw c.deref-piece-items.ensures.value c.self.invariant.1) c.loop-piece-test.true c.piece-item.is
+
+pub loop-piece-preserved : goal.loop-piece-preserved
+loop-piece-preserved c =
+    rw (
+      c.in_ok-read_into.ensures.ok,
+      c.loop-piece.invariant,
+      items_of-more _ c.deref-piece-items.result.now _ _ c.loop-piece-test.true c.piece-item.is,
+      items_bytes-append,
+    )
+    (append_assoc c.args.into.now _ _)
