@@ -46,7 +46,7 @@ check-kept : (t : Bool) (place : ℕ) (later : Option ℕ) → cond t later (Som
 check-kept true place later e = (refl, e)
 check-kept false place later e = cc
 
-between-bounds : (low high n : ℕ) → is_between low high n ≡ true → (low ≤ n) × (n ≤ high)
+pub between-bounds : (low high n : ℕ) → is_between low high n ≡ true → (low ≤ n) × (n ≤ high)
 between-bounds low high n e =
     let both = and_parts (nat_le low n) (nat_le n high) e in
     (leb-true low n both.0, leb-true n high both.1)
