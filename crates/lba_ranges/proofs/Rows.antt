@@ -1,6 +1,7 @@
 -- Rows of block numbers, and the ranges that denote them
 use Rattle.std.proofs.Common.{◌≡◌, ℕ, zero, suc, ◌+◌, ◌-◌, ◌<◌, ◌≤◌, List, [], ◌∷◌, ◌++◌, length, take, drop, refl, ap, sym, ◌∙◌, arith, true, get_or, add-one, append_assoc, append-nil, length-append, drop-cons}
-use Rattle.std.specs.Prelude.{nat_le, slice_range}
+use Rattle.std.specs.Prelude.{nat_le, slice_range, slice_get, Some}
+use Rattle.std.specs.List.{AllByRecursion}
 use Rattle.std.proofs.lemmas.Bool.{and_parts}
 use Rattle.std.proofs.lemmas.Bool.Decides.{nat_tests}
 use Rattle.std.proofs.lemmas.List.{take_more}
@@ -115,3 +116,18 @@ total-get rs k r e =
     let next = ap total (take-get rs k r e) ∙ sum_by_push (λ (q : Range). q.count) (take k rs) r in
     let all = total-take rs (k + 1) in
     omega arith
+
+row-below : (n lba count : ℕ) → lba + count ≤ n → AllByRecursion (λ b. b < n) (row lba count)
+row-below n lba zero h = tt
+row-below n lba (suc count) h = (omega arith, row-below n (suc lba) count (omega arith))
+
+append-below : (n : ℕ) (xs ys : List ℕ) → AllByRecursion (λ b. b < n) xs → AllByRecursion (λ b. b < n) ys → AllByRecursion (λ b. b < n) (xs ++ ys)
+append-below n [] ys a b = b
+append-below n (x ∷ xs) ys a b = (a.0, append-below n xs ys a.1 b)
+
+-- ranges within some blocks denote these blocks alone
+pub blocks_of-below : (n : ℕ) (rs : List Range) → is_within n rs ≡ true → AllByRecursion (λ b. b < n) (blocks_of rs)
+blocks_of-below n [] all = tt
+blocks_of-below n (r ∷ rs) all =
+    let both = and_parts (nat_le (r.lba + r.count) n) (is_within n rs) all in
+    append-below n (row r.lba r.count) (blocks_of rs) (row-below n r.lba r.count (le-within n r both.0)) (blocks_of-below n rs both.1)

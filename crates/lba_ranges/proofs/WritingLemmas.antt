@@ -1,8 +1,9 @@
 -- How writings change what is held, and how many blocks are mapped
-use Rattle.std.proofs.Common.{◌≡◌, ℕ, zero, suc, ◌+◌, ◌<◌, ◌≤◌, List, [], ◌∷◌, ◌++◌, length, get_or, refl, ap, sym, ◌∙◌, arith, true, false, Bool, inl, inr}
-use Rattle.std.specs.Prelude.{is_some, None, ◌⊎◌, ◌==◌, ◌||◌, ◌&&◌, nat_le, nat_lt, if◌then◌else◌}
+use Rattle.std.proofs.Common.{◌≡◌, ℕ, zero, suc, ◌+◌, ◌<◌, ◌≤◌, List, [], ◌∷◌, ◌++◌, length, take, get_or, length-take-le, refl, ap, sym, ◌∙◌, arith, true, false, Bool, inl, inr}
+use Rattle.std.specs.Prelude.{is_some, None, ◌⊎◌, ◌==◌, ◌&&◌, nat_le, nat_lt, if◌then◌else◌}
 use Rattle.std.specs.List.{list_any}
-use Rattle.std.proofs.lemmas.Bool.{cases_eq, or_parts}
+use Rattle.std.proofs.lemmas.Bool.{cases_eq, or_parts, ne_eqb}
+use Rattle.std.proofs.lemmas.List.{take_more}
 use Rattle.std.proofs.lemmas.Bool.Decides.{nat_tests}
 use Rattle.lba_ranges.specs.Denoted.{row, has_repeat}
 use Rattle.lba_ranges.specs.Writings.{Held, Writing, paired, unmapped, after, is_written, mapped_below}
@@ -135,3 +136,26 @@ apart-at (x ∷ xs) zero zero e l h same = absurd (omega arith)
 apart-at (x ∷ xs) zero (suc j) e l h same = differs-at xs x j (or_parts (list_any (λ a. a == x) xs) (has_repeat xs) e).0 (omega arith) (sym same)
 apart-at (x ∷ xs) (suc i) zero e l h same = absurd (omega arith)
 apart-at (x ∷ xs) (suc i) (suc j) e l h same = apart-at xs i j (or_parts (list_any (λ a. a == x) xs) (has_repeat xs) e).1 (omega arith) (omega arith) same
+
+-- the number at a place is none of those before it
+pub fresh-at : (xs : List ℕ) (k : ℕ) → has_repeat xs ≡ false → k < length xs → list_any (λ a. a == get_or xs k 0) (take k xs) ≡ false
+fresh-at [] k e h = absurd (omega arith)
+fresh-at (x ∷ xs) zero e h = refl
+fresh-at (x ∷ xs) (suc k) e h =
+    let both = or_parts (list_any (λ a. a == x) xs) (has_repeat xs) e in
+    let first : (x == get_or xs k 0) ≡ false = ne_eqb x (get_or xs k 0) (λ same. differs-at xs x k both.0 (omega arith) (sym same)) in
+    rw first (fresh-at xs k both.1 (omega arith))
+
+-- what the block at a place holds is not changed by those before it
+pub after-before : (bs : List ℕ) (xs : List Held) (k : ℕ) (was : Held) → has_repeat bs ≡ false → k < length bs
+    → after (paired (take k bs) xs) (get_or bs k 0) was ≡ was
+after-before bs xs k was e h = after-unwritten (paired (take k bs) xs) (get_or bs k 0) was (paired-unwritten (take k bs) xs (get_or bs k 0) (fresh-at bs k e h))
+
+-- one more item
+pub after-more : (bs : List ℕ) (xs : List Held) (k : ℕ) (x : Held) (b : ℕ) (was : Held) → length xs ≡ k → k < length bs
+    → after (paired (take (k + 1) bs) (xs ++ x ∷ [])) b was ≡ (if get_or bs k 0 == b then x else after (paired (take k bs) xs) b was)
+after-more bs xs k x b was len h =
+    let front : length (take k bs) ≡ length xs = length-take-le k bs (omega arith) ∙ sym len in
+    ap (λ l. after (paired l (xs ++ x ∷ [])) b was) (take_more bs k 0 h)
+    ∙ ap (λ ws. after ws b was) (paired-push (take k bs) xs (get_or bs k 0) x front)
+    ∙ after-append (paired (take k bs) xs) (record { block = get_or bs k 0; held = x } ∷ []) b was
