@@ -2,7 +2,7 @@ use Rattle.std.proofs.Common.{◌≡◌, ◌+◌, ◌-◌, ◌*◌, ◌++◌}
 use Rattle.cm_base.specs.Fields.{zeros}
 use Rattle.rand_chacha.specs.ChaCha.{key_of}
 use Rattle.rod_token.specs.TokenText.{words}
-use Rattle.rod_token.proofs.text.nonce.Given as goal
+use Rattle.rod_token.proofs.token.nonce.Given as goal
 
 abbrev pub invariant-loop-index : goal.invariant-loop-index
 invariant-loop-index l = record {

@@ -5,7 +5,7 @@ use Rattle.cm_base.specs.Fields.{zeros}
 use Rattle.rod_token.specs.TokenText.{words}
 use Rattle.rod_token.proofs.Words.{words-more, length-words}
 use Rattle.rod_token.proofs.Written.{written-more}
-use Rattle.rod_token.proofs.text.nonce.Goals as goal
+use Rattle.rod_token.proofs.token.nonce.Goals as goal
 
 pub loop-index-preserved : goal.loop-index-preserved
 loop-index-preserved c =
@@ -27,7 +27,7 @@ loop-index-preserved c =
       stream = ap (λ (p : ℕ × ChaCha). p.1.stream) step ∙ known.stream;
       place = omega (arith, moved, known.place);
       written = c.set_u32.ensures ∙ written
-      ∙ ap (λ w. (words key c.args.unit place index ++ big_bytes 4 w) ++ zeros (32 - 4 * index - 4)) word
-      ∙ ap (λ l. l ++ zeros (32 - 4 * index - 4)) (sym (words-more key c.args.unit place index))
-      ∙ ap (λ n. words key c.args.unit place (index + 1) ++ zeros n) left;
+          ∙ ap (λ w. (words key c.args.unit place index ++ big_bytes 4 w) ++ zeros (32 - 4 * index - 4)) word
+          ∙ ap (λ l. l ++ zeros (32 - 4 * index - 4)) (sym (words-more key c.args.unit place index))
+          ∙ ap (λ n. words key c.args.unit place (index + 1) ++ zeros n) left;
     }
