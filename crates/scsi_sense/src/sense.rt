@@ -1,4 +1,5 @@
-ghost use Rattle.std.specs.Prelude.{◌≡◌, ◌≤◌, IfSome, length};
+ghost use Rattle.std.specs.Prelude.{◌≡◌, ◌≢◌, ◌≤◌, IfSome, IfNone};
+ghost use Rattle.scsi_sense.specs.SenseCode.{SenseCode};
 ghost use Rattle.scsi_sense.specs.SenseBytes.{sense_bytes};
 
 use std::marker::Model;
@@ -26,6 +27,7 @@ impl Model for Sense {
 }
 
 impl Sense {
+    /// The sense of this key, additional sense code and qualifier.
     pub fn new(key: u8, asc: u8, ascq: u8) -> Sense
         requires { key ≤ 15 }
         ensures { result ≡ record { key = key; asc = asc; ascq = ascq } }
@@ -33,6 +35,7 @@ impl Sense {
         Sense { key, asc, ascq }
     }
 
+    /// SENSE KEY, at most 15.
     pub fn key(self) -> u8
         ensures value { result ≡ self.key }
         ensures small { result ≤ 15 }
@@ -40,15 +43,73 @@ impl Sense {
         self.key
     }
 
+    /// ADDITIONAL SENSE CODE.
     pub fn asc(self) -> u8
         ensures { result ≡ self.asc }
     {
         self.asc
     }
 
+    /// ADDITIONAL SENSE CODE QUALIFIER.
     pub fn ascq(self) -> u8
         ensures { result ≡ self.ascq }
     {
         self.ascq
+    }
+
+    /// The sense in fixed format (SPC-4, Fixed format sense data): response code 70h, and 10
+    /// additional bytes.
+    pub fn to_bytes(self) -> [u8; 18]
+        ensures { result ≡ sense_bytes self }
+    {
+        let Sense { key, asc, ascq } = self;
+        [
+            0x70, 0, key, 0, 0, 0, 0, 0x0a, 0, 0, 0, 0, asc, ascq, 0, 0, 0, 0,
+        ]
+    }
+
+    /// The sense that is spelled by all these bytes, if there is one.
+    pub fn from_bytes(bytes: &[u8]) -> Option<Sense>
+        ensures spelled { IfSome result (λ s. bytes.now ≡ sense_bytes s) }
+        ensures none { IfNone result ((s : SenseCode) → s.key ≤ 15 → bytes.now ≢ sense_bytes s) }
+    {
+        if bytes.len() != 18 || bytes[2] > 15 {
+            return None;
+        }
+        let sense = Sense::new(bytes[2], bytes[12], bytes[13]);
+        (bytes == sense.to_bytes().as_slice()).then_some(sense)
+    }
+}
+
+#[cfg(test)]
+mod tests {
+    use super::*;
+
+    /// Each byte of the fixed format, by SPC-4.
+    #[test]
+    fn bytes_of_the_standard(rt: HostRuntime) {
+        let invalid_field = [
+            0x70, 0, 5, 0, 0, 0, 0, 0x0a, 0, 0, 0, 0, 0x24, 0, 0, 0, 0, 0,
+        ];
+        let token_expired = [
+            0x70, 0, 5, 0, 0, 0, 0, 0x0a, 0, 0, 0, 0, 0x23, 0x07, 0, 0, 0, 0,
+        ];
+        let table = [
+            (Sense::invalid_field_in_cdb(), invalid_field),
+            (Sense::new(0x05, 0x23, 0x07), token_expired),
+        ];
+        for (sense, bytes) in table {
+            assert_eq!(rt; sense.to_bytes(), bytes);
+            assert_eq!(rt; Sense::from_bytes(&bytes), Some(sense));
+        }
+        // Descriptor format, a filemark, a further byte, and a byte too few.
+        let mut descriptor = invalid_field;
+        descriptor[0] = 0x72;
+        let mut filemark = invalid_field;
+        filemark[2] = 0x85;
+        assert_eq!(rt; Sense::from_bytes(&descriptor), None);
+        assert_eq!(rt; Sense::from_bytes(&filemark), None);
+        assert_eq!(rt; Sense::from_bytes(&invalid_field[..17]), None);
+        assert_eq!(rt; Sense::from_bytes(&[]), None);
     }
 }
