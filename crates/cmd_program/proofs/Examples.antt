@@ -5,7 +5,7 @@ use Rattle.byteorder.specs.Endian.{big_bytes}
 use Rattle.cm_base.specs.Fields.{zeros}
 use Rattle.cm_base.specs.Configuration.{Configuration}
 use Rattle.scsi_sense.specs.Codes.{bad_cdb, unknown_operation, not_reachable}
-use Rattle.scsi_cdb.specs.declared.Cdb.{Cdb}
+use Rattle.scsi_cdb.specs.declared.cdb.Cdb.{Cdb}
 use Rattle.scsi_cdb.specs.Decoded.{decoded}
 use Rattle.scsi_cdb.specs.Encoded.{encoded}
 use Rattle.lba_ranges.specs.declared.ranges.Range.{Range}
