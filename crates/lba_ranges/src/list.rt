@@ -124,6 +124,7 @@ impl BlockList {
     pub fn read_into(&self, into: &mut Bytes) -> Result<(), OutOfMemory>
         ensures ok { OnOk result (into.new ≡ into.old ++ blocks_bytes self.now) }
         ensures err { OnErr result ((part : List ℕ) × (into.new ≡ into.old ++ part)) }
+        ensures length { length (blocks_bytes self.now) ≡ length self.now.items * self.now.block_length }
     {
         for piece in &self.pieces {
             piece.read_into(self.block_length, into)?;
