@@ -16,3 +16,4 @@ pub mod Needed
 pub mod Laws
 pub mod Merged
 pub mod Image
+pub mod Known
