@@ -19,3 +19,4 @@ pub mod Image
 pub mod Known
 pub mod PlainWritings
 pub mod Plain
+pub mod PlainHolds

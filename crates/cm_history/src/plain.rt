@@ -1,19 +1,15 @@
-ghost use Rattle.std.specs.Prelude.{◌≡◌, ◌+◌, ◌<◌, ◌≤◌, ◌++◌, ◌^◌, [], ℕ, List, None, length, IfOk, OnOk};
+ghost use Rattle.std.specs.Prelude.{◌≡◌, ◌+◌, ◌<◌, ◌≤◌, ◌++◌, ◌^◌, ◌∷◌, [], ℕ, List, Some, None, length, IfOk, OnOk};
 ghost use Rattle.std.specs.Option.{option_copied};
-ghost use Rattle.cm_base.specs.declared.config.UnitConfig.{UnitConfig};
-ghost use Rattle.cm_base.specs.Units.{unit_of};
+ghost use Rattle.lba_ranges.specs.Denoted.{row};
 ghost use Rattle.lba_ranges.specs.Writings.{after, mapped_below};
-ghost use Rattle.cm_history.specs.declared.act.Entry.{Entry};
-ghost use Rattle.cm_history.specs.declared.act.Act.{Act};
-ghost use Rattle.cm_history.specs.Answers.{put_at, answer_read, answer_write};
-ghost use Rattle.cm_history.specs.History.{answer, past_of, on};
-ghost use Rattle.cm_history.specs.Blocks.{held};
-ghost use Rattle.cm_history.specs.Plain.{is_plain, IsPlain};
+ghost use Rattle.cm_history.specs.declared.answer.Answer.{Answer};
+ghost use Rattle.cm_history.specs.Senses.{out_of_range, over_quota};
+ghost use Rattle.cm_history.specs.Answers.{put_at, answer_read, answer_write, wrote_of};
+ghost use Rattle.cm_history.specs.Blocks.{cut};
+ghost use Rattle.cm_history.specs.PlainHolds.{AreSized};
 
-use crate::act::{Act, Actor};
 use crate::answer::Answer;
-use crate::history::History;
-use cm_base::{Config, OutOfMemory, Payload, UnitConfig};
+use cm_base::{OutOfMemory, Payload, UnitConfig};
 use lba_ranges::{BlockList, Fill, Piece};
 use scsi_sense::Sense;
 use std::alloc::Global;
@@ -49,6 +45,23 @@ impl PlainBlocks {
         PlainBlocks {
             writings: Vec::new(alloc),
         }
+    }
+
+    fn copy(&self, alloc: Global) -> Result<PlainBlocks, OutOfMemory>
+        ensures { IfOk result (λ blocks. blocks ≡ self.now) }
+    {
+        let mut writings = Vec::new(alloc);
+        for writing in &self.writings {
+            let held = match &writing.held {
+                Some(bytes) => Some(bytes.clone()?),
+                None => None,
+            };
+            writings.push(PlainWriting {
+                block: writing.block,
+                held,
+            })?;
+        }
+        Ok(PlainBlocks { writings })
     }
 
     /// What a block holds: the last writing of it.
@@ -94,4 +107,91 @@ impl PlainBlocks {
         }
         Ok(())
     }
+}
+
+/// Adds one block to the end.
+fn push_block(list: &mut BlockList, held: Option<&Payload>) -> Result<(), OutOfMemory>
+    requires sized { (bytes : List ℕ) → option_copied held ≡ Some bytes → length bytes ≡ list.old.block_length }
+    requires room { length list.old.items + 1 < 2 ^ 64 }
+    ensures { OnOk result (list.new ≡ record list.old { items = list.old.items ++ option_copied held.entry ∷ [] }) }
+{
+    let fill = match held {
+        Some(bytes) => Fill::Bytes(bytes.clone()?),
+        None => Fill::Hole,
+    };
+    list.push(Piece { count: 1, fill })
+}
+
+/// Blocks as they are held after all writings.
+fn cut(
+    alloc: Global,
+    unit: UnitConfig,
+    blocks: &PlainBlocks,
+    lba: u64,
+    count: u32,
+) -> Result<BlockList, OutOfMemory>
+    requires within { lba + count ≤ unit.blocks }
+    requires sized { AreSized unit.block_length (λ b. after blocks.now b None) }
+    ensures { IfOk result (λ list. list ≡ cut unit (λ b. after blocks.now b None) (row lba count)) }
+{
+    let mut list = BlockList::empty(alloc, unit.block_length);
+    for index in 0..count {
+        push_block(&mut list, blocks.held(lba + u64::from(index)))?;
+    }
+    Ok(list)
+}
+
+/// The blocks do not all lie in the unit (SBC-3, LOGICAL BLOCK ADDRESS OUT OF RANGE).
+fn out_of_range() -> Answer
+    ensures { result ≡ Answer.Refused out_of_range }
+{
+    Answer::Refused(Sense::new(0x05, 0x21, 0x00))
+}
+
+/// More blocks would be mapped than the quota (SBC-3, SPACE ALLOCATION FAILED WRITE PROTECT).
+fn over_quota() -> Answer
+    ensures { result ≡ Answer.Refused over_quota }
+{
+    Answer::Refused(Sense::new(0x07, 0x27, 0x07))
+}
+
+/// What a Read is answered after all writings.
+fn read(
+    alloc: Global,
+    unit: UnitConfig,
+    blocks: &PlainBlocks,
+    lba: u64,
+    count: u32,
+) -> Result<Answer, OutOfMemory>
+    requires { AreSized unit.block_length (λ b. after blocks.now b None) }
+    ensures { IfOk result (λ a. a ≡ answer_read unit (λ b. after blocks.now b None) lba count) }
+{
+    if lba > unit.blocks || u64::from(count) > unit.blocks - lba {
+        return Ok(out_of_range());
+    }
+    Ok(Answer::Blocks(cut(alloc, unit, blocks, lba, count)?))
+}
+
+/// What a Write is answered after all writings, which it joins where it is not refused.
+fn write(
+    alloc: Global,
+    unit: UnitConfig,
+    blocks: &mut PlainBlocks,
+    lba: u64,
+    list: &BlockList,
+) -> Result<Answer, OutOfMemory>
+    requires limits { unit.blocks < 2 ^ 63 }
+    ensures answer { IfOk result (λ a. a ≡ answer_write unit (λ b. after blocks.old b None) lba list.now.items) }
+    ensures written { IfOk result (λ a. blocks.new ≡ blocks.old ++ wrote_of a (put_at lba list.now.items)) }
+{
+    if lba > unit.blocks || list.blocks() > unit.blocks - lba {
+        return Ok(out_of_range());
+    }
+    let mut next = blocks.copy(alloc)?;
+    next.write(alloc, lba, list)?;
+    if next.mapped(unit.blocks) > unit.quota {
+        return Ok(over_quota());
+    }
+    *blocks = next;
+    Ok(Answer::Done)
 }
