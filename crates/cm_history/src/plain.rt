@@ -1,15 +1,20 @@
-ghost use Rattle.std.specs.Prelude.{◌≡◌, ◌+◌, ◌<◌, ◌≤◌, ◌++◌, ◌^◌, ◌∷◌, [], ℕ, List, Some, None, length, IfOk, OnOk};
+ghost use Rattle.std.specs.Prelude.{◌≡◌, ◌+◌, ◌<◌, ◌≤◌, ◌++◌, ◌^◌, ◌∷◌, [], ℕ, List, Some, None, true, length, IfOk, OnOk};
 ghost use Rattle.std.specs.Option.{option_copied};
 ghost use Rattle.lba_ranges.specs.Denoted.{row};
+ghost use Rattle.lba_ranges.specs.HeldBlocks.{AllSized};
 ghost use Rattle.lba_ranges.specs.Writings.{after, mapped_below};
 ghost use Rattle.cm_history.specs.declared.answer.Answer.{Answer};
 ghost use Rattle.cm_history.specs.Senses.{out_of_range, over_quota};
 ghost use Rattle.cm_history.specs.Answers.{put_at, answer_read, answer_write, wrote_of};
+ghost use Rattle.cm_history.specs.History.{answer};
 ghost use Rattle.cm_history.specs.Blocks.{cut};
-ghost use Rattle.cm_history.specs.PlainHolds.{AreSized};
+ghost use Rattle.cm_history.specs.Plain.{is_plain};
+ghost use Rattle.cm_history.specs.PlainHolds.{AreSized, ArePlain, StandFor, IsSizedAct, written_by};
 
+use crate::act::{Act, Actor};
 use crate::answer::Answer;
-use cm_base::{OutOfMemory, Payload, UnitConfig};
+use crate::history::History;
+use cm_base::{Config, OutOfMemory, Payload, UnitConfig};
 use lba_ranges::{BlockList, Fill, Piece};
 use scsi_sense::Sense;
 use std::alloc::Global;
@@ -180,11 +185,13 @@ fn write(
     lba: u64,
     list: &BlockList,
 ) -> Result<Answer, OutOfMemory>
-    requires limits { unit.blocks < 2 ^ 63 }
+    requires { unit.blocks < 2 ^ 63 }
     ensures answer { IfOk result (λ a. a ≡ answer_write unit (λ b. after blocks.old b None) lba list.now.items) }
     ensures written { IfOk result (λ a. blocks.new ≡ blocks.old ++ wrote_of a (put_at lba list.now.items)) }
+    ensures sized { AllSized list.now.block_length list.now.items }
 {
-    if lba > unit.blocks || list.blocks() > unit.blocks - lba {
+    let count = list.blocks();
+    if lba > unit.blocks || count > unit.blocks - lba {
         return Ok(out_of_range());
     }
     let mut next = blocks.copy(alloc)?;
@@ -194,4 +201,71 @@ fn write(
     }
     *blocks = next;
     Ok(Answer::Done)
+}
+
+/// Joins what a Read or a Write of the unit writes.
+fn play(
+    alloc: Global,
+    unit: UnitConfig,
+    blocks: &mut PlainBlocks,
+    act: &Act,
+) -> Result<(), OutOfMemory>
+    requires plain { is_plain act.now ≡ true }
+    requires limits { unit.blocks < 2 ^ 63 }
+    ensures written { OnOk result (blocks.new ≡ blocks.old ++ written_by unit (λ b. after blocks.old b None) act.now) }
+    ensures sized { OnOk result (IsSizedAct act.now) }
+{
+    if let Act::Write { lba, list } = act {
+        write(alloc, unit, blocks, *lba, list)?;
+    }
+    Ok(())
+}
+
+/// What the Reads and Writes of a unit leave in its blocks, one entry after another.
+fn played(
+    alloc: Global,
+    config: &Config,
+    history: &History,
+    number: u16,
+) -> Result<PlainBlocks, OutOfMemory>
+    requires configured { number < length config.now.units }
+    requires plain { ArePlain config.now number history.now.entries }
+    ensures { IfOk result (StandFor config.now number history.now.entries) }
+{
+    let unit = config.unit(number);
+    let mut blocks = PlainBlocks::new(alloc);
+    for index in 0..history.len() {
+        let entry = history.at(index);
+        if entry.unit == number {
+            play(alloc, unit, &mut blocks, &entry.act)?;
+        }
+    }
+    Ok(blocks)
+}
+
+/// What a unit answers to a Read or a Write after a history of such acts: the slow plain way, by
+/// going through the whole history.
+pub fn plain_answer(
+    alloc: Global,
+    config: &Config,
+    history: &History,
+    unit: u16,
+    actor: Actor,
+    moment: u64,
+    act: &Act,
+) -> Result<Answer, OutOfMemory>
+    requires configured { unit < length config.now.units }
+    requires history { ArePlain config.now unit history.now.entries }
+    requires act { is_plain act.now ≡ true }
+    ensures { IfOk result (λ a. a ≡ answer config.now history.now.entries unit actor moment act.now) }
+{
+    let _ = actor;
+    let _ = moment;
+    let mut blocks = played(alloc, config, history, unit)?;
+    let told = config.unit(unit);
+    match act {
+        Act::Read { lba, count } => read(alloc, told, &blocks, *lba, *count),
+        Act::Write { lba, list } => write(alloc, told, &mut blocks, *lba, list),
+        _ => unreachable!(),
+    }
 }

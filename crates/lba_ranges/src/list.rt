@@ -68,8 +68,10 @@ impl BlockList {
         self.slice(alloc, 0, self.count)
     }
 
+    /// How many blocks there are; each mapped one has the list's block length.
     pub fn blocks(&self) -> u64
-        ensures { result ≡ length self.now.items }
+        ensures count { result ≡ length self.now.items }
+        ensures sized { AllSized self.now.block_length self.now.items }
     {
         self.count
     }
