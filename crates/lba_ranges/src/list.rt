@@ -1,5 +1,6 @@
-ghost use Rattle.std.specs.Prelude.{◌≡◌, ◌+◌, ◌*◌, ◌<◌, ◌≤◌, ◌^◌, ◌++◌, [], List, ℕ, length, slice_range, IfOk, OnOk, OnErr};
+ghost use Rattle.std.specs.Prelude.{◌≡◌, ◌+◌, ◌*◌, ◌<◌, ◌≤◌, ◌^◌, ◌++◌, [], List, ℕ, length, slice_range, IfOk, OnOk, OnErr, is_some};
 ghost use Rattle.std.specs.Option.{option_copied};
+ghost use Rattle.std.specs.List.{list_all};
 ghost use Rattle.lba_ranges.specs.HeldBlocks.{HeldBlocks, filled, cut, IsFull, held_at, AllSized, blocks_bytes};
 
 use crate::fill::{Fill, Piece};
@@ -74,6 +75,18 @@ impl BlockList {
         ensures sized { AllSized self.now.block_length self.now.items }
     {
         self.count
+    }
+
+    /// Each block is mapped.
+    pub fn is_mapped(&self) -> bool
+        ensures { result ≡ list_all is_some self.now.items }
+    {
+        for piece in &self.pieces {
+            if !piece.is_mapped(self.block_length) {
+                return false;
+            }
+        }
+        true
     }
 
     pub fn block_length(&self) -> u32
