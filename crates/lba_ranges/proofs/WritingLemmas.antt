@@ -1,10 +1,12 @@
 -- How writings change what is held, and how many blocks are mapped
 use Rattle.std.proofs.Common.{◌≡◌, ℕ, zero, suc, ◌+◌, ◌<◌, ◌≤◌, List, [], ◌∷◌, ◌++◌, length, take, get_or, length-take-le, refl, ap, sym, ◌∙◌, arith, true, false, Bool, inl, inr}
 use Rattle.std.specs.Prelude.{is_some, None, ◌⊎◌, ◌==◌, ◌&&◌, nat_le, nat_lt, if◌then◌else◌}
-use Rattle.std.specs.List.{list_any}
+use Rattle.std.specs.List.{list_any, AllByRecursion}
 use Rattle.std.proofs.lemmas.Bool.{cases_eq, or_parts, ne_eqb}
 use Rattle.std.proofs.lemmas.List.{take_more}
 use Rattle.std.proofs.lemmas.Bool.Decides.{nat_tests}
+use Rattle.lba_ranges.specs.HeldBlocks.{held_at}
+use Rattle.lba_ranges.proofs.Cells.{take-held}
 use Rattle.lba_ranges.specs.Denoted.{row, has_repeat}
 use Rattle.lba_ranges.specs.Writings.{Held, Writing, paired, unmapped, after, is_written, mapped_below}
 
@@ -159,3 +161,26 @@ after-more bs xs k x b was len h =
     ap (λ l. after (paired l (xs ++ x ∷ [])) b was) (take_more bs k 0 h)
     ∙ ap (λ ws. after ws b was) (paired-push (take k bs) xs (get_or bs k 0) x front)
     ∙ after-append (paired (take k bs) xs) (record { block = get_or bs k 0; held = x } ∷ []) b was
+
+-- how many blocks are mapped when the first k items are written
+abbrev pub mapped_first : ℕ → (ℕ → Held) → List ℕ → List Held → ℕ → ℕ
+mapped_first n now bs xs k = mapped_below n (λ b. after (paired (take k bs) (take k xs)) b (now b))
+
+pub below-at : (n : ℕ) (bs : List ℕ) (k : ℕ) → AllByRecursion (λ b. b < n) bs → k < length bs → get_or bs k 0 < n
+below-at n [] k all h = absurd (omega arith)
+below-at n (a ∷ bs) zero all h = all.0
+below-at n (a ∷ bs) (suc k) all h = below-at n bs k all.1 (omega arith)
+
+-- one more item of those that are written
+pub mapped-more : (n : ℕ) (now : ℕ → Held) (bs : List ℕ) (xs : List Held) (k : ℕ) → length bs ≡ length xs → k < length bs → has_repeat bs ≡ false
+    → AllByRecursion (λ b. b < n) bs
+    → mapped_first n now bs xs (k + 1) + one_if (is_some (now (get_or bs k 0))) ≡ mapped_first n now bs xs k + one_if (is_some (held_at xs k))
+mapped-more n now bs xs k len low apart below =
+    let b = get_or bs k 0 in
+    let x = held_at xs k in
+    let front : length (take k bs) ≡ length (take k xs) = length-take-le k bs (omega arith) ∙ sym (length-take-le k xs (omega arith)) in
+    let next : paired (take (k + 1) bs) (take (k + 1) xs) ≡ paired (take k bs) (take k xs) ++ record { block = b; held = x } ∷ [] =
+    ap (λ l. paired l (take (k + 1) xs)) (take_more bs k 0 low) ∙ ap (paired (take k bs ++ b ∷ [])) (take-held xs k (omega arith)) ∙ paired-push (take k bs) (take k xs) b x front in
+    let new = paired-unwritten (take k bs) (take k xs) b (fresh-at bs k apart low) in
+    ap (λ ws. mapped_below n (λ a. after ws a (now a)) + one_if (is_some (now b))) next
+    ∙ mapped-push n now (paired (take k bs) (take k xs)) (record { block = b; held = x }) (below-at n bs k below low) new

@@ -85,6 +85,7 @@ impl Blocks for PlainUnit {
     }
 
     fn mapped(&self) -> u64 {
+        let _blocks = self.blocks;
         self.held.len() as u64
     }
 
