@@ -5,14 +5,14 @@ use Rattle.scsi_sense.specs.Codes.{no_such_unit}
 use Rattle.cm_base.specs.Configuration.{Configuration}
 use Rattle.cm_base.specs.Units.{unit_of, is_configured}
 use Rattle.scsi_sense.specs.SenseCode.{SenseCode}
-use Rattle.scsi_cdb.specs.declared.Cdb.{Cdb}
+use Rattle.scsi_cdb.specs.declared.cdb.Cdb.{Cdb}
 use Rattle.scsi_cdb.specs.Decoded.{decoded}
 use Rattle.cm_frame.specs.declared.frame.Request.{Request}
 use Rattle.cm_frame.specs.declared.frame.Reply.{Reply}
 use Rattle.cm_history.specs.declared.answer.Answer.{Answer}
 use Rattle.cmd_program.specs.declared.step.Outcome.{Outcome}
 use Rattle.cmd_program.specs.Stepping.{gave_up, IsBusyAtEnd, EndsBusy}
-use Rattle.cmd_program.specs.Program.{Ask, Program, Ends, Asks, GivesUp, next, moved, refused, unless_refused, done}
+use Rattle.cmd_program.specs.Program.{Ask, Program, Ends, Asks, GivesUp, next, moved, give_up, go_on_by, refused, unless_refused, done}
 use Rattle.cmd_program.specs.SingleActs.{told_read}
 use Rattle.cmd_program.specs.Judging.{step, program, judged_cdb, judged_out, out_fault}
 
@@ -43,6 +43,32 @@ no-memory-busy : (p : Program) (after : List Outcome) → IsOpen p → IsBusyAtE
 no-memory-busy (Ends reply) after opens = gone-busy None after
 no-memory-busy (Asks ask last go_on) after opens = gone-busy last after
 no-memory-busy (GivesUp last reply) after opens = absurd opens
+
+-- the program has given up
+abbrev pub HasGivenUp : Program → Type 0
+HasGivenUp (Ends reply) = ⊥
+HasGivenUp (Asks ask last go_on) = ⊥
+HasGivenUp (GivesUp last reply) = Unit {0}
+
+stays-given-up : (p : Program) (outcomes : List Outcome) → HasGivenUp p → HasGivenUp (fold moved p outcomes)
+stays-given-up (Ends reply) outcomes given = absurd given
+stays-given-up (Asks ask last go_on) outcomes given = absurd given
+stays-given-up (GivesUp last reply) [] given = tt
+stays-given-up (GivesUp last reply) (Outcome.Answered a ∷ os) given = stays-given-up (GivesUp None reply) os tt
+stays-given-up (GivesUp last reply) (Outcome.Full ∷ os) given = stays-given-up (GivesUp None reply) os tt
+stays-given-up (GivesUp last reply) (Outcome.NoMemory ∷ os) given = stays-given-up (GivesUp None reply) os tt
+
+given-up : (p : Program) (reply : Reply) → HasGivenUp (give_up p reply)
+given-up (Ends ended) reply = tt
+given-up (Asks ask last go_on) reply = tt
+given-up (GivesUp last first) reply = tt
+
+-- an outcome that is no answer makes it give up
+pub gives-up : (p : Program) (outcomes : List Outcome) → gave_up outcomes ≡ true → HasGivenUp (fold moved p outcomes)
+gives-up p [] some = cc
+gives-up p (Outcome.Answered a ∷ os) some = gives-up (go_on_by p a) os some
+gives-up p (Outcome.Full ∷ os) some = stays-given-up (give_up p Reply.Full) os (given-up p Reply.Full)
+gives-up p (Outcome.NoMemory ∷ os) some = stays-given-up (give_up p Reply.Busy) os (given-up p Reply.Busy)
 
 pub fold-append : (p : Program) (xs ys : List Outcome) → fold moved p (xs ++ ys) ≡ fold moved (fold moved p xs) ys
 fold-append p [] ys = refl

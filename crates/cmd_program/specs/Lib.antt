@@ -6,3 +6,4 @@ pub mod TokenWrite
 pub mod ExtendedCopy
 pub mod Coded
 pub mod Judging
+pub mod Meaning

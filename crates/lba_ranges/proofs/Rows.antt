@@ -1,9 +1,10 @@
 -- Rows of block numbers, and the ranges that denote them
 use Rattle.std.proofs.Common.{◌≡◌, ℕ, zero, suc, ◌+◌, ◌-◌, ◌<◌, ◌≤◌, List, [], ◌∷◌, ◌++◌, length, take, drop, refl, ap, sym, ◌∙◌, arith, true, get_or, add-one, append_assoc, append-nil, length-append, drop-cons}
-use Rattle.std.specs.Prelude.{nat_le, slice_range}
+use Rattle.std.specs.Prelude.{nat_le, slice_range, slice_get, Some}
+use Rattle.std.specs.List.{AllByRecursion}
 use Rattle.std.proofs.lemmas.Bool.{and_parts}
 use Rattle.std.proofs.lemmas.Bool.Decides.{nat_tests}
-use Rattle.std.proofs.lemmas.List.{take_more}
+use Rattle.std.proofs.lemmas.List.{take_more, get_or_append_left, get_or-append_right}
 use Rattle.std.proofs.lemmas.List.Sums.{sum_by-cons, sum_by_push, sum_by-take-le}
 use Rattle.lba_ranges.specs.declared.ranges.Range.{Range}
 use Rattle.lba_ranges.specs.Denoted.{row, blocks_of, total, is_within}
@@ -115,3 +116,47 @@ total-get rs k r e =
     let next = ap total (take-get rs k r e) ∙ sum_by_push (λ (q : Range). q.count) (take k rs) r in
     let all = total-take rs (k + 1) in
     omega arith
+
+row-below : (n lba count : ℕ) → lba + count ≤ n → AllByRecursion (λ b. b < n) (row lba count)
+row-below n lba zero h = tt
+row-below n lba (suc count) h = (omega arith, row-below n (suc lba) count (omega arith))
+
+append-below : (n : ℕ) (xs ys : List ℕ) → AllByRecursion (λ b. b < n) xs → AllByRecursion (λ b. b < n) ys → AllByRecursion (λ b. b < n) (xs ++ ys)
+append-below n [] ys a b = b
+append-below n (x ∷ xs) ys a b = (a.0, append-below n xs ys a.1 b)
+
+-- ranges within some blocks denote these blocks alone
+pub blocks_of-below : (n : ℕ) (rs : List Range) → is_within n rs ≡ true → AllByRecursion (λ b. b < n) (blocks_of rs)
+blocks_of-below n [] all = tt
+blocks_of-below n (r ∷ rs) all =
+    let both = and_parts (nat_le (r.lba + r.count) n) (is_within n rs) all in
+    append-below n (row r.lba r.count) (blocks_of rs) (row-below n r.lba r.count (le-within n r both.0)) (blocks_of-below n rs both.1)
+
+get-row : (lba count k : ℕ) → k < count → get_or (row lba count) k 0 ≡ lba + k
+get-row lba zero k h = absurd (omega arith)
+get-row lba (suc count) zero h = let e : lba + 0 ≡ lba = omega arith in sym e
+get-row lba (suc count) (suc k) h = let e : lba + suc k ≡ suc lba + k = omega arith in rw e (get-row (suc lba) count k (omega arith))
+
+-- the block at a place is one of the next range, or one of the later ranges
+pub block-here : (rs : List Range) (i k : ℕ) (d : Range) → i < length rs → k < (get_or rs i d).count
+    → get_or (blocks_of (drop i rs)) k 0 ≡ (get_or rs i d).lba + k
+block-here rs i k d h low =
+    let r = get_or rs i d in
+    let long = length-row r.lba r.count in
+    ap (λ bs. get_or bs k 0) (blocks_of-drop rs i d h)
+    ∙ get_or_append_left (row r.lba r.count) (blocks_of (drop (i + 1) rs)) 0 k (omega arith)
+    ∙ get-row r.lba r.count k low
+
+pub block-later : (rs : List Range) (i k : ℕ) (d : Range) → i < length rs → (get_or rs i d).count ≤ k
+    → get_or (blocks_of (drop i rs)) k 0 ≡ get_or (blocks_of (drop (i + 1) rs)) (k - (get_or rs i d).count) 0
+block-later rs i k d h high =
+    let r = get_or rs i d in
+    ap (λ bs. get_or bs k 0) (blocks_of-drop rs i d h)
+    ∙ get_or-append_right (row r.lba r.count) (blocks_of (drop (i + 1) rs)) r.count k 0 (length-row r.lba r.count) high
+
+pub length-later : (rs : List Range) (i : ℕ) (d : Range) → i < length rs
+    → length (blocks_of (drop i rs)) ≡ (get_or rs i d).count + length (blocks_of (drop (i + 1) rs))
+length-later rs i d h =
+    let r = get_or rs i d in
+    ap length (blocks_of-drop rs i d h) ∙ length-append (row r.lba r.count) (blocks_of (drop (i + 1) rs))
+    ∙ ap (λ n. n + length (blocks_of (drop (i + 1) rs))) (length-row r.lba r.count)

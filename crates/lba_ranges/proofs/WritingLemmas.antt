@@ -1,9 +1,12 @@
 -- How writings change what is held, and how many blocks are mapped
-use Rattle.std.proofs.Common.{◌≡◌, ℕ, zero, suc, ◌+◌, ◌<◌, ◌≤◌, List, [], ◌∷◌, ◌++◌, length, get_or, refl, ap, sym, ◌∙◌, arith, true, false, Bool, inl, inr}
-use Rattle.std.specs.Prelude.{is_some, None, ◌⊎◌, ◌==◌, ◌||◌, ◌&&◌, nat_le, nat_lt, if◌then◌else◌}
-use Rattle.std.specs.List.{list_any}
-use Rattle.std.proofs.lemmas.Bool.{cases_eq, or_parts}
+use Rattle.std.proofs.Common.{◌≡◌, ℕ, zero, suc, ◌+◌, ◌<◌, ◌≤◌, List, [], ◌∷◌, ◌++◌, length, take, get_or, length-take-le, refl, ap, sym, ◌∙◌, arith, true, false, Bool, inl, inr}
+use Rattle.std.specs.Prelude.{is_some, None, ◌⊎◌, ◌==◌, ◌&&◌, nat_le, nat_lt, if◌then◌else◌}
+use Rattle.std.specs.List.{list_any, AllByRecursion}
+use Rattle.std.proofs.lemmas.Bool.{cases_eq, or_parts, ne_eqb}
+use Rattle.std.proofs.lemmas.List.{take_more}
 use Rattle.std.proofs.lemmas.Bool.Decides.{nat_tests}
+use Rattle.lba_ranges.specs.HeldBlocks.{held_at}
+use Rattle.lba_ranges.proofs.Cells.{take-held}
 use Rattle.lba_ranges.specs.Denoted.{row, has_repeat}
 use Rattle.lba_ranges.specs.Writings.{Held, Writing, paired, unmapped, after, is_written, mapped_below}
 
@@ -135,3 +138,49 @@ apart-at (x ∷ xs) zero zero e l h same = absurd (omega arith)
 apart-at (x ∷ xs) zero (suc j) e l h same = differs-at xs x j (or_parts (list_any (λ a. a == x) xs) (has_repeat xs) e).0 (omega arith) (sym same)
 apart-at (x ∷ xs) (suc i) zero e l h same = absurd (omega arith)
 apart-at (x ∷ xs) (suc i) (suc j) e l h same = apart-at xs i j (or_parts (list_any (λ a. a == x) xs) (has_repeat xs) e).1 (omega arith) (omega arith) same
+
+-- the number at a place is none of those before it
+pub fresh-at : (xs : List ℕ) (k : ℕ) → has_repeat xs ≡ false → k < length xs → list_any (λ a. a == get_or xs k 0) (take k xs) ≡ false
+fresh-at [] k e h = absurd (omega arith)
+fresh-at (x ∷ xs) zero e h = refl
+fresh-at (x ∷ xs) (suc k) e h =
+    let both = or_parts (list_any (λ a. a == x) xs) (has_repeat xs) e in
+    let first : (x == get_or xs k 0) ≡ false = ne_eqb x (get_or xs k 0) (λ same. differs-at xs x k both.0 (omega arith) (sym same)) in
+    rw first (fresh-at xs k both.1 (omega arith))
+
+-- what the block at a place holds is not changed by those before it
+pub after-before : (bs : List ℕ) (xs : List Held) (k : ℕ) (was : Held) → has_repeat bs ≡ false → k < length bs
+    → after (paired (take k bs) xs) (get_or bs k 0) was ≡ was
+after-before bs xs k was e h = after-unwritten (paired (take k bs) xs) (get_or bs k 0) was (paired-unwritten (take k bs) xs (get_or bs k 0) (fresh-at bs k e h))
+
+-- one more item
+pub after-more : (bs : List ℕ) (xs : List Held) (k : ℕ) (x : Held) (b : ℕ) (was : Held) → length xs ≡ k → k < length bs
+    → after (paired (take (k + 1) bs) (xs ++ x ∷ [])) b was ≡ (if get_or bs k 0 == b then x else after (paired (take k bs) xs) b was)
+after-more bs xs k x b was len h =
+    let front : length (take k bs) ≡ length xs = length-take-le k bs (omega arith) ∙ sym len in
+    ap (λ l. after (paired l (xs ++ x ∷ [])) b was) (take_more bs k 0 h)
+    ∙ ap (λ ws. after ws b was) (paired-push (take k bs) xs (get_or bs k 0) x front)
+    ∙ after-append (paired (take k bs) xs) (record { block = get_or bs k 0; held = x } ∷ []) b was
+
+-- how many blocks are mapped when the first k items are written
+abbrev pub mapped_first : ℕ → (ℕ → Held) → List ℕ → List Held → ℕ → ℕ
+mapped_first n now bs xs k = mapped_below n (λ b. after (paired (take k bs) (take k xs)) b (now b))
+
+pub below-at : (n : ℕ) (bs : List ℕ) (k : ℕ) → AllByRecursion (λ b. b < n) bs → k < length bs → get_or bs k 0 < n
+below-at n [] k all h = absurd (omega arith)
+below-at n (a ∷ bs) zero all h = all.0
+below-at n (a ∷ bs) (suc k) all h = below-at n bs k all.1 (omega arith)
+
+-- one more item of those that are written
+pub mapped-more : (n : ℕ) (now : ℕ → Held) (bs : List ℕ) (xs : List Held) (k : ℕ) → length bs ≡ length xs → k < length bs → has_repeat bs ≡ false
+    → AllByRecursion (λ b. b < n) bs
+    → mapped_first n now bs xs (k + 1) + one_if (is_some (now (get_or bs k 0))) ≡ mapped_first n now bs xs k + one_if (is_some (held_at xs k))
+mapped-more n now bs xs k len low apart below =
+    let b = get_or bs k 0 in
+    let x = held_at xs k in
+    let front : length (take k bs) ≡ length (take k xs) = length-take-le k bs (omega arith) ∙ sym (length-take-le k xs (omega arith)) in
+    let next : paired (take (k + 1) bs) (take (k + 1) xs) ≡ paired (take k bs) (take k xs) ++ record { block = b; held = x } ∷ [] =
+    ap (λ l. paired l (take (k + 1) xs)) (take_more bs k 0 low) ∙ ap (paired (take k bs ++ b ∷ [])) (take-held xs k (omega arith)) ∙ paired-push (take k bs) (take k xs) b x front in
+    let new = paired-unwritten (take k bs) (take k xs) b (fresh-at bs k apart low) in
+    ap (λ ws. mapped_below n (λ a. after ws a (now a)) + one_if (is_some (now b))) next
+    ∙ mapped-push n now (paired (take k bs) (take k xs)) (record { block = b; held = x }) (below-at n bs k below low) new

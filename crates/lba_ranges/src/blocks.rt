@@ -1,4 +1,4 @@
-ghost use Rattle.std.specs.Prelude.{◌≡◌, ◌≢◌, ℕ, ◌<◌, ◌≤◌, List, length, map, Option, None, is_some, Bool, false, IfOk, OnOk, OnErr, IfSome, IsTrue};
+ghost use Rattle.std.specs.Prelude.{◌≡◌, ◌≢◌, ℕ, ◌<◌, ◌≤◌, ◌^◌, List, length, map, Option, None, is_some, Bool, false, IfOk, OnOk, OnErr, IfSome, IsTrue};
 ghost use Rattle.std.specs.Option.{option_copied};
 ghost use Rattle.lba_ranges.specs.Denoted.{blocks_of, total, is_within, is_overlapping};
 ghost use Rattle.lba_ranges.specs.Writings.{paired, unmapped, after, mapped_below};
@@ -30,7 +30,8 @@ pub trait Blocks: Sized {
 
     /// How many blocks are mapped. It takes no memory.
     fn mapped(&self) -> u64
-        ensures { result ≡ mapped_below (blocks self.now) (holds self.now) };
+        ensures mapped { result ≡ mapped_below (blocks self.now) (holds self.now) }
+        ensures fits { blocks self.now < 2 ^ 64 };
 
     /// The end of the run at a block: up to it all blocks are mapped, or all are unmapped.
     /// It takes no memory.

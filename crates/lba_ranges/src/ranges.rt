@@ -1,4 +1,4 @@
-ghost use Rattle.std.specs.Prelude.{◌≡◌, ℕ, ◌+◌, ◌*◌, ◌<◌, ◌≤◌, ◌^◌, ◌++◌, ◌∷◌, [], length, slice_get, slice_range, OnOk, OnErr, IfOk, IfSome, IfNone, IsTrue};
+ghost use Rattle.std.specs.Prelude.{◌≡◌, ℕ, ◌+◌, ◌*◌, ◌<◌, ◌≤◌, ◌^◌, ◌++◌, ◌∷◌, [], length, get_or, slice_get, slice_range, OnOk, OnErr, IfOk, IfSome, IfNone, IsTrue};
 ghost use Rattle.std.specs.List.{list_any};
 ghost use Rattle.lba_ranges.specs.Denoted.{row, blocks_of, total, is_within, is_overlapping, meets};
 
@@ -123,6 +123,22 @@ impl RangeList {
             range.push_blocks(&mut blocks)?;
         }
         Ok(blocks)
+    }
+
+    /// The number of the block at this place.
+    pub fn block(&self, place: u64) -> u64
+        requires within { place < total self.now }
+        requires numbers { IsTrue (is_within (2 ^ 64) self.now) }
+        ensures { result ≡ get_or (blocks_of self.now) place 0 }
+    {
+        let mut left = place;
+        for range in &self.ranges {
+            if left < u64::from(range.count) {
+                return range.lba + left;
+            }
+            left -= u64::from(range.count);
+        }
+        unreachable!()
     }
 
     /// Two places of the list denote one block.

@@ -1,4 +1,4 @@
-use Rattle.std.proofs.Common.{append_assoc, refl, add-one}
+use Rattle.std.proofs.Common.{append_assoc, add-one}
 use Rattle.lba_ranges.proofs.Rows.{row-push}
 use Rattle.lba_ranges.proofs.ranges.Range.push_blocks.Goals as goal
 
