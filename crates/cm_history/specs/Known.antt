@@ -4,7 +4,6 @@ use Rattle.cm_history.specs.declared.act.Act.{Act}
 
 -- all but those that make a token or an operation
 abbrev pub is_known : Act → Bool
-is_known (Act.MapStatus lba) = false
 is_known (Act.Populate id timeout ranges) = false
 is_known (Act.Start id background ranges rod) = false
 is_known (Act.Open id) = false

@@ -2,7 +2,7 @@
 ghost use Rattle.std.specs.Prelude.{◌≡◌, ◌<◌, ◌^◌, ◌∷◌, [], length, IfOk};
 ghost use Rattle.lba_ranges.specs.Denoted.{blocks_of};
 ghost use Rattle.lba_ranges.specs.Writings.{unmapped};
-ghost use Rattle.cm_history.specs.Answers.{answer_read, answer_write, answer_unmap, put_at, wrote_of};
+ghost use Rattle.cm_history.specs.Answers.{answer_read, answer_write, answer_unmap, answer_status, put_at, wrote_of};
 ghost use Rattle.unit_core.specs.Changes.{writings_of, MayChange};
 
 use crate::change::Change;
@@ -11,7 +11,7 @@ use cm_base::{OutOfMemory, UnitConfig};
 use cm_history::Answer;
 use lba_ranges::{BlockList, Blocks, Range, RangeList};
 use std::alloc::Global;
-use unmap_thin::mapped_after;
+use unmap_thin::{mapped_after, runs};
 
 /// What an act is answered, and what it is to write.
 #[derive(Drop)]
@@ -109,4 +109,22 @@ pub(crate) fn unmap(
         answer: Answer::Done,
         change: Change::Clear { ranges },
     })
+}
+
+/// Which blocks are mapped from `lba` on.
+pub(crate) fn status<B: Blocks>(
+    alloc: Global,
+    blocks: &B,
+    unit: UnitConfig,
+    lba: u64,
+) -> Result<Plan, OutOfMemory>
+    requires { B.blocks blocks.now ≡ unit.blocks }
+    ensures answer { IfOk result (λ p. p.answer ≡ answer_status unit (B.holds blocks.now) lba) }
+    ensures change { IfOk result (λ p. p.change ≡ Change.Nothing) }
+{
+    if lba >= unit.blocks {
+        return Ok(answered(refusals::address_out_of_range()));
+    }
+    let list = runs(alloc, blocks, unit.blocks, lba)?;
+    Ok(answered(Answer::Status(list)))
 }

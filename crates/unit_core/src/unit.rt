@@ -182,6 +182,7 @@ impl<B: Blocks + Drop> UnitOver<B> {
             Act::Write { lba, list } => plans::write(self.alloc, &self.blocks, unit, *lba, list),
             Act::Put { lba, list } => plans::write(self.alloc, &self.blocks, unit, *lba, list),
             Act::Unmap { ranges } => plans::unmap(self.alloc, unit, ranges),
+            Act::MapStatus { lba } => plans::status(self.alloc, &self.blocks, unit, *lba),
             Act::Delete { .. } => Ok(plans::answered(Answer::Done)),
             Act::Redeem { .. } => Ok(plans::answered(refusals::token_unknown())),
             Act::Pump => Ok(plans::answered(Answer::Idle)),
