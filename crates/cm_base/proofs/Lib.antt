@@ -1,1 +1,4 @@
 pub mod Writes
+pub mod Windows
+pub mod Pushed
+pub mod FieldLaws

@@ -1,5 +1,5 @@
 -- What is written to the end of a slice, from a place on
-use Rattle.std.proofs.Common.{◌≡◌, ℕ, ◌+◌, ◌-◌, ◌≤◌, List, [], ◌++◌, arith, length, take, drop, refl, sym, ap, ◌∙◌, length-drop, drop-drop, append_assoc, append-nil}
+use Rattle.std.proofs.Common.{◌≡◌, ℕ, ◌+◌, ◌-◌, ◌≤◌, List, [], ◌++◌, length, take, drop, sym, ap, ◌∙◌, length-drop, drop-drop, append_assoc, append-nil}
 use Rattle.std.proofs.Math.Seq.{take-length, drop-length}
 use borrow.Rule.Slice.PartMut.{put_mid}
 

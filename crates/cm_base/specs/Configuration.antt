@@ -1,5 +1,5 @@
 -- What a machine of units is told
-use Rattle.std.specs.Prelude.{◌≡◌, ℕ, ◌<◌, ◌≤◌, List, length, All, ◌⊎◌}
+use Rattle.std.specs.Prelude.{◌≡◌, ℕ, ◌≤◌, List, length, All, ◌⊎◌}
 use Rattle.cm_base.specs.declared.config.UnitConfig.{UnitConfig}
 
 pub record Configuration : Type 0 where

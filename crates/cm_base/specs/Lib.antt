@@ -1,3 +1,6 @@
 pub mod Fields
 pub mod Configuration
 pub mod Units
+pub mod Outside
+pub mod Memory
+pub mod Windows

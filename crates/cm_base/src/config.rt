@@ -1,8 +1,10 @@
-ghost use Rattle.std.specs.Prelude.{◌≡◌, ◌<◌, ◌≤◌, length, slice_get, Some, IsTrue};
+ghost use Rattle.std.specs.Prelude.{◌≡◌, ◌<◌, ◌≤◌, length, slice_get, Some, IsTrue, IfOk};
 ghost use Rattle.cm_base.specs.Configuration.{IsUnit, AreUnits, Configuration};
 ghost use Rattle.cm_base.specs.Units.{unit_of, is_configured};
 
+use crate::out_of_memory::OutOfMemory;
 use crate::sequence::Sequence;
+use std::alloc::Global;
 use std::marker::Model;
 
 /// What a header says of one unit.
@@ -51,6 +53,17 @@ impl Config {
         ensures { result ≡ record { secret = secret; units = units } }
     {
         Config { secret, units }
+    }
+
+    /// An equal configuration.
+    pub fn copy(&self, alloc: Global) -> Result<Config, OutOfMemory>
+        ensures { IfOk result (λ copy. copy ≡ self.now) }
+    {
+        let units = Sequence::copy(alloc, self.units.as_slice())?;
+        Ok(Config {
+            secret: self.secret,
+            units,
+        })
     }
 
     /// The key of the tokens' nonces.

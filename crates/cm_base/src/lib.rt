@@ -3,17 +3,37 @@
 
 mod config;
 mod fields;
+mod input_buffer;
+mod memory_sink;
+mod memory_source;
 mod out_of_memory;
+mod output_buffer;
 mod parsed;
 mod sequence;
+mod sink;
+mod source;
+mod standard;
+mod units;
+mod window;
 mod word;
 
 pub use config::{CallList, Config, UnitConfig, UnitList};
-pub use fields::{get_u16, get_u32, get_u64, set_u16, set_u32, set_u64};
+pub use fields::{get_u16, get_u24, get_u32, get_u64, set_u16, set_u32, set_u64};
+pub use input_buffer::{FillFailed, InputBuffer};
+pub use memory_sink::MemorySink;
+pub use memory_source::MemorySource;
 pub use out_of_memory::OutOfMemory;
+pub use output_buffer::OutputBuffer;
 pub use parsed::Parsed;
 pub use sequence::{Bytes, Sequence};
+pub use sink::{Sink, WriteFailed, push_all};
+pub use source::{ReadFailed, Source};
+pub use standard::{StandardInput, StandardOutput};
+pub use units::{unit_descriptor, unit_name};
 pub use word::Word;
 
 /// Bytes that are shared and never change: cloning and slicing copy none of them.
 pub use bytes::Bytes as Payload;
+
+#[cfg(test)]
+mod tests;

@@ -11,7 +11,8 @@ use Rattle.scsi_inquiry.specs.UnitData.{standard, vpd}
 use Rattle.cm_history.specs.declared.act.Act.{Act}
 use Rattle.cm_history.specs.declared.answer.Answer.{Answer}
 use Rattle.cmd_program.specs.Program.{Program, good, done, refused, never, unless_refused, ask_then}
-use Rattle.cmd_program.specs.Told.{blocks_bytes, map_bytes, report_bytes, report_token_bytes, copy_bytes}
+use Rattle.lba_ranges.specs.HeldBlocks.{blocks_bytes}
+use Rattle.cmd_program.specs.Told.{map_bytes, report_bytes, report_token_bytes, copy_bytes}
 
 -- the blocks of data that came with a WRITE
 abbrev pub blocks_in : ℕ → List ℕ → HeldBlocks

@@ -7,7 +7,7 @@ use Rattle.lba_ranges.specs.Denoted.{total}
 use Rattle.scsi_sense.specs.SenseCode.{SenseCode}
 use Rattle.scsi_sense.specs.Codes.{bad_list, bad_token_length, bad_token_type, unknown_token, stopped}
 use Rattle.block_params.specs.declared.lists.WriteList.{WriteList}
-use Rattle.rod_token.specs.declared.TokenKind.{TokenKind}
+use Rattle.rod_token.specs.declared.kind.TokenKind.{TokenKind}
 use Rattle.rod_token.specs.TokenText.{classify}
 use Rattle.cm_history.specs.Bounds.{piece_blocks}
 use Rattle.cm_history.specs.declared.act.Act.{Act}

@@ -4,7 +4,7 @@ use Rattle.std.specs.Option.{option_map}
 use Rattle.byteorder.specs.Endian.{big_bytes}
 use Rattle.cm_base.specs.Configuration.{Configuration}
 use Rattle.cm_base.specs.Fields.{zeros, counted}
-use Rattle.lba_ranges.specs.HeldBlocks.{HeldBlocks}
+use Rattle.lba_ranges.specs.HeldBlocks.{HeldBlocks, blocks_bytes}
 use Rattle.scsi_sense.specs.SenseCode.{SenseCode}
 use Rattle.copy_status.specs.CopyStatus.{CopyStatus}
 use Rattle.copy_status.specs.StatusBytes.{status4_bytes, information_bytes, status1_bytes}
@@ -14,18 +14,6 @@ use Rattle.cm_history.specs.declared.act.CopyState.{CopyState}
 use Rattle.cm_history.specs.declared.answer.MapRun.{MapRun}
 use Rattle.cm_history.specs.declared.answer.OpReport.{OpReport}
 use Rattle.cm_history.specs.declared.answer.OpState.{OpState}
-
--- the bytes of a block; an unmapped one is zeros
-abbrev pub block_bytes : ℕ → Option (List ℕ) → List ℕ
-block_bytes size None = zeros size
-block_bytes size (Some bytes) = bytes
-
-abbrev pub items_bytes : ℕ → List (Option (List ℕ)) → List ℕ
-items_bytes size [] = []
-items_bytes size (item ∷ items) = block_bytes size item ++ items_bytes size items
-
-abbrev pub blocks_bytes : HeldBlocks → List ℕ
-blocks_bytes list = items_bytes list.block_length list.items
 
 -- the status is 1 where the blocks are unmapped
 abbrev pub run_bytes : MapRun → List ℕ

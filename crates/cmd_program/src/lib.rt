@@ -1,6 +1,8 @@
 // Commands, as programs of acts.
 #![tactic(auto)]
 
+mod command;
 mod step;
 
+pub use command::Command;
 pub use step::{Outcome, Step};

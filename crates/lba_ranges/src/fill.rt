@@ -1,8 +1,10 @@
-ghost use Rattle.std.specs.Prelude.{◌≡◌, ◌+◌, ◌*◌, ◌<◌, ◌≤◌, ◌^◌, length, slice_range, IfOk};
+ghost use Rattle.std.specs.Prelude.{◌≡◌, ◌+◌, ◌*◌, ◌<◌, ◌≤◌, ◌^◌, ◌++◌, List, ℕ, length, slice_range, IfOk, OnOk, OnErr, is_some};
 ghost use Rattle.std.specs.Option.{option_copied};
-ghost use Rattle.lba_ranges.specs.HeldBlocks.{filled, IsFull, held_at};
+ghost use Rattle.std.specs.List.{list_all};
+ghost use Rattle.lba_ranges.specs.HeldBlocks.{filled, IsFull, held_at, items_bytes};
+ghost use Rattle.cm_base.specs.Fields.{zeros};
 
-use cm_base::{OutOfMemory, Payload};
+use cm_base::{Bytes, OutOfMemory, Payload};
 
 /// What a run of blocks holds.
 #[derive(Drop)]
@@ -18,6 +20,21 @@ pub struct Piece {
     pub fill: Fill,
 }
 
+/// Adds zeros to the end. At `OutOfMemory` some of them may have been added.
+fn extend_zeros(into: &mut Bytes, count: usize) -> Result<(), OutOfMemory>
+    ensures ok { OnOk result (into.new ≡ into.old ++ zeros count) }
+    ensures err { OnErr result ((part : List ℕ) × (into.new ≡ into.old ++ part)) }
+{
+    let zeros = [0; 4096];
+    let mut left = count;
+    while left > 0 {
+        let some = left.min(zeros.len());
+        into.extend(&zeros[..some])?;
+        left -= some;
+    }
+    Ok(())
+}
+
 impl Piece {
     /// The bytes of a block, or `None` where it is unmapped.
     pub fn held(&self, size: u32, index: u32) -> Option<&[u8]>
@@ -31,6 +48,58 @@ impl Piece {
                 let from = index as usize * size as usize;
                 Some(&bytes.as_slice()[from..from + size as usize])
             }
+        }
+    }
+
+    /// What a block holds, which shares the run's bytes.
+    fn item(&self, size: u32, index: u32) -> Result<Option<Payload>, OutOfMemory>
+        requires full { IsFull size self.now.count self.now.fill }
+        requires within { index < self.now.count }
+        ensures { IfOk result (λ item. item ≡ held_at (filled size self.now.count self.now.fill) index) }
+    {
+        match &self.fill {
+            Fill::Hole => Ok(None),
+            Fill::Bytes(bytes) => {
+                let from = index as usize * size as usize;
+                Ok(Some(bytes.slice(from..from + size as usize)?))
+            }
+        }
+    }
+
+    /// Adds what each block holds to the end.
+    pub(crate) fn push_items(
+        &self,
+        size: u32,
+        items: &mut Vec<Option<Payload>>,
+    ) -> Result<(), OutOfMemory>
+        requires { IsFull size self.now.count self.now.fill }
+        ensures { OnOk result (items.new.items ≡ items.old.items ++ filled size self.now.count self.now.fill) }
+    {
+        for index in 0..self.count {
+            items.push(self.item(size, index)?)?;
+        }
+        Ok(())
+    }
+
+    /// Adds the bytes of the blocks to the end; an unmapped block's are zeros.
+    pub(crate) fn read_into(&self, size: u32, into: &mut Bytes) -> Result<(), OutOfMemory>
+        requires { IsFull size self.now.count self.now.fill }
+        ensures ok { OnOk result (into.new ≡ into.old ++ items_bytes size (filled size self.now.count self.now.fill)) }
+        ensures err { OnErr result ((part : List ℕ) × (into.new ≡ into.old ++ part)) }
+    {
+        match &self.fill {
+            Fill::Hole => extend_zeros(into, self.count as usize * size as usize),
+            Fill::Bytes(bytes) => into.extend(bytes.as_slice()),
+        }
+    }
+
+    /// Each block of the run is mapped.
+    pub(crate) fn is_mapped(&self, size: u32) -> bool
+        ensures { result ≡ list_all is_some (filled size self.now.count self.now.fill) }
+    {
+        match &self.fill {
+            Fill::Hole => self.count == 0,
+            Fill::Bytes(_) => true,
         }
     }
 

@@ -1,9 +1,10 @@
-ghost use Rattle.std.specs.Prelude.{◌≡◌, ◌+◌, ◌*◌, ◌<◌, ◌≤◌, ◌^◌, ◌++◌, [], length, slice_range, IfOk, OnOk, OnErr};
+ghost use Rattle.std.specs.Prelude.{◌≡◌, ◌+◌, ◌*◌, ◌<◌, ◌≤◌, ◌^◌, ◌++◌, [], List, ℕ, length, slice_range, IfOk, OnOk, OnErr, is_some};
 ghost use Rattle.std.specs.Option.{option_copied};
-ghost use Rattle.lba_ranges.specs.HeldBlocks.{HeldBlocks, filled, IsFull, held_at, AllSized};
+ghost use Rattle.std.specs.List.{list_all};
+ghost use Rattle.lba_ranges.specs.HeldBlocks.{HeldBlocks, filled, cut, IsFull, held_at, AllSized, blocks_bytes};
 
-use crate::fill::Piece;
-use cm_base::{OutOfMemory, Payload};
+use crate::fill::{Fill, Piece};
+use cm_base::{Bytes, OutOfMemory, Payload};
 use std::alloc::Global;
 use std::marker::Model;
 
@@ -42,10 +43,50 @@ impl BlockList {
         }
     }
 
+    /// The list of the blocks whose bytes these are, `count` blocks of `block_length` bytes.
+    pub fn from_payload(
+        alloc: Global,
+        block_length: u32,
+        count: u32,
+        bytes: Payload,
+    ) -> Result<BlockList, OutOfMemory>
+        requires { length bytes ≡ count * block_length }
+        ensures { IfOk result (λ list. list
+            ≡ record { block_length = block_length; items = cut block_length count bytes }) }
+    {
+        let mut list = BlockList::empty(alloc, block_length);
+        list.push(Piece {
+            count,
+            fill: Fill::Bytes(bytes),
+        })?;
+        Ok(list)
+    }
+
+    /// An equal list, which shares the bytes.
+    pub fn copy(&self, alloc: Global) -> Result<BlockList, OutOfMemory>
+        ensures { IfOk result (λ list. list ≡ self.now) }
+    {
+        self.slice(alloc, 0, self.count)
+    }
+
+    /// How many blocks there are; each mapped one has the list's block length.
     pub fn blocks(&self) -> u64
-        ensures { result ≡ length self.now.items }
+        ensures count { result ≡ length self.now.items }
+        ensures sized { AllSized self.now.block_length self.now.items }
     {
         self.count
+    }
+
+    /// Each block is mapped.
+    pub fn is_mapped(&self) -> bool
+        ensures { result ≡ list_all is_some self.now.items }
+    {
+        for piece in &self.pieces {
+            if !piece.is_mapped(self.block_length) {
+                return false;
+            }
+        }
+        true
     }
 
     pub fn block_length(&self) -> u32
@@ -81,20 +122,29 @@ impl BlockList {
         None
     }
 
-    /// What each block holds.
+    /// What each block holds. The items share the list's bytes.
     pub fn items(&self, alloc: Global) -> Result<Vec<Option<Payload>>, OutOfMemory>
         ensures items { IfOk result (λ v. v.items ≡ self.now.items) }
         ensures sized { IfOk result (λ v. AllSized self.now.block_length v.items) }
     {
         let mut items = Vec::new(alloc);
-        for index in 0..self.count {
-            let item = match self.held(index) {
-                Some(bytes) => Some(Payload::copy_from_slice(alloc, bytes)?),
-                None => None,
-            };
-            items.push(item)?;
+        for piece in &self.pieces {
+            piece.push_items(self.block_length, &mut items)?;
         }
         Ok(items)
+    }
+
+    /// Adds the bytes of all blocks to the end; an unmapped block's are zeros.
+    /// At `OutOfMemory` some of them may have been added.
+    pub fn read_into(&self, into: &mut Bytes) -> Result<(), OutOfMemory>
+        ensures ok { OnOk result (into.new ≡ into.old ++ blocks_bytes self.now) }
+        ensures err { OnErr result ((part : List ℕ) × (into.new ≡ into.old ++ part)) }
+        ensures length { length (blocks_bytes self.now) ≡ length self.now.items * self.now.block_length }
+    {
+        for piece in &self.pieces {
+            piece.read_into(self.block_length, into)?;
+        }
+        Ok(())
     }
 
     /// Adds some blocks of a run, which share its bytes.

@@ -1,5 +1,6 @@
-ghost use Rattle.std.specs.Prelude.{◌≡◌, ◌+◌, ◌<◌, ◌≤◌, ◌^◌, ◌++◌, ◌∷◌, [], length, slice_get, OnOk, OnErr, IfOk};
-ghost use Rattle.lba_ranges.specs.Denoted.{is_within};
+ghost use Rattle.std.specs.Prelude.{◌≡◌, ℕ, ◌+◌, ◌*◌, ◌<◌, ◌≤◌, ◌^◌, ◌++◌, ◌∷◌, [], length, get_or, slice_get, slice_range, OnOk, OnErr, IfOk, IfSome, IfNone, IsTrue};
+ghost use Rattle.std.specs.List.{list_any};
+ghost use Rattle.lba_ranges.specs.Denoted.{row, blocks_of, total, is_within, is_overlapping, meets};
 
 use cm_base::OutOfMemory;
 use std::alloc::Global;
@@ -10,6 +11,37 @@ use std::marker::Model;
 pub struct Range {
     pub lba: u64,
     pub count: u32,
+}
+
+impl Range {
+    /// Adds the numbers of the range's blocks to the end.
+    fn push_blocks(&self, blocks: &mut Vec<u64>) -> Result<(), OutOfMemory>
+        requires { self.now.lba + self.now.count ≤ 2 ^ 64 }
+        ensures { OnOk result (blocks.new.items ≡ blocks.old.items ++ row self.now.lba self.now.count) }
+    {
+        for index in 0..self.count {
+            blocks.push(self.lba + u64::from(index))?;
+        }
+        Ok(())
+    }
+
+    /// A block is in both ranges.
+    fn meets(&self, other: &Range) -> bool
+        ensures { result ≡ meets self.now other.now }
+    {
+        if self.lba <= other.lba {
+            other.count > 0 && other.lba - self.lba < u64::from(self.count)
+        } else {
+            self.count > 0 && self.lba - other.lba < u64::from(other.count)
+        }
+    }
+
+    /// A block is in this range and in one of the others.
+    fn meets_any(&self, others: &[Range]) -> bool
+        ensures { result ≡ list_any (λ other. meets self.now other) others.now }
+    {
+        others.iter().any(|other| self.meets(other))
+    }
 }
 
 /// At most 64 ranges.
@@ -61,6 +93,66 @@ impl RangeList {
         Ok(())
     }
 
+    /// Takes the last range out; `None` exactly where the list is empty.
+    pub fn pop(&mut self) -> Option<Range>
+        ensures last { IfSome result (λ range. self.old ≡ self.new ++ range ∷ []) }
+        ensures empty { IfNone result ((self.old ≡ []) × (self.new ≡ [])) }
+    {
+        self.ranges.pop()
+    }
+
+    /// How many blocks the ranges denote.
+    pub fn total(&self) -> u64
+        ensures total { result ≡ total self.now }
+        ensures few { result ≤ 64 * 4_294_967_295 }
+    {
+        let mut blocks = 0;
+        for range in &self.ranges {
+            blocks += u64::from(range.count);
+        }
+        blocks
+    }
+
+    /// The numbers of the blocks that the ranges denote, in order.
+    pub fn blocks(&self, alloc: Global) -> Result<Vec<u64>, OutOfMemory>
+        requires { IsTrue (is_within (2 ^ 64) self.now) }
+        ensures { IfOk result (λ blocks. blocks.items ≡ blocks_of self.now) }
+    {
+        let mut blocks = Vec::new(alloc);
+        for range in &self.ranges {
+            range.push_blocks(&mut blocks)?;
+        }
+        Ok(blocks)
+    }
+
+    /// The number of the block at this place.
+    pub fn block(&self, place: u64) -> u64
+        requires within { place < total self.now }
+        requires numbers { IsTrue (is_within (2 ^ 64) self.now) }
+        ensures { result ≡ get_or (blocks_of self.now) place 0 }
+    {
+        let mut left = place;
+        for range in &self.ranges {
+            if left < u64::from(range.count) {
+                return range.lba + left;
+            }
+            left -= u64::from(range.count);
+        }
+        unreachable!()
+    }
+
+    /// Two places of the list denote one block.
+    pub fn overlap(&self) -> bool
+        ensures { result ≡ is_overlapping self.now }
+    {
+        for index in 0..self.ranges.len() {
+            if self.ranges[index].meets_any(&self.ranges[index + 1..]) {
+                return true;
+            }
+        }
+        false
+    }
+
     /// Every range ends within so many blocks.
     pub fn within(&self, blocks: u64) -> bool
         ensures { result ≡ is_within blocks self.now }
@@ -71,6 +163,46 @@ impl RangeList {
             }
         }
         true
+    }
+
+    /// Adds some blocks of a range; an empty part adds nothing.
+    fn push_part(&mut self, range: &Range, from: u32, count: u32) -> Result<(), OutOfMemory>
+        requires few { length self.old < 64 }
+        requires within { from + count ≤ range.now.count }
+        requires numbers { range.now.lba + range.now.count ≤ 2 ^ 64 }
+        ensures blocks { OnOk result (blocks_of self.new
+            ≡ blocks_of self.old ++ slice_range (row range.now.lba range.now.count) from (from + count)) }
+        ensures few { length self.new ≤ length self.old + 1 }
+        ensures within { OnOk result ((blocks : ℕ) → IsTrue (is_within blocks self.old)
+            → range.now.lba + range.now.count ≤ blocks → IsTrue (is_within blocks self.new)) }
+    {
+        if count == 0 {
+            return Ok(());
+        }
+        let lba = range.lba + u64::from(from);
+        self.push(Range { lba, count })?;
+        Ok(())
+    }
+
+    /// The ranges of some of the blocks that the list denotes, none of them empty.
+    pub fn slice(&self, alloc: Global, from: u64, count: u64) -> Result<RangeList, OutOfMemory>
+        requires part { from + count ≤ total self.now }
+        requires numbers { IsTrue (is_within (2 ^ 64) self.now) }
+        ensures blocks { IfOk result (λ part. blocks_of part ≡ slice_range (blocks_of self.now) from (from + count)) }
+        ensures within { IfOk result (λ part. (blocks : ℕ) → IsTrue (is_within blocks self.now) → IsTrue (is_within blocks part)) }
+    {
+        let mut part = RangeList::empty(alloc);
+        let mut skip = from;
+        let mut left = count;
+        for range in &self.ranges {
+            let whole = u64::from(range.count);
+            let before = skip.min(whole);
+            let taken = left.min(whole - before);
+            part.push_part(range, before as u32, taken as u32)?;
+            skip -= before;
+            left -= taken;
+        }
+        Ok(part)
     }
 
     pub fn copy(&self, alloc: Global) -> Result<RangeList, OutOfMemory>

@@ -5,7 +5,7 @@ use Rattle.rand_chacha.specs.ChaCha.{word_at, key_of}
 use Rattle.cm_base.specs.Configuration.{Configuration}
 use Rattle.cm_base.specs.Fields.{field, zeros}
 use Rattle.cm_base.specs.Units.{unit_of, unit_descriptor}
-use Rattle.rod_token.specs.declared.TokenKind.{TokenKind}
+use Rattle.rod_token.specs.declared.kind.TokenKind.{TokenKind}
 
 -- the words of a ChaCha20 stream from a place on, each in four bytes
 abbrev pub words : List ℕ → ℕ → ℕ → ℕ → List ℕ

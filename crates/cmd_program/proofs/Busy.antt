@@ -1,0 +1,109 @@
+-- A command that gave up for want of memory ends BUSY
+use Rattle.std.proofs.Common.{◌≡◌, ℕ, List, [], ◌∷◌, ◌++◌, refl, subst, sym, false, true}
+use Rattle.std.specs.Prelude.{fold, cond, Bool, Option, Some, None, Result, Ok, Err}
+use Rattle.scsi_sense.specs.Codes.{no_such_unit}
+use Rattle.cm_base.specs.Configuration.{Configuration}
+use Rattle.cm_base.specs.Units.{unit_of, is_configured}
+use Rattle.scsi_sense.specs.SenseCode.{SenseCode}
+use Rattle.scsi_cdb.specs.declared.cdb.Cdb.{Cdb}
+use Rattle.scsi_cdb.specs.Decoded.{decoded}
+use Rattle.cm_frame.specs.declared.frame.Request.{Request}
+use Rattle.cm_frame.specs.declared.frame.Reply.{Reply}
+use Rattle.cm_history.specs.declared.answer.Answer.{Answer}
+use Rattle.cmd_program.specs.declared.step.Outcome.{Outcome}
+use Rattle.cmd_program.specs.Stepping.{gave_up, IsBusyAtEnd, EndsBusy}
+use Rattle.cmd_program.specs.Program.{Ask, Program, Ends, Asks, GivesUp, next, moved, give_up, go_on_by, refused, unless_refused, done}
+use Rattle.cmd_program.specs.SingleActs.{told_read}
+use Rattle.cmd_program.specs.Judging.{step, program, judged_cdb, judged_out, out_fault}
+
+-- the program has not given up, whatever it is answered
+abbrev pub IsOpen : Program → Type 0
+IsOpen (Ends reply) = Unit {0}
+IsOpen (Asks ask last go_on) = (answer : Answer) → IsOpen (go_on answer)
+IsOpen (GivesUp last reply) = ⊥
+
+-- while no outcome makes it give up, it has not
+pub stays-open : (p : Program) (outcomes : List Outcome) → IsOpen p → gave_up outcomes ≡ false → IsOpen (fold moved p outcomes)
+stays-open p [] opens none = opens
+stays-open (Ends reply) (Outcome.Answered a ∷ os) opens none = stays-open (Ends reply) os tt none
+stays-open (Asks ask last go_on) (Outcome.Answered a ∷ os) opens none = stays-open (go_on a) os (opens a) none
+stays-open (GivesUp last reply) (Outcome.Answered a ∷ os) opens none = absurd opens
+stays-open p (Outcome.Full ∷ os) opens none = cc
+stays-open p (Outcome.NoMemory ∷ os) opens none = cc
+
+-- once it gave up, its reply is what it was
+gone-busy : (last : Option Ask) (outcomes : List Outcome) → IsBusyAtEnd (next (fold moved (GivesUp last Reply.Busy) outcomes))
+gone-busy (Some ask) [] = tt
+gone-busy None [] = refl
+gone-busy last (Outcome.Answered a ∷ os) = gone-busy None os
+gone-busy last (Outcome.Full ∷ os) = gone-busy None os
+gone-busy last (Outcome.NoMemory ∷ os) = gone-busy None os
+
+no-memory-busy : (p : Program) (after : List Outcome) → IsOpen p → IsBusyAtEnd (next (fold moved (moved p Outcome.NoMemory) after))
+no-memory-busy (Ends reply) after opens = gone-busy None after
+no-memory-busy (Asks ask last go_on) after opens = gone-busy last after
+no-memory-busy (GivesUp last reply) after opens = absurd opens
+
+-- the program has given up
+abbrev pub HasGivenUp : Program → Type 0
+HasGivenUp (Ends reply) = ⊥
+HasGivenUp (Asks ask last go_on) = ⊥
+HasGivenUp (GivesUp last reply) = Unit {0}
+
+stays-given-up : (p : Program) (outcomes : List Outcome) → HasGivenUp p → HasGivenUp (fold moved p outcomes)
+stays-given-up (Ends reply) outcomes given = absurd given
+stays-given-up (Asks ask last go_on) outcomes given = absurd given
+stays-given-up (GivesUp last reply) [] given = tt
+stays-given-up (GivesUp last reply) (Outcome.Answered a ∷ os) given = stays-given-up (GivesUp None reply) os tt
+stays-given-up (GivesUp last reply) (Outcome.Full ∷ os) given = stays-given-up (GivesUp None reply) os tt
+stays-given-up (GivesUp last reply) (Outcome.NoMemory ∷ os) given = stays-given-up (GivesUp None reply) os tt
+
+given-up : (p : Program) (reply : Reply) → HasGivenUp (give_up p reply)
+given-up (Ends ended) reply = tt
+given-up (Asks ask last go_on) reply = tt
+given-up (GivesUp last first) reply = tt
+
+-- an outcome that is no answer makes it give up
+pub gives-up : (p : Program) (outcomes : List Outcome) → gave_up outcomes ≡ true → HasGivenUp (fold moved p outcomes)
+gives-up p [] some = cc
+gives-up p (Outcome.Answered a ∷ os) some = gives-up (go_on_by p a) os some
+gives-up p (Outcome.Full ∷ os) some = stays-given-up (give_up p Reply.Full) os (given-up p Reply.Full)
+gives-up p (Outcome.NoMemory ∷ os) some = stays-given-up (give_up p Reply.Busy) os (given-up p Reply.Busy)
+
+pub fold-append : (p : Program) (xs ys : List Outcome) → fold moved p (xs ++ ys) ≡ fold moved (fold moved p xs) ys
+fold-append p [] ys = refl
+fold-append p (x ∷ xs) ys = fold-append (moved p x) xs ys
+
+-- ---- no command gives up by itself
+
+read-open : (a : Answer) → IsOpen (told_read a)
+read-open (Answer.Blocks list) = tt
+read-open (Answer.Refused sense) = tt
+read-open _ = tt
+
+pub unless_refused-open : (p : Program) (a : Answer) → IsOpen p → IsOpen (unless_refused p a)
+unless_refused-open p (Answer.Refused sense) opens = tt
+unless_refused-open p _ opens = opens
+
+out-open : (config : Configuration) (r : Request) (cdb : Cdb) (fault : Option SenseCode)
+    → IsOpen (judged_out config r cdb None) → IsOpen (judged_out config r cdb fault)
+out-open config r cdb (Some sense) opens = tt
+out-open config r cdb None opens = opens
+
+cdb-open : (config : Configuration) (r : Request) (cdb : Result Cdb SenseCode) → IsOpen (judged_cdb config r cdb)
+cdb-open config r (Err sense) = tt
+cdb-open config r (Ok (Cdb.Read lba count)) = out-open config r (Cdb.Read lba count) _ read-open
+cdb-open config r (Ok (Cdb.Write lba count)) = out-open config r (Cdb.Write lba count) _ (λ a. unless_refused-open done a tt)
+cdb-open config r (Ok _) = tt
+
+pub program-open : (config : Configuration) (r : Request) → IsOpen (program config r)
+program-open config r = go (is_configured config r.unit)
+  where
+    go : (b : Bool) → IsOpen (cond b (judged_cdb config r (decoded r.cdb)) (refused no_such_unit))
+    go true = cdb-open config r (decoded r.cdb)
+    go false = tt
+
+pub ends-busy : EndsBusy step
+ends-busy config nexus r before after none =
+    subst (λ p. IsBusyAtEnd (next p)) (sym (fold-append (program config r) before (Outcome.NoMemory ∷ after)))
+    (no-memory-busy (fold moved (program config r) before) after (stays-open (program config r) before (program-open config r) none))

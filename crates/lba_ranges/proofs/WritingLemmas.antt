@@ -1,0 +1,186 @@
+-- How writings change what is held, and how many blocks are mapped
+use Rattle.std.proofs.Common.{◌≡◌, ℕ, zero, suc, ◌+◌, ◌<◌, ◌≤◌, List, [], ◌∷◌, ◌++◌, length, take, get_or, length-take-le, refl, ap, sym, ◌∙◌, arith, true, false, Bool, inl, inr}
+use Rattle.std.specs.Prelude.{is_some, None, ◌⊎◌, ◌==◌, ◌&&◌, nat_le, nat_lt, if◌then◌else◌}
+use Rattle.std.specs.List.{list_any, AllByRecursion}
+use Rattle.std.proofs.lemmas.Bool.{cases_eq, or_parts, ne_eqb}
+use Rattle.std.proofs.lemmas.List.{take_more}
+use Rattle.std.proofs.lemmas.Bool.Decides.{nat_tests}
+use Rattle.lba_ranges.specs.HeldBlocks.{held_at}
+use Rattle.lba_ranges.proofs.Cells.{take-held}
+use Rattle.lba_ranges.specs.Denoted.{row, has_repeat}
+use Rattle.lba_ranges.specs.Writings.{Held, Writing, paired, unmapped, after, is_written, mapped_below}
+
+-- 1 for a mapped block
+abbrev pub one_if : Bool → ℕ
+one_if b = if b then 1 else 0
+
+pub after-append : (xs ys : List Writing) (b : ℕ) (was : Held) → after (xs ++ ys) b was ≡ after ys b (after xs b was)
+after-append [] ys b was = refl
+after-append (x ∷ xs) ys b was = after-append xs ys b (if x.block == b then x.held else was)
+
+pub after-unwritten : (ws : List Writing) (b : ℕ) (was : Held) → is_written ws b ≡ false → after ws b was ≡ was
+after-unwritten [] b was e = refl
+after-unwritten (w ∷ ws) b was e =
+    let both = or_parts (w.block == b) (is_written ws b) e in
+    let first : w.block == b ≡ false = both.0 in
+    let kept : (if w.block == b then w.held else was) ≡ was = rw first refl in
+    ap (after ws b) kept ∙ after-unwritten ws b was both.1
+
+pub unmapped-append : (xs ys : List ℕ) → unmapped (xs ++ ys) ≡ unmapped xs ++ unmapped ys
+unmapped-append [] ys = refl
+unmapped-append (x ∷ xs) ys = rw (unmapped-append xs ys) refl
+
+-- a row that is unmapped
+pub after-unmapped_row : (lba n b : ℕ) (was : Held) → after (unmapped (row lba n)) b was ≡ (if nat_le lba b && nat_lt b (lba + n) then None else was)
+after-unmapped_row lba zero b was = let out : (nat_le lba b && nat_lt b (lba + 0)) ≡ false = grind (arith, nat_tests) in rw out refl
+after-unmapped_row lba (suc n) b was = after-unmapped_row (suc lba) n b (if lba == b then None else was) ∙ go (cases_eq lba b)
+  where
+    go : (lba ≡ b) ⊎ (lba ≡ b → ⊥)
+        → (if nat_le (suc lba) b && nat_lt b (suc lba + n) then None else (if lba == b then None else was)) ≡ (if nat_le lba b && nat_lt b (lba + suc n) then None else was)
+    go (inl same) =
+        let later : (nat_le (suc lba) b && nat_lt b (suc lba + n)) ≡ false = grind (arith, nat_tests) in
+        let here : (nat_le lba b && nat_lt b (lba + suc n)) ≡ true = grind (arith, nat_tests) in
+        let it : (lba == b) ≡ true = grind (arith, nat_tests) in
+        rw (later, here, it) refl
+    go (inr other) =
+        let alike : (nat_le (suc lba) b && nat_lt b (suc lba + n)) ≡ (nat_le lba b && nat_lt b (lba + suc n)) = grind (arith, nat_tests) in
+        let it : (lba == b) ≡ false = grind (arith, nat_tests) in
+        rw (alike, it) refl
+
+-- the count looks at the blocks below alone
+pub mapped-same : (n : ℕ) (f g : ℕ → Held) → ((b : ℕ) → b < n → f b ≡ g b) → mapped_below n f ≡ mapped_below n g
+mapped-same zero f g h = refl
+mapped-same (suc n) f g h = rw (mapped-same n f g (λ b k. h b (omega arith)), h n (omega arith)) refl
+
+pub mapped-none : (n : ℕ) (f : ℕ → Held) → ((b : ℕ) → f b ≡ None) → mapped_below n f ≡ 0
+mapped-none zero f h = refl
+mapped-none (suc n) f h = rw (mapped-none n f h, h n) refl
+
+pub mapped-le : (n : ℕ) (f : ℕ → Held) → mapped_below n f ≤ n
+mapped-le zero f = omega arith
+mapped-le (suc n) f = go (is_some (f n)) (mapped-le n f)
+  where
+    go : (b : Bool) → mapped_below n f ≤ n → mapped_below n f + (if b then 1 else 0) ≤ suc n
+    go true h = omega arith
+    go false h = omega arith
+
+-- a mapped block is counted
+pub mapped-some : (n i : ℕ) (f : ℕ → Held) → i < n → is_some (f i) ≡ true → 1 ≤ mapped_below n f
+mapped-some zero i f h e = absurd (omega arith)
+mapped-some (suc n) i f h e = go (λ below. mapped-some n i f below e) (cases_eq n i)
+  where
+    go : (i < n → 1 ≤ mapped_below n f) → (n ≡ i) ⊎ (n ≡ i → ⊥) → 1 ≤ mapped_below (suc n) f
+    go ih (inl same) = rw (same, e) (omega arith)
+    go ih (inr other) = let before : 1 ≤ mapped_below n f = ih (omega arith) in omega arith
+
+-- one block changes
+pub mapped-set : (n i : ℕ) (f g : ℕ → Held) → i < n → ((b : ℕ) → (i ≡ b → ⊥) → g b ≡ f b)
+    → mapped_below n g + one_if (is_some (f i)) ≡ mapped_below n f + one_if (is_some (g i))
+mapped-set zero i f g h others = absurd (omega arith)
+mapped-set (suc n) i f g h others = go (λ below. mapped-set n i f g below others) (cases_eq i n)
+  where
+    go : (i < n → mapped_below n g + one_if (is_some (f i)) ≡ mapped_below n f + one_if (is_some (g i))) → (i ≡ n) ⊎ (i ≡ n → ⊥)
+        → mapped_below (suc n) g + one_if (is_some (f i)) ≡ mapped_below (suc n) f + one_if (is_some (g i))
+    go ih (inl same) =
+        let below : mapped_below n g ≡ mapped_below n f = mapped-same n g f (λ b k. others b (λ e. absurd (omega arith))) in
+        rw (same, below) (omega arith)
+    go ih (inr other) =
+        let here : g n ≡ f n = others n other in
+        let below = ih (omega arith) in
+        rw here (omega arith)
+
+-- one more writing, of a block that was not written before: the count moves by what the block held
+pub mapped-push : (n : ℕ) (now : ℕ → Held) (ws : List Writing) (w : Writing) → w.block < n → is_written ws w.block ≡ false
+    → mapped_below n (λ b. after (ws ++ w ∷ []) b (now b)) + one_if (is_some (now w.block)) ≡ mapped_below n (λ b. after ws b (now b)) + one_if (is_some w.held)
+mapped-push n now ws w low new =
+    let before : ℕ → Held = λ b. after ws b (now b) in
+    let next : ℕ → Held = λ b. after (ws ++ w ∷ []) b (now b) in
+    let here : before w.block ≡ now w.block = after-unwritten ws w.block (now w.block) new in
+    let step : (b : ℕ) → next b ≡ (if w.block == b then w.held else before b) = λ b. after-append ws (w ∷ []) b (now b) in
+    let test : (w.block == w.block) ≡ true = grind (arith, nat_tests) in
+    let at_it : next w.block ≡ w.held = step w.block ∙ rw test refl in
+    let others : (b : ℕ) → (w.block ≡ b → ⊥) → next b ≡ before b =
+    λ b e. step b ∙ (let differs : (w.block == b) ≡ false = grind (arith, nat_tests) in rw differs refl) in
+    ap (λ (v : Held). mapped_below n next + one_if (is_some v)) (sym here)
+    ∙ mapped-set n w.block before next low others
+    ∙ ap (λ (v : Held). mapped_below n before + one_if (is_some v)) at_it
+
+-- one more block and its item
+pub paired-push : (bs : List ℕ) (xs : List Held) (b : ℕ) (x : Held) → length bs ≡ length xs
+    → paired (bs ++ b ∷ []) (xs ++ x ∷ []) ≡ paired bs xs ++ record { block = b; held = x } ∷ []
+paired-push [] [] b x e = refl
+paired-push [] (y ∷ xs) b x e = absurd (omega arith)
+paired-push (a ∷ bs) [] b x e = absurd (omega arith)
+paired-push (a ∷ bs) (y ∷ xs) b x e = ap (λ l. record { block = a; held = y } ∷ l) (paired-push bs xs b x (omega arith))
+
+-- a block that is not among those of the ranges is not written
+pub paired-unwritten : (bs : List ℕ) (xs : List Held) (b : ℕ) → list_any (λ a. a == b) bs ≡ false → is_written (paired bs xs) b ≡ false
+paired-unwritten [] xs b e = refl
+paired-unwritten (a ∷ bs) [] b e = refl
+paired-unwritten (a ∷ bs) (x ∷ xs) b e =
+    let both = or_parts (a == b) (list_any (λ c. c == b) bs) e in
+    let first : a == b ≡ false = both.0 in
+    rw first (paired-unwritten bs xs b both.1)
+
+-- a number that is not in the list is none of its elements
+pub differs-at : (xs : List ℕ) (b j : ℕ) → list_any (λ a. a == b) xs ≡ false → j < length xs → get_or xs j 0 ≡ b → ⊥
+differs-at [] b j e h same = absurd (omega arith)
+differs-at (x ∷ xs) b zero e h same =
+    let no : (x == b) ≡ false = (or_parts (x == b) (list_any (λ a. a == b) xs) e).0 in
+    let differs : x ≡ b → ⊥ = grind (arith, nat_tests) in
+    differs same
+differs-at (x ∷ xs) b (suc j) e h same = differs-at xs b j (or_parts (x == b) (list_any (λ a. a == b) xs) e).1 (omega arith) same
+
+-- the places of a list without repeats have different numbers
+pub apart-at : (xs : List ℕ) (i j : ℕ) → has_repeat xs ≡ false → i < j → j < length xs → get_or xs i 0 ≡ get_or xs j 0 → ⊥
+apart-at [] i j e l h same = absurd (omega arith)
+apart-at (x ∷ xs) zero zero e l h same = absurd (omega arith)
+apart-at (x ∷ xs) zero (suc j) e l h same = differs-at xs x j (or_parts (list_any (λ a. a == x) xs) (has_repeat xs) e).0 (omega arith) (sym same)
+apart-at (x ∷ xs) (suc i) zero e l h same = absurd (omega arith)
+apart-at (x ∷ xs) (suc i) (suc j) e l h same = apart-at xs i j (or_parts (list_any (λ a. a == x) xs) (has_repeat xs) e).1 (omega arith) (omega arith) same
+
+-- the number at a place is none of those before it
+pub fresh-at : (xs : List ℕ) (k : ℕ) → has_repeat xs ≡ false → k < length xs → list_any (λ a. a == get_or xs k 0) (take k xs) ≡ false
+fresh-at [] k e h = absurd (omega arith)
+fresh-at (x ∷ xs) zero e h = refl
+fresh-at (x ∷ xs) (suc k) e h =
+    let both = or_parts (list_any (λ a. a == x) xs) (has_repeat xs) e in
+    let first : (x == get_or xs k 0) ≡ false = ne_eqb x (get_or xs k 0) (λ same. differs-at xs x k both.0 (omega arith) (sym same)) in
+    rw first (fresh-at xs k both.1 (omega arith))
+
+-- what the block at a place holds is not changed by those before it
+pub after-before : (bs : List ℕ) (xs : List Held) (k : ℕ) (was : Held) → has_repeat bs ≡ false → k < length bs
+    → after (paired (take k bs) xs) (get_or bs k 0) was ≡ was
+after-before bs xs k was e h = after-unwritten (paired (take k bs) xs) (get_or bs k 0) was (paired-unwritten (take k bs) xs (get_or bs k 0) (fresh-at bs k e h))
+
+-- one more item
+pub after-more : (bs : List ℕ) (xs : List Held) (k : ℕ) (x : Held) (b : ℕ) (was : Held) → length xs ≡ k → k < length bs
+    → after (paired (take (k + 1) bs) (xs ++ x ∷ [])) b was ≡ (if get_or bs k 0 == b then x else after (paired (take k bs) xs) b was)
+after-more bs xs k x b was len h =
+    let front : length (take k bs) ≡ length xs = length-take-le k bs (omega arith) ∙ sym len in
+    ap (λ l. after (paired l (xs ++ x ∷ [])) b was) (take_more bs k 0 h)
+    ∙ ap (λ ws. after ws b was) (paired-push (take k bs) xs (get_or bs k 0) x front)
+    ∙ after-append (paired (take k bs) xs) (record { block = get_or bs k 0; held = x } ∷ []) b was
+
+-- how many blocks are mapped when the first k items are written
+abbrev pub mapped_first : ℕ → (ℕ → Held) → List ℕ → List Held → ℕ → ℕ
+mapped_first n now bs xs k = mapped_below n (λ b. after (paired (take k bs) (take k xs)) b (now b))
+
+pub below-at : (n : ℕ) (bs : List ℕ) (k : ℕ) → AllByRecursion (λ b. b < n) bs → k < length bs → get_or bs k 0 < n
+below-at n [] k all h = absurd (omega arith)
+below-at n (a ∷ bs) zero all h = all.0
+below-at n (a ∷ bs) (suc k) all h = below-at n bs k all.1 (omega arith)
+
+-- one more item of those that are written
+pub mapped-more : (n : ℕ) (now : ℕ → Held) (bs : List ℕ) (xs : List Held) (k : ℕ) → length bs ≡ length xs → k < length bs → has_repeat bs ≡ false
+    → AllByRecursion (λ b. b < n) bs
+    → mapped_first n now bs xs (k + 1) + one_if (is_some (now (get_or bs k 0))) ≡ mapped_first n now bs xs k + one_if (is_some (held_at xs k))
+mapped-more n now bs xs k len low apart below =
+    let b = get_or bs k 0 in
+    let x = held_at xs k in
+    let front : length (take k bs) ≡ length (take k xs) = length-take-le k bs (omega arith) ∙ sym (length-take-le k xs (omega arith)) in
+    let next : paired (take (k + 1) bs) (take (k + 1) xs) ≡ paired (take k bs) (take k xs) ++ record { block = b; held = x } ∷ [] =
+    ap (λ l. paired l (take (k + 1) xs)) (take_more bs k 0 low) ∙ ap (paired (take k bs ++ b ∷ [])) (take-held xs k (omega arith)) ∙ paired-push (take k bs) (take k xs) b x front in
+    let new = paired-unwritten (take k bs) (take k xs) b (fresh-at bs k apart low) in
+    ap (λ ws. mapped_below n (λ a. after ws a (now a)) + one_if (is_some (now b))) next
+    ∙ mapped-push n now (paired (take k bs) (take k xs)) (record { block = b; held = x }) (below-at n bs k below low) new

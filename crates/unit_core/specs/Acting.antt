@@ -1,0 +1,29 @@
+-- One more act of a unit
+use Rattle.std.specs.Prelude.{ℕ, ◌+◌, List, max, is_some, Bool, false}
+use Rattle.cm_base.specs.Units.{unit_of}
+use Rattle.cm_history.specs.declared.act.Act.{Act}
+use Rattle.cm_history.specs.declared.act.Actor.{Actor}
+use Rattle.cm_history.specs.declared.act.Entry.{Entry}
+use Rattle.cm_history.specs.Deeds.{Deed, last_stamp}
+use Rattle.cm_history.specs.History.{past_of}
+use Rattle.cm_history.specs.Operations.{would_serve}
+use Rattle.cm_history.specs.Room.{is_full}
+use Rattle.unit_core.specs.Standing.{Standing}
+
+abbrev pub past : Standing → List Deed
+past s = past_of s.config s.unit s.entries
+
+abbrev pub is_full_at : Standing → Actor → ℕ → Act → Bool
+is_full_at s actor stamp act = is_full (unit_of s.config s.unit) 0 (past s) actor stamp act
+
+-- the entry of an act, with the stamp behind the greater of the caller's and the unit's last
+abbrev pub entry_at : Standing → Actor → ℕ → ℕ → ℕ → Act → Entry
+entry_at s actor seq stamp moment act =
+    record { stamp = max stamp (last_stamp (past s)) + 1; unit = s.unit; actor = actor; seq = seq; moment = moment; act = act }
+
+-- an End, Abort or Close that serves an operation
+abbrev pub ends_operation : Standing → Actor → Act → Bool
+ends_operation s actor (Act.End id) = is_some (would_serve (past s) actor (Act.End id))
+ends_operation s actor (Act.Abort id) = is_some (would_serve (past s) actor (Act.Abort id))
+ends_operation s actor (Act.Close id result) = is_some (would_serve (past s) actor (Act.Close id result))
+ends_operation s actor _ = false

@@ -1,0 +1,3 @@
+pub mod Standing
+pub mod Acting
+pub mod Agreeing

@@ -1,0 +1,6 @@
+// One unit: its blocks, its record, and the answer to each act.
+#![tactic(auto)]
+
+mod unit;
+
+pub use unit::{ActRefused, Unit, UnitOver};
