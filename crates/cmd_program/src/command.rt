@@ -36,17 +36,29 @@ pub struct Command {
 #[derive(Drop)]
 enum Phase {
     /// The blocks of a READ are asked for.
-    Reading { unit: u16, lba: u64, count: u32 },
+    Reading {
+        unit: u16,
+        lba: u64,
+        count: u32,
+    },
     /// The blocks of a READ were answered.
-    Read { list: BlockList },
+    Read {
+        list: BlockList,
+    },
     /// The blocks of a WRITE are to be written.
-    Writing { unit: u16, lba: u64, list: BlockList },
+    Writing {
+        unit: u16,
+        lba: u64,
+        list: BlockList,
+    },
     /// The command ends GOOD without data.
     Ended,
     Refused(Sense),
     /// The answer is none that the act can have.
     Odd,
-    GaveUp { full: bool },
+    GaveUp {
+        full: bool,
+    },
 }
 
 impl Command {
@@ -120,9 +132,7 @@ impl Phase {
             Phase::Read { list } => {
                 let mut bytes = Bytes::empty(alloc);
                 list.read_into(&mut bytes)?;
-                Ok(Step::Done(Reply::Good(Payload::from_vec(
-                    bytes.into_vec(),
-                )?)))
+                Ok(Step::Done(Reply::Good(Payload::from_vec(bytes.into_vec())?)))
             }
             Phase::Writing { unit, lba, list } => Ok(Step::Do {
                 unit: *unit,
@@ -284,7 +294,7 @@ fn write(
     requires some { 0 < block_length }
     ensures program { IfOk result (λ p. by_phase p
         ≡ (if length out == count * block_length then act_alone unit (Act.Write lba (blocks_in block_length out))
-          else refused bad_cdb)) }
+        else refused bad_cdb)) }
     ensures sound { (config : Configuration) → unit < length config.units
         → (unit_of config unit).block_length ≡ block_length
         → IfOk result (λ p. IsSoundPhase config p) }

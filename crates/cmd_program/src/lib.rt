@@ -6,3 +6,6 @@ mod step;
 
 pub use command::Command;
 pub use step::{Outcome, Step};
+
+#[cfg(test)]
+mod tests;
