@@ -15,11 +15,10 @@ pub loop-index-preserved : goal.loop-index-preserved
 loop-index-preserved c =
     let held : ℕ → Held = λ b. after c.args.blocks.now b None in
     let item : option_copied c.held.result ≡ held (c.args.lba + c.loop-index.index) =
-    c.held.ensures ∙ ap (λ n. held (c.args.lba + n)) c.from.ensures in
-    (
+    c.held.ensures ∙ ap (λ n. held (c.args.lba + n)) c.from.ensures in (
       ap (λ (l : HeldBlocks). l.block_length) c.in_ok-push_block.ensures ∙ c.loop-index.invariant.0,
       ap (λ (l : HeldBlocks). l.items) c.in_ok-push_block.ensures
-      ∙ ap (λ (l : List Held). l ++ option_copied c.held.result ∷ []) c.loop-index.invariant.1
-      ∙ ap (λ x. map held (row c.args.lba c.loop-index.index) ++ x ∷ []) item
-      ∙ sym (row-more held c.args.lba c.loop-index.index),
+          ∙ ap (λ (l : List Held). l ++ option_copied c.held.result ∷ []) c.loop-index.invariant.1
+          ∙ ap (λ x. map held (row c.args.lba c.loop-index.index) ++ x ∷ []) item
+          ∙ sym (row-more held c.args.lba c.loop-index.index),
     )

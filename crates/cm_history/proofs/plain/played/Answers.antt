@@ -16,7 +16,10 @@ loop-index-preserved c =
     let blocks = c.loop-index.blocks in
     let one = take-get c.args.history.now.entries c.loop-index.index e c.at-entry.ensures in
     subst (λ (entries : List Entry). StandFor config c.args.number entries c.if-entry-number.blocks) (sym one)
-    (elim c.if-entry-number.branch [ then-entry-number+in_ok-play w ↦ stand-mine config c.args.number before e blocks _ c.loop-index.invariant w.if-entry-number.true
-        (c.requires.plain c.loop-index.index e c.at-entry.ensures w.if-entry-number.true) w.in_ok-play.ensures.sized
-        (w.blocks-is ∙ w.in_ok-play.ensures.written ∙ ap (λ (u : UnitConfig). blocks ++ written_by u (λ b. after blocks b None) e.act) c.unit-unit.ensures.told) | else-entry-number w ↦ subst (StandFor config c.args.number (before ++ e ∷ [])) (sym w.blocks-is)
-        (stand-other config c.args.number before e blocks c.loop-index.invariant w.if-entry-number.false) ])
+    (elim c.if-entry-number.branch [
+      | then-entry-number+in_ok-play w ↦ stand-mine config c.args.number before e blocks _ c.loop-index.invariant w.if-entry-number.true
+          (c.requires.plain c.loop-index.index e c.at-entry.ensures w.if-entry-number.true) w.in_ok-play.ensures.sized
+          (w.blocks-is ∙ w.in_ok-play.ensures.written ∙ ap (λ (u : UnitConfig). blocks ++ written_by u (λ b. after blocks b None) e.act) c.unit-unit.ensures.told)
+      | else-entry-number w ↦ subst (StandFor config c.args.number (before ++ e ∷ [])) (sym w.blocks-is)
+          (stand-other config c.args.number before e blocks c.loop-index.invariant w.if-entry-number.false)
+    ])

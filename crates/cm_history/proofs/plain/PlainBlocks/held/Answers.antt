@@ -9,6 +9,9 @@ use Rattle.cm_history.proofs.plain.PlainBlocks.held.Goals.{then-writing-block, e
 pub loop-writing-preserved : goal.loop-writing-preserved
 loop-writing-preserved c =
     let step = held-more c.deref-writing-items.result.now c.loop-writing.writing-index c.writing-item.result c.args.block c.loop-writing-test.true c.writing-item.is in
-    elim c.if-writing-block.branch [ then-writing-block w ↦ let test : (c.writing-item.result.block == c.args.block) ≡ true = eq-eqb _ _ w.if-writing-block.true in
-        ap option_copied w.last-is ∙ w.as_ref-last.ensures.value ∙ sym (rw test at step) | else-writing-block w ↦ let test : (c.writing-item.result.block == c.args.block) ≡ false = ne_eqb _ _ w.if-writing-block.false in
-        ap option_copied w.last-is ∙ c.loop-writing.invariant ∙ sym (rw test at step) ]
+    elim c.if-writing-block.branch [
+      | then-writing-block w ↦ let test : (c.writing-item.result.block == c.args.block) ≡ true = eq-eqb _ _ w.if-writing-block.true in
+          ap option_copied w.last-is ∙ w.as_ref-last.ensures.value ∙ sym (rw test at step)
+      | else-writing-block w ↦ let test : (c.writing-item.result.block == c.args.block) ≡ false = ne_eqb _ _ w.if-writing-block.false in
+          ap option_copied w.last-is ∙ c.loop-writing.invariant ∙ sym (rw test at step)
+    ]
