@@ -5,3 +5,6 @@ mod map;
 mod unit;
 
 pub use unit::PlainUnit;
+
+#[cfg(test)]
+mod tests;
