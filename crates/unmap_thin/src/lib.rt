@@ -6,3 +6,6 @@ mod status;
 
 pub use quota::mapped_after;
 pub use status::runs;
+
+#[cfg(test)]
+mod tests;

@@ -1,0 +1,96 @@
+ghost use Rattle.std.specs.Prelude.{◌≡◌, ◌∷◌, [], length, IfOk};
+ghost use Rattle.lba_ranges.specs.declared.ranges.Range.{Range};
+ghost use Rattle.lun_plain.specs.Plain.{Plain};
+
+use super::*;
+use cm_base::Payload;
+use cm_history::MapRun;
+use lba_ranges::{BlockList, Blocks, Fill, Piece, Range, RangeList};
+use lun_plain::PlainUnit;
+use std::test::Fail;
+
+/// A row of two blocks.
+fn two_places(rt: &HostRuntime, lba: u64) -> Result<RangeList, Fail>
+    ensures { IfOk result (λ list. list ≡ (record { lba = lba; count = 2 }) ∷ []) }
+{
+    let mut list = RangeList::empty(rt.alloc());
+    list.push(Range { lba, count: 2 })?;
+    Ok(list)
+}
+
+/// Two blocks of four bytes, mapped or not.
+fn two_items(rt: &HostRuntime, is_mapped: bool) -> Result<BlockList, Fail>
+    ensures { IfOk result (λ list. list.block_length ≡ 4) }
+{
+    let fill = if is_mapped {
+        Fill::Bytes(Payload::from_static(&[1, 2, 3, 4, 5, 6, 7, 8]))
+    } else {
+        Fill::Hole
+    };
+    let mut list = BlockList::empty(rt.alloc(), 4);
+    list.push(Piece { count: 2, fill })?;
+    Ok(list)
+}
+
+/// A unit of eight blocks of four bytes, of which blocks 2 and 3 are mapped.
+fn unit_of_eight(rt: &HostRuntime) -> Result<PlainUnit, Fail>
+    ensures { IfOk result (λ unit. unit.blocks ≡ 8) }
+{
+    let mut unit = PlainUnit::new(rt.alloc(), 8, 4)?;
+    let places = two_places(rt, 2)?;
+    let items = two_items(rt, true)?;
+    if !places.within(8) || places.overlap() || places.total() != items.blocks() {
+        return Err(Fail::new("no place for the items"));
+    }
+    unit.put(&places, &items)?;
+    Ok(unit)
+}
+
+/// How many blocks would be mapped, with two items from a block on.
+fn count_with(rt: &HostRuntime, unit: &PlainUnit, lba: u64, is_mapped: bool) -> Result<u64, Fail>
+    requires { unit.now.blocks ≡ 8 }
+{
+    let places = two_places(rt, lba)?;
+    let items = two_items(rt, is_mapped)?;
+    if !places.within(8) || places.overlap() || places.total() != items.blocks() {
+        return Err(Fail::new("no place for the items"));
+    }
+    Ok(mapped_after(unit, &places, &items))
+}
+
+#[test]
+fn mapped_blocks_are_counted(rt: HostRuntime) -> Result<(), Fail> {
+    let unit = unit_of_eight(&rt)?;
+    for (lba, is_mapped, count) in [
+        (0, true, 4),
+        (3, true, 3),
+        (2, true, 2),
+        (0, false, 2),
+        (3, false, 1),
+        (2, false, 0),
+    ] {
+        assert_eq!(rt; count_with(&rt, &unit, lba, is_mapped)?, count, "at {lba}");
+    }
+    Ok(())
+}
+
+fn is_run(run: &MapRun, lba: u64, count: u32, mapped: bool) -> bool {
+    run.lba == lba && run.count == count && run.mapped == mapped
+}
+
+#[test]
+fn runs_are_told(rt: HostRuntime) -> Result<(), Fail> {
+    let unit = unit_of_eight(&rt)?;
+    let all = runs(rt.alloc(), &unit, 8, 0)?;
+    let all = all.as_slice();
+    assert!(rt; all.len() == 3);
+    assert!(rt; is_run(&all[0], 0, 2, false));
+    assert!(rt; is_run(&all[1], 2, 2, true));
+    assert!(rt; is_run(&all[2], 4, 4, false));
+    let last = runs(rt.alloc(), &unit, 8, 3)?;
+    let last = last.as_slice();
+    assert!(rt; last.len() == 2);
+    assert!(rt; is_run(&last[0], 3, 1, true));
+    assert!(rt; is_run(&last[1], 4, 4, false));
+    Ok(())
+}
