@@ -1,15 +1,14 @@
 -- A header that is read was spelled so
-use Rattle.std.proofs.Common.{◌≡◌, ℕ, zero, suc, ◌+◌, ◌*◌, ◌%◌, ◌<◌, ◌≤◌, List, [], ◌∷◌, ◌++◌, length, take, drop, refl, ap, sym, ◌∙◌, arith, append_assoc}
+use Rattle.std.proofs.Common.{◌≡◌, ℕ, zero, suc, ◌+◌, ◌*◌, ◌%◌, ◌<◌, ◌≤◌, List, [], ◌∷◌, ◌++◌, length, take, drop, refl, ap, sym, ◌∙◌, arith}
 use Rattle.std.specs.Prelude.{not, bytes_eq, flat_map, Option, Some, None}
 use Rattle.std.proofs.lemmas.Bool.{not-false}
-use Rattle.std.proofs.lemmas.List.{length-drop, drop-drop}
+use Rattle.std.proofs.lemmas.List.{length-drop}
 use Rattle.std.proofs.lemmas.List.Elements.{All-drop}
 use Rattle.std.proofs.lemmas.Slice.Eq.{bytes_eq-Decides}
 use Rattle.std.proofs.Math.Nat.{mod-eq_of_lt}
 use Rattle.byteorder.specs.Endian.{big_bytes}
 use Rattle.cm_base.specs.Configuration.{Configuration}
-use Rattle.cm_base.specs.declared.parsed.Parsed.{Parsed}
-use Rattle.cm_base.specs.declared.parsed.Parsed.TheVariants.{Whole, Bad}
+use Rattle.cm_base.specs.declared.parsed.Parsed.TheVariants.{Whole}
 use Rattle.cm_base.specs.Fields.{byte, field, part, is_between, AreBytes}
 use Rattle.cm_base.proofs.FieldLaws.{below-bytes, bytes-part, field-spelled, length-part, parts-join}
 use Rattle.cm_frame.specs.Grammar.{header_text, unit_bytes, header_bytes, IsConfig}

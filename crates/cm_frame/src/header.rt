@@ -35,7 +35,7 @@ pub fn read_header(alloc: Global, bytes: &[u8]) -> Result<Parsed<Config>, OutOfM
         return Ok(Parsed::Bad { place: 0 });
     }
     let count = get_u16(bytes, 40);
-    if count < 1 || count > 16 {
+    if !matches!(count, 1..=16) {
         return Ok(Parsed::Bad { place: 40 });
     }
     let count = usize::from(count);
@@ -89,15 +89,15 @@ fn unit_fault(bytes: &[u8]) -> Option<u64>
     ensures { result ≡ first_fault (unit_checks bytes.now) }
 {
     let unit = unit_in(bytes);
-    if unit.blocks < 1 || unit.blocks > 4_294_967_296 {
+    if !matches!(unit.blocks, 1..=4_294_967_296) {
         Some(0)
-    } else if unit.block_length != 512 && unit.block_length != 4096 {
+    } else if !matches!(unit.block_length, 512 | 4096) {
         Some(8)
-    } else if unit.entries < 1 || unit.entries > 1_048_576 {
+    } else if !matches!(unit.entries, 1..=1_048_576) {
         Some(12)
     } else if unit.quota > unit.blocks {
         Some(16)
-    } else if unit.payload < 1 || unit.payload > 268_435_456 {
+    } else if !matches!(unit.payload, 1..=268_435_456) {
         Some(24)
     } else if unit.group > 15 {
         Some(28)

@@ -15,3 +15,6 @@ pub use item::{TraceItem, read_item, write_item};
 pub use laws::{none_begins_law, one_spelling_law, read_back_law, stays_judged_law};
 pub use reply::{read_reply, reply_head, write_reply};
 pub use request::{DATA_LIMIT, read_request, write_request};
+
+#[cfg(test)]
+mod tests;

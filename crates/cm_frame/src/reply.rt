@@ -43,10 +43,12 @@ pub fn read_reply(alloc: Global, bytes: &[u8]) -> Result<Parsed<Reply>, OutOfMem
     if !matches!(status, GOOD | CHECK_CONDITION | BUSY | TASK_SET_FULL) {
         return Ok(Parsed::Bad { place: 0 });
     }
-    if bytes[1] != if status == CHECK_CONDITION { SENSE } else { 0 } {
+    let sense = if status == CHECK_CONDITION { SENSE } else { 0 };
+    if bytes[1] != sense {
         return Ok(Parsed::Bad { place: 1 });
     }
-    if get_u32(bytes, 2) > if status == GOOD { DATA_LIMIT } else { 0 } {
+    let limit = if status == GOOD { DATA_LIMIT } else { 0 };
+    if get_u32(bytes, 2) > limit {
         return Ok(Parsed::Bad { place: 2 });
     }
     match status {

@@ -184,3 +184,23 @@ mapped-more n now bs xs k len low apart below =
     let new = paired-unwritten (take k bs) (take k xs) b (fresh-at bs k apart low) in
     ap (λ ws. mapped_below n (λ a. after ws a (now a)) + one_if (is_some (now b))) next
     ∙ mapped-push n now (paired (take k bs) (take k xs)) (record { block = b; held = x }) (below-at n bs k below low) new
+
+-- fewer mapped blocks
+pub mapped-fewer : (n : ℕ) (f g : ℕ → Held) → ((b : ℕ) → is_some (g b) ≡ true → is_some (f b) ≡ true) → mapped_below n g ≤ mapped_below n f
+mapped-fewer zero f g h = omega arith
+mapped-fewer (suc n) f g h = go (is_some (g n)) (is_some (f n)) refl refl (mapped-fewer n f g h)
+  where
+    go : (t u : Bool) → is_some (g n) ≡ t → is_some (f n) ≡ u → mapped_below n g ≤ mapped_below n f
+        → mapped_below n g + (if t then 1 else 0) ≤ mapped_below n f + (if u then 1 else 0)
+    go true true e k ih = omega arith
+    go true false e k ih = let no' = sym k ∙ h n e in cc
+    go false u e k ih = omega arith
+
+-- what is left mapped was mapped
+pub mapped-left : (bs : List ℕ) (b : ℕ) (was : Held) → is_some (after (unmapped bs) b was) ≡ true → is_some was ≡ true
+mapped-left [] b was e = e
+mapped-left (a ∷ bs) b was e = go (a == b) (mapped-left bs b (if a == b then None else was) e)
+  where
+    go : (t : Bool) → is_some (if t then None else was) ≡ true → is_some was ≡ true
+    go true f = cc
+    go false f = f

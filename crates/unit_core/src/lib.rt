@@ -1,6 +1,9 @@
 // One unit: its blocks, its record, and the answer to each act.
 #![tactic(auto)]
 
+mod block_plans;
+mod change;
+mod refusals;
 mod unit;
 
 pub use unit::{ActRefused, Unit, UnitOver};

@@ -2,5 +2,7 @@
 #![tactic(auto)]
 
 mod quota;
+mod status;
 
 pub use quota::mapped_after;
+pub use status::runs;

@@ -8,5 +8,5 @@ pub new-requires : goal.new-requires
 new-requires c =
     let bytes = c.args.bytes.now in
     let count = c.from-count.result in
-    let none : units_fault count 42 (drop 42 bytes) ≡ None = sym c.units_fault.ensures ∙ c.in_default.is in
+    let none : units_fault count 42 (drop 42 bytes) ≡ None = sym c.units_fault.ensures ∙ c.in_default-units_fault.is in
     subst AreUnits (sym c.in_ok-units.ensures) (units-are count 42 (drop 42 bytes) (omega arith) (omega arith) none)

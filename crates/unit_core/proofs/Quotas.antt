@@ -1,0 +1,78 @@
+-- No act maps more blocks than the quota
+use Rattle.std.proofs.Common.{◌≡◌, ℕ, ◌+◌, ◌≤◌, List, [], ◌∷◌, length, refl, ap, sym, ◌∙◌, subst, arith, true, false, Bool}
+use Rattle.std.proofs.lemmas.Bool.{ltb-false}
+use Rattle.std.specs.Prelude.{nat_lt, if◌then◌else◌}
+use Rattle.lba_ranges.specs.declared.ranges.Range.{Range}
+use Rattle.lba_ranges.specs.Denoted.{blocks_of, is_within}
+use Rattle.lba_ranges.specs.Writings.{Held, Writing, after, mapped_below, unmapped}
+use Rattle.lba_ranges.proofs.WritingLemmas.{mapped-fewer, mapped-left}
+use Rattle.cm_base.specs.Configuration.{Configuration}
+use Rattle.cm_base.specs.declared.config.UnitConfig.{UnitConfig}
+use Rattle.cm_base.specs.Units.{unit_of}
+use Rattle.cm_history.specs.declared.act.Act.{Act}
+use Rattle.cm_history.specs.declared.act.Actor.{Actor}
+use Rattle.cm_history.specs.declared.act.Entry.{Entry}
+use Rattle.cm_history.specs.declared.answer.Answer.{Answer}
+use Rattle.cm_history.specs.Senses.{out_of_range, over_quota}
+use Rattle.cm_history.specs.Deeds.{Deed, is_refusal}
+use Rattle.cm_history.specs.Operations.{is_failure}
+use Rattle.cm_history.specs.Blocks.{held, mapped, mapped_with}
+use Rattle.cm_history.specs.Answers.{answer_after, answer_write, answer_unmap, put_at, wrote_of, writings, piece_of, deed}
+use Rattle.unit_core.specs.Agreeing.{IsQuiet}
+use Rattle.unit_core.proofs.Rooms.{serves_none}
+
+-- what would be mapped after the writings is within the quota
+abbrev Within : UnitConfig → (ℕ → Held) → List Writing → Type 0
+Within unit now ws = mapped_below unit.blocks (λ b. after ws b (now b)) ≤ unit.quota
+
+write_within : (unit : UnitConfig) (now : ℕ → Held) (lba : ℕ) (items : List Held) → mapped_below unit.blocks now ≤ unit.quota
+    → Within unit now (wrote_of (answer_write unit now lba items) (put_at lba items))
+write_within unit now lba items low = go (nat_lt unit.blocks (lba + length items)) (nat_lt unit.quota (mapped_with unit now (put_at lba items))) refl
+  where
+    go : (t u : Bool) → nat_lt unit.quota (mapped_with unit now (put_at lba items)) ≡ u
+        → Within unit now (wrote_of (if t then Answer.Refused out_of_range else if u then Answer.Refused over_quota else Answer.Done) (put_at lba items))
+    go true u e = low
+    go false true e = low
+    go false false e = ltb-false unit.quota (mapped_with unit now (put_at lba items)) e
+
+unmap_within : (unit : UnitConfig) (now : ℕ → Held) (ranges : List Range) → mapped_below unit.blocks now ≤ unit.quota
+    → Within unit now (wrote_of (answer_unmap unit ranges) (unmapped (blocks_of ranges)))
+unmap_within unit now ranges low = go (is_within unit.blocks ranges)
+  where
+    fewer : mapped_below unit.blocks (λ b. after (unmapped (blocks_of ranges)) b (now b)) ≤ mapped_below unit.blocks now
+    fewer = mapped-fewer unit.blocks now (λ b. after (unmapped (blocks_of ranges)) b (now b)) (λ b e. mapped-left (blocks_of ranges) b (now b) e)
+
+    go : (t : Bool) → Within unit now (wrote_of (if t then Answer.Done else Answer.Refused out_of_range) (unmapped (blocks_of ranges)))
+    go true = let f = fewer in omega arith
+    go false = low
+
+wrote_none : (answer : Answer) → wrote_of answer [] ≡ []
+wrote_none answer = go (is_refusal answer) (is_failure answer)
+  where
+    none : List Writing
+    none = []
+
+    go : (t u : Bool) → (if t then none else if u then none else none) ≡ none
+    go true u = refl
+    go false true = refl
+    go false false = refl
+
+none_within : (unit : UnitConfig) (now : ℕ → Held) (answer : Answer) (ws : List Writing) → ws ≡ [] → mapped_below unit.blocks now ≤ unit.quota → Within unit now (wrote_of answer ws)
+none_within unit now answer ws e low = subst (Within unit now) (sym (ap (wrote_of answer) e ∙ wrote_none answer)) low
+
+act_within : (config : Configuration) (unit : ℕ) (past : List Deed) (actor : Actor) (moment : ℕ) (act : Act) → IsQuiet past
+    → mapped (unit_of config unit) past ≤ (unit_of config unit).quota
+    → Within (unit_of config unit) (held past) (wrote_of (answer_after config unit past actor moment act) (writings past actor act))
+act_within config unit past actor moment (Act.Write lba list) quiet low = write_within (unit_of config unit) (held past) lba list.items low
+act_within config unit past actor moment (Act.Put lba list) quiet low = write_within (unit_of config unit) (held past) lba list.items low
+act_within config unit past actor moment (Act.Unmap ranges) quiet low = unmap_within (unit_of config unit) (held past) ranges low
+act_within config unit past actor moment (Act.Advance id) quiet low =
+    none_within (unit_of config unit) (held past) (answer_after config unit past actor moment (Act.Advance id)) (writings past actor (Act.Advance id)) (ap piece_of (serves_none past actor (Act.Advance id) quiet)) low
+act_within config unit past actor moment Act.Pump quiet low =
+    none_within (unit_of config unit) (held past) (answer_after config unit past actor moment Act.Pump) (writings past actor Act.Pump) (ap piece_of (serves_none past actor Act.Pump quiet)) low
+act_within config unit past actor moment act quiet low = none_within (unit_of config unit) (held past) (answer_after config unit past actor moment act) (writings past actor act) refl low
+
+-- no act maps more blocks than the quota
+pub quota-step : (config : Configuration) (unit : ℕ) (past : List Deed) (e : Entry) → IsQuiet past → mapped (unit_of config unit) past ≤ (unit_of config unit).quota
+    → mapped (unit_of config unit) (deed config unit past e ∷ past) ≤ (unit_of config unit).quota
+quota-step config unit past e quiet low = act_within config unit past e.actor e.moment e.act quiet low

@@ -1,0 +1,19 @@
+use Rattle.std.proofs.Common.{◌≡◌, ◌+◌, ◌≤◌, arith, refl, true, []}
+use Rattle.std.proofs.lemmas.Bool.Decides.{nat_tests}
+use Rattle.std.specs.Prelude.{nat_le}
+use Rattle.lba_ranges.proofs.Overlaps.{overlapping-cons}
+use Rattle.unit_core.proofs.block_plans.write.Goals as goal
+
+pub mapped_after-requires-clause-apart : goal.mapped_after-requires-clause-apart
+mapped_after-requires-clause-apart g c = rw c.in_ok-ranges.ensures (overlapping-cons (record { lba = c.args.lba; count = c.blocks-count.result }) [])
+
+pub returns-clause-may : goal.returns-clause-may
+returns-clause-may g c =
+    let fits : c.args.lba + c.blocks-count.result ≤ c.args.unit.blocks = omega arith in
+    let test : nat_le (c.args.lba + c.blocks-count.result) c.args.unit.blocks ≡ true = grind (arith, nat_tests) in
+    rw (c.in_ok-ranges.ensures, c.in_ok-list.ensures) (record {
+      within = rw test refl;
+      apart = overlapping-cons (record { lba = c.args.lba; count = c.blocks-count.result }) [];
+      total = omega arith;
+      alike = c.requires.size;
+    })

@@ -1,0 +1,130 @@
+// What the acts on blocks are answered, and what they are to write.
+ghost use Rattle.std.specs.Prelude.{◌≡◌, ◌<◌, ◌^◌, ◌∷◌, [], length, IfOk};
+ghost use Rattle.lba_ranges.specs.Denoted.{blocks_of};
+ghost use Rattle.lba_ranges.specs.Writings.{unmapped};
+ghost use Rattle.cm_history.specs.Answers.{answer_read, answer_write, answer_unmap, answer_status, put_at, wrote_of};
+ghost use Rattle.unit_core.specs.Changes.{writings_of, MayChange};
+
+use crate::change::Change;
+use crate::refusals;
+use cm_base::{OutOfMemory, UnitConfig};
+use cm_history::Answer;
+use lba_ranges::{BlockList, Blocks, Range, RangeList};
+use std::alloc::Global;
+use unmap_thin::{mapped_after, runs};
+
+/// What an act is answered, and what it is to write.
+#[derive(Drop)]
+pub(crate) struct Plan {
+    pub answer: Answer,
+    pub change: Change,
+}
+
+/// An act that writes nothing.
+pub(crate) fn answered(answer: Answer) -> Plan
+    ensures answer { result.answer ≡ answer }
+    ensures change { result.change ≡ Change.Nothing }
+{
+    Plan {
+        answer,
+        change: Change::Nothing,
+    }
+}
+
+/// The ranges of a row of blocks.
+fn row_of(alloc: Global, lba: u64, count: u32) -> Result<RangeList, OutOfMemory>
+    ensures { IfOk result (λ ranges. ranges ≡ record { lba = lba; count = count } ∷ []) }
+{
+    let mut ranges = RangeList::empty(alloc);
+    ranges.push(Range { lba, count })?;
+    Ok(ranges)
+}
+
+/// Reads blocks as they stand.
+pub(crate) fn read<B: Blocks>(
+    alloc: Global,
+    blocks: &B,
+    unit: UnitConfig,
+    lba: u64,
+    count: u32,
+) -> Result<Plan, OutOfMemory>
+    requires count { B.blocks blocks.now ≡ unit.blocks }
+    requires size { B.block_length blocks.now ≡ unit.block_length }
+    ensures answer { IfOk result (λ p. p.answer ≡ answer_read unit (B.holds blocks.now) lba count) }
+    ensures change { IfOk result (λ p. p.change ≡ Change.Nothing) }
+{
+    if lba > unit.blocks || u64::from(count) > unit.blocks - lba {
+        return Ok(answered(refusals::address_out_of_range()));
+    }
+    let ranges = row_of(alloc, lba, count)?;
+    let list = blocks.cut(alloc, &ranges)?;
+    Ok(answered(Answer::Blocks(list)))
+}
+
+/// Writes the list to the blocks from `lba` on, if the quota allows it.
+pub(crate) fn write<B: Blocks>(
+    alloc: Global,
+    blocks: &B,
+    unit: UnitConfig,
+    lba: u64,
+    list: &BlockList,
+) -> Result<Plan, OutOfMemory>
+    requires count { B.blocks blocks.now ≡ unit.blocks }
+    requires size { list.now.block_length ≡ unit.block_length }
+    requires few { length list.now.items < 2 ^ 32 }
+    ensures answer { IfOk result (λ p. p.answer ≡ answer_write unit (B.holds blocks.now) lba list.now.items) }
+    ensures change { IfOk result (λ p. writings_of p.change ≡ wrote_of p.answer (put_at lba list.now.items)) }
+    ensures may { IfOk result (λ p. MayChange unit.blocks unit.block_length p.change) }
+{
+    let count = list.blocks();
+    if lba > unit.blocks || count > unit.blocks - lba {
+        return Ok(answered(refusals::address_out_of_range()));
+    }
+    let ranges = row_of(alloc, lba, count as u32)?;
+    if mapped_after(blocks, &ranges, list) > unit.quota {
+        return Ok(answered(refusals::space_allocation_failed()));
+    }
+    let list = list.copy(alloc)?;
+    Ok(Plan {
+        answer: Answer::Done,
+        change: Change::Put { ranges, list },
+    })
+}
+
+/// Unmaps the blocks of the ranges.
+pub(crate) fn unmap(
+    alloc: Global,
+    unit: UnitConfig,
+    ranges: &RangeList,
+) -> Result<Plan, OutOfMemory>
+    ensures answer { IfOk result (λ p. p.answer ≡ answer_unmap unit ranges.now) }
+    ensures change { IfOk result (λ p. writings_of p.change ≡ wrote_of p.answer (unmapped (blocks_of ranges.now))) }
+    ensures may { IfOk result (λ p. MayChange unit.blocks unit.block_length p.change) }
+{
+    if !ranges.within(unit.blocks) {
+        return Ok(answered(refusals::address_out_of_range()));
+    }
+    let ranges = ranges.copy(alloc)?;
+    Ok(Plan {
+        answer: Answer::Done,
+        change: Change::Clear { ranges },
+    })
+}
+
+/// Which blocks are mapped from `lba` on.
+pub(crate) fn status<B: Blocks>(
+    alloc: Global,
+    blocks: &B,
+    unit: UnitConfig,
+    lba: u64,
+) -> Result<Plan, OutOfMemory>
+    requires { B.blocks blocks.now ≡ unit.blocks }
+    ensures answer { IfOk result (λ p. p.answer ≡ answer_status unit (B.holds blocks.now) lba) }
+    ensures change { IfOk result (λ p. p.change ≡ Change.Nothing) }
+{
+    if lba >= unit.blocks {
+        return Ok(answered(refusals::address_out_of_range()));
+    }
+    let list = runs(alloc, blocks, unit.blocks, lba)?;
+    Ok(answered(Answer::Status(list)))
+}
