@@ -82,7 +82,7 @@ populate_read-whole : (bytes : List ℕ) (t : ℕ) (rs : List Range) → length_
     → populate_read bytes ≡ Ok (record { timeout = t; ranges = rs })
 populate_read-whole bytes t rs lengths fields timeout some ranges apart =
     no_fault (length_fault 16 bytes) (populate_fault bytes) (range_fault (ranges_from 16 bytes))
-        (Ok (record { timeout = timeout_of (field bytes 4 7); ranges = ranges_from 16 bytes })) lengths fields (ap range_fault ranges ∙ apart)
+    (Ok (record { timeout = timeout_of (field bytes 4 7); ranges = ranges_from 16 bytes })) lengths fields (ap range_fault ranges ∙ apart)
     ∙ ap (λ x. Ok (record { timeout = x; ranges = ranges_from 16 bytes })) (ap timeout_of timeout ∙ timeout_of-asked t some)
     ∙ ap (λ x. Ok (record { timeout = t; ranges = x })) ranges
 
@@ -103,9 +103,9 @@ populate_back list legal fit few =
     let measure : ranges_length 16 bytes ≡ 16 * length rs = two_bytes (16 * length rs) (omega arith) in
     let timeout : field bytes 4 7 ≡ list.timeout = big_number-reads_back 4 list.timeout [] (omega (arith, legal.timeout)) in
     populate_read-whole bytes list.timeout rs
-        (length_fault-none 16 (length rs) bytes (omega arith) (omega (arith, told)) measure (omega arith) few)
-        (populate_fault-none bytes (omega (arith, timeout, legal.timeout)) refl) timeout legal.timeout.0
-        (ranges_from-written 16 bytes rs fit refl measure) legal.ranges
+    (length_fault-none 16 (length rs) bytes (omega arith) (omega (arith, told)) measure (omega arith) few)
+    (populate_fault-none bytes (omega (arith, timeout, legal.timeout)) refl) timeout legal.timeout.0
+    (ranges_from-written 16 bytes rs fit refl measure) legal.ranges
 
 write_token_read-whole : (bytes : List ℕ) (list : WriteList) → length_fault 536 bytes ≡ None
     → bit bytes 2 0 ≡ list.immed → bit bytes 2 1 ≡ list.delete → field bytes 8 15 ≡ list.offset → slice_range bytes 16 528 ≡ list.token
@@ -158,6 +158,6 @@ write_token_back list legal fit few fits whole =
     sym (big_from-drop 528 6 2 bytes) ∙ ap (big_from 6 2) behind ∙ two_bytes (16 * length rs) (omega arith) in
     let after : drop 536 bytes ≡ descriptors rs = sym (drop-drop 8 528 bytes) ∙ ap (drop 8) behind in
     write_token_read-whole bytes list
-        (length_fault-none 536 (length rs) bytes (omega (arith, parts)) (omega (arith, told, parts)) measure (omega (arith, parts)) few)
-        (immed_of list.immed list.delete) (delete_of list.immed list.delete) (big_number-reads_back 8 list.offset [] fits)
-        (token_of list.token rest whole) (ranges_from-written 536 bytes rs fit after measure) legal
+    (length_fault-none 536 (length rs) bytes (omega (arith, parts)) (omega (arith, told, parts)) measure (omega (arith, parts)) few)
+    (immed_of list.immed list.delete) (delete_of list.immed list.delete) (big_number-reads_back 8 list.offset [] fits)
+    (token_of list.token rest whole) (ranges_from-written 536 bytes rs fit after measure) legal

@@ -40,7 +40,7 @@ populate_is list n is =
 
 pub write_token_is : (list : WriteList) (n : ℕ) → n ≡ 16 * length list.ranges → length list.token ≡ 512
     → ((big_bytes 2 (534 + n) ++ (flag list.immed + 2 * flag list.delete) ∷ zeros 5 ++ big_bytes 8 list.offset) ++ list.token
-        ++ (zeros 6 ++ big_bytes 2 n)) ++ descriptors list.ranges
+    ++ (zeros 6 ++ big_bytes 2 n)) ++ descriptors list.ranges
     ≡ write_token_written list
 write_token_is list n is whole =
     let rs = list.ranges in

@@ -4,9 +4,11 @@
 mod lists;
 mod ranges;
 mod reading;
+#[cfg(test)]
+mod tests;
 mod writing;
 
 pub use lists::{PopulateList, WriteList};
 pub use reading::{read_populate, read_unmap, read_write_token};
-pub use writing::{write_populate, write_unmap, write_write_token};
 pub use scsi_sense::ParamFault;
+pub use writing::{write_populate, write_unmap, write_write_token};

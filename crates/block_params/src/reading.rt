@@ -13,15 +13,19 @@ use std::alloc::Global;
 
 /// Place of the first range descriptor of each list.
 const UNMAP_START: usize = 8;
+
 const POPULATE_START: usize = 16;
+
 const WRITE_START: usize = 536;
 
 /// Seconds: the longest inactivity timeout, and the one of a list that asks for none.
 const MAX_TIMEOUT: u32 = 3600;
+
 const DEFAULT_TIMEOUT: u32 = 300;
 
 /// ROD types (SPC-4, ROD types): a point in time copy that the copy manager chooses, and any.
 pub(crate) const POINT_IN_TIME: u32 = 0x0080_0000;
+
 const ANY_POINT_IN_TIME: u32 = 0x0080_ffff;
 
 /// The ranges that an UNMAP asks for (SBC-3, UNMAP parameter list); a list of no bytes has none.

@@ -1,61 +1,31 @@
-ghost use Rattle.std.specs.Prelude.{◌≡◌, ◌∷◌, [], length, IfOk};
-ghost use Rattle.lba_ranges.specs.declared.ranges.Range.{Range};
-
 use super::*;
 use cm_base::Payload;
-use lba_ranges::{BlockList, Blocks, Fill, Piece, Range, RangeList};
+use lba_ranges::{BlockList, Blocks, Range, RangeList};
+use std::alloc::Global;
 use std::test::Fail;
 
-/// A row of blocks.
-fn row(rt: &HostRuntime, lba: u64, count: u32) -> Result<RangeList, Fail>
-    ensures { IfOk result (λ list. list ≡ (record { lba = lba; count = count }) ∷ []) }
-{
-    let mut list = RangeList::empty(rt.alloc());
-    list.push(Range { lba, count })?;
-    Ok(list)
+fn row(alloc: Global, lba: u64, count: u32) -> Result<RangeList, Fail> {
+    let mut ranges = RangeList::empty(alloc);
+    ranges.push(Range { lba, count })?;
+    Ok(ranges)
 }
 
-/// A block of four bytes, and an unmapped one behind it.
-fn two_items(rt: &HostRuntime) -> Result<BlockList, Fail>
-    ensures { IfOk result (λ list. list.block_length ≡ 4) }
-{
-    let bytes = Payload::from_static(&[1, 2, 3, 4]);
-    let mut list = BlockList::from_payload(rt.alloc(), 4, 1, bytes)?;
-    list.push(Piece {
-        count: 1,
-        fill: Fill::Hole,
-    })?;
-    Ok(list)
-}
-
-/// A unit of eight blocks of four bytes, of which block 5 is mapped.
+/// Blocks 2 and 3 of eight are put, and block 2 is cleared.
 #[test]
-fn blocks_are_put_and_cleared(rt: HostRuntime) -> Result<(), Fail> {
-    let mut unit = PlainUnit::new(rt.alloc(), 8, 4)?;
-    assert_eq!(rt; unit.mapped(), 0);
-    assert_eq!(rt; unit.mapped_until(2), 8);
-    let places = row(&rt, 5, 2)?;
-    let items = two_items(&rt)?;
-    assert!(rt; places.within(8));
-    assert!(rt; !places.overlap());
-    assert!(rt; places.total() == items.blocks());
-    unit.put(&places, &items)?;
-    assert_eq!(rt; unit.mapped(), 1);
-    assert!(rt; unit.held(5) == Some([1, 2, 3, 4].as_slice()));
-    assert!(rt; unit.held(6).is_none());
-    for (block, end) in [(0, 5), (4, 5), (5, 6), (6, 8), (7, 8)] {
-        assert_eq!(rt; unit.mapped_until(block), end, "at {block}");
-    }
-    let around = row(&rt, 4, 3)?;
-    assert!(rt; around.within(8));
-    let cut = unit.cut(rt.alloc(), &around)?;
-    assert_eq!(rt; cut.blocks(), 3);
-    assert!(rt; cut.held(0).is_none());
-    assert!(rt; cut.held(1) == Some([1, 2, 3, 4].as_slice()));
-    unit.clear(&places)?;
-    assert_eq!(rt; unit.mapped(), 0);
-    assert!(rt; unit.held(5).is_none());
-    // What was cut out before stays.
-    assert!(rt; cut.held(1) == Some([1, 2, 3, 4].as_slice()));
+fn put_cut_and_clear(rt: HostRuntime) -> Result<(), Fail> {
+    let alloc = rt.alloc();
+    let mut unit = PlainUnit::new(alloc, 8, 2)?;
+    let bytes = Payload::copy_from_slice(alloc, &[1, 2, 3, 4])?;
+    let list = BlockList::from_payload(alloc, 2, 2, bytes)?;
+    let ranges = row(alloc, 2, 2)?;
+    assert!(rt; ranges.within(8) && !ranges.overlap() && ranges.total() == list.blocks());
+    unit.put(&ranges, &list)?;
+    assert!(rt; unit.mapped() == 2 && unit.mapped_until(0) == 2 && unit.mapped_until(2) == 4);
+    let cut = unit.cut(alloc, &ranges)?;
+    assert!(rt; matches!(cut.held(1), Some(bytes) if bytes == [3, 4].as_slice()));
+    let front = row(alloc, 0, 3)?;
+    assert!(rt; front.within(8));
+    unit.clear(&front)?;
+    assert!(rt; unit.held(2).is_none() && unit.held(3).is_some() && unit.mapped() == 1);
     Ok(())
 }

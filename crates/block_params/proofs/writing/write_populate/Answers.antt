@@ -13,7 +13,7 @@ is_written c =
     let list = c.args.list.now in
     let n = c.length_of-length.result in
     let plain : c.push_ranges.new.bytes
-        ≡ (big_bytes 2 (14 + n) ++ 2 ∷ 0 ∷ big_bytes 4 list.timeout ++ big_bytes 4 0x0080_0000 ++ zeros 2 ++ big_bytes 2 n) ++ descriptors list.ranges =
+    ≡ (big_bytes 2 (14 + n) ++ 2 ∷ 0 ∷ big_bytes 4 list.timeout ++ big_bytes 4 0x0080_0000 ++ zeros 2 ++ big_bytes 2 n) ++ descriptors list.ranges =
     search rules in
     plain ∙ populate_is list n c.length_of-length.ensures.length
 

@@ -14,8 +14,8 @@ is_written c =
     let n = c.length_of-length.result in
     let whole : length list.token ≡ 512 = search rules in
     let plain : c.push_ranges.new.bytes
-        ≡ ((big_bytes 2 (534 + n) ++ (flag list.immed + 2 * flag list.delete) ∷ zeros 5 ++ big_bytes 8 list.offset) ++ list.token
-            ++ (zeros 6 ++ big_bytes 2 n)) ++ descriptors list.ranges =
+    ≡ ((big_bytes 2 (534 + n) ++ (flag list.immed + 2 * flag list.delete) ∷ zeros 5 ++ big_bytes 8 list.offset) ++ list.token
+    ++ (zeros 6 ++ big_bytes 2 n)) ++ descriptors list.ranges =
     search rules in
     plain ∙ write_token_is list n c.length_of-length.ensures.length whole
 
