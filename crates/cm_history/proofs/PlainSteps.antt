@@ -1,6 +1,6 @@
 -- One more entry of a history of Reads and Writes
-use Rattle.std.proofs.Common.{◌≡◌, ℕ, zero, suc, List, [], ◌∷◌, ◌++◌, length, refl, ap, sym, ◌∙◌, subst, Some, None, true, false, Bool, Option}
-use Rattle.std.specs.Prelude.{◌==◌, ◌&&◌, if◌then◌else◌, cond}
+use Rattle.std.proofs.Common.{◌≡◌, ℕ, suc, List, [], ◌∷◌, ◌++◌, length, refl, ap, sym, ◌∙◌, subst, Some, None, true, false, Bool}
+use Rattle.std.specs.Prelude.{◌==◌, cond}
 use Rattle.cm_base.specs.Configuration.{Configuration}
 use Rattle.cm_base.specs.declared.config.UnitConfig.{UnitConfig}
 use Rattle.cm_base.specs.Units.{unit_of}
@@ -17,7 +17,7 @@ use Rattle.cm_history.specs.Answers.{put_at, answer_write, wrote_of, deed}
 use Rattle.cm_history.specs.Blocks.{held, mapped_with}
 use Rattle.cm_history.specs.History.{past_of}
 use Rattle.cm_history.specs.Plain.{is_plain}
-use Rattle.cm_history.specs.PlainHolds.{AreSized, IsPlainAct, IsSizedAct, StandFor, written_by}
+use Rattle.cm_history.specs.PlainHolds.{IsPlainAct, IsSizedAct, StandFor, written_by}
 use Rattle.cm_history.proofs.Made.{past_of-mine, past_of-other}
 
 -- what a block holds has so many bytes

@@ -1,5 +1,5 @@
 -- What the plain answers hold of blocks
-use Rattle.std.specs.Prelude.{◌≡◌, ℕ, List, [], length, slice_get, Bool, true, Some, None}
+use Rattle.std.specs.Prelude.{◌≡◌, ℕ, List, [], length, slice_get, true, Some, None}
 use Rattle.cm_base.specs.Configuration.{Configuration}
 use Rattle.cm_base.specs.declared.config.UnitConfig.{UnitConfig}
 use Rattle.cm_base.specs.Units.{unit_of}

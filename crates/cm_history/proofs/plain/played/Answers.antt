@@ -1,6 +1,6 @@
-use Rattle.std.proofs.Common.{◌≡◌, ◌∙◌, ◌++◌, ◌∷◌, [], sym, ap, subst, take, None, List}
+use Rattle.std.proofs.Common.{◌∙◌, ◌++◌, ◌∷◌, [], sym, ap, subst, take, None, List}
 use Rattle.cm_base.specs.declared.config.UnitConfig.{UnitConfig}
-use Rattle.lba_ranges.specs.Writings.{Writing, after}
+use Rattle.lba_ranges.specs.Writings.{after}
 use Rattle.lba_ranges.proofs.Rows.{take-get}
 use Rattle.cm_history.specs.declared.act.Entry.{Entry}
 use Rattle.cm_history.specs.PlainHolds.{StandFor, written_by}

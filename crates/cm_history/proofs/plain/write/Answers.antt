@@ -1,4 +1,4 @@
-use Rattle.std.proofs.Common.{◌≡◌, ◌+◌, ◌≤◌, ◌++◌, ◌∙◌, ap, length, None, arith, List}
+use Rattle.std.proofs.Common.{◌+◌, ◌≤◌, ◌++◌, ◌∙◌, ap, length, None, arith, List}
 use Rattle.lba_ranges.specs.Writings.{Writing, after, mapped_below}
 use Rattle.cm_history.specs.Answers.{put_at}
 use Rattle.cm_history.proofs.PlainLemmas.{over-answer, done-answer}

@@ -1,4 +1,4 @@
-use Rattle.std.proofs.Common.{◌≡◌, ℕ, zero, suc, List, [], ◌∷◌, ◌++◌, Some, subst, sym, arith}
+use Rattle.std.proofs.Common.{◌≡◌, ℕ, zero, suc, List, [], ◌∷◌, ◌++◌, Some, subst, sym}
 use Rattle.std.specs.List.{slice_get}
 use Rattle.cm_base.specs.Units.{unit_of}
 use Rattle.cm_history.specs.declared.act.Entry.{Entry}

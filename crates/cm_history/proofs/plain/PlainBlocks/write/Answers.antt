@@ -1,4 +1,4 @@
-use Rattle.std.proofs.Common.{◌≡◌, ◌+◌, ◌++◌, ◌∷◌, [], ◌∙◌, sym, ap, map, arith, List}
+use Rattle.std.proofs.Common.{◌≡◌, ◌+◌, ◌++◌, ◌∷◌, [], ◌∙◌, ap, map, arith, List}
 use Rattle.std.proofs.lemmas.List.{map-append}
 use Rattle.lba_ranges.specs.HeldBlocks.{held_at}
 use Rattle.lba_ranges.specs.Writings.{Writing}
