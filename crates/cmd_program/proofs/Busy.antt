@@ -1,9 +1,9 @@
 -- A command that gave up for want of memory ends BUSY
-use Rattle.std.proofs.Common.{◌≡◌, ℕ, List, [], ◌∷◌, ◌++◌, refl, subst, sym, false, true}
+use Rattle.std.proofs.Common.{◌≡◌, List, [], ◌∷◌, ◌++◌, refl, subst, sym, false, true}
 use Rattle.std.specs.Prelude.{fold, cond, Bool, Option, Some, None, Result, Ok, Err}
 use Rattle.scsi_sense.specs.Codes.{no_such_unit}
 use Rattle.cm_base.specs.Configuration.{Configuration}
-use Rattle.cm_base.specs.Units.{unit_of, is_configured}
+use Rattle.cm_base.specs.Units.{is_configured}
 use Rattle.scsi_sense.specs.SenseCode.{SenseCode}
 use Rattle.scsi_cdb.specs.declared.cdb.Cdb.{Cdb}
 use Rattle.scsi_cdb.specs.Decoded.{decoded}
@@ -14,7 +14,7 @@ use Rattle.cmd_program.specs.declared.step.Outcome.{Outcome}
 use Rattle.cmd_program.specs.Stepping.{gave_up, IsBusyAtEnd, EndsBusy}
 use Rattle.cmd_program.specs.Program.{Ask, Program, Ends, Asks, GivesUp, next, moved, give_up, go_on_by, refused, unless_refused, done}
 use Rattle.cmd_program.specs.SingleActs.{told_read}
-use Rattle.cmd_program.specs.Judging.{step, program, judged_cdb, judged_out, out_fault}
+use Rattle.cmd_program.specs.Judging.{step, program, judged_cdb, judged_out}
 
 -- the program has not given up, whatever it is answered
 abbrev pub IsOpen : Program → Type 0

@@ -1,17 +1,17 @@
 -- The blocks that some bytes are cut into
-use Rattle.std.proofs.Common.{◌≡◌, ℕ, zero, suc, ◌*◌, ◌/◌, ◌<◌, ◌≤◌, List, take, drop, length, refl, ap, arith, true}
+use Rattle.std.proofs.Common.{◌≡◌, ℕ, zero, suc, ◌*◌, ◌/◌, ◌<◌, ◌≤◌, List, drop, length, refl, ap, true}
 use Rattle.std.specs.Prelude.{is_some}
 use Rattle.std.specs.List.{list_all}
 use Rattle.std.proofs.Math.Nat.{div-eq_of_eq-mul_left}
 use Rattle.std.proofs.Common.{sym, ◌∙◌}
 use Rattle.std.proofs.lemmas.Bool.{eq-eqb, le-leb}
-use Rattle.std.specs.Prelude.{◌==◌, ◌&&◌, nat_le, if◌then◌else◌, cond}
+use Rattle.std.specs.Prelude.{◌==◌, nat_le, if◌then◌else◌}
 use Rattle.cm_base.specs.Configuration.{Configuration}
 use Rattle.cm_base.specs.Units.{unit_of}
 use Rattle.scsi_sense.specs.Codes.{bad_cdb}
 use Rattle.cm_history.specs.declared.act.Act.{Act}
 use Rattle.cm_history.specs.Limits.{within_limits}
-use Rattle.cmd_program.specs.Program.{Program, refused}
+use Rattle.cmd_program.specs.Program.{refused}
 use Rattle.cmd_program.specs.SingleActs.{act_alone, blocks_in}
 use Rattle.lba_ranges.specs.HeldBlocks.{HeldBlocks, cut}
 

@@ -4,7 +4,6 @@ use Rattle.std.specs.Option.{option_map}
 use Rattle.byteorder.specs.Endian.{big_bytes}
 use Rattle.cm_base.specs.Configuration.{Configuration}
 use Rattle.cm_base.specs.Fields.{zeros, counted}
-use Rattle.lba_ranges.specs.HeldBlocks.{HeldBlocks, blocks_bytes}
 use Rattle.scsi_sense.specs.SenseCode.{SenseCode}
 use Rattle.copy_status.specs.CopyStatus.{CopyStatus}
 use Rattle.copy_status.specs.StatusBytes.{status4_bytes, information_bytes, status1_bytes}

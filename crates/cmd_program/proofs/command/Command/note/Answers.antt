@@ -1,5 +1,4 @@
-use Rattle.std.proofs.Common.{◌≡◌, subst, sym}
-use Rattle.cmd_program.specs.declared.step.Outcome.{Outcome}
+use Rattle.std.proofs.Common.{subst}
 use Rattle.cmd_program.specs.Meaning.{IsNotable}
 use Rattle.cmd_program.proofs.Phases.{notable-answer}
 use Rattle.cmd_program.proofs.command.Command.note.Goals as goal
