@@ -6,9 +6,13 @@ use Rattle.lba_ranges.specs.declared.ranges.Range.{Range}
 use Rattle.block_params.specs.declared.lists.PopulateList.{PopulateList}
 use Rattle.block_params.specs.declared.lists.WriteList.{WriteList}
 
+-- a range descriptor
+abbrev pub descriptor : Range → List ℕ
+descriptor r = big_bytes 8 r.lba ++ big_bytes 4 r.count ++ zeros 4
+
 abbrev pub descriptors : List Range → List ℕ
 descriptors [] = []
-descriptors (r ∷ rs) = big_bytes 8 r.lba ++ big_bytes 4 r.count ++ zeros 4 ++ descriptors rs
+descriptors (r ∷ rs) = descriptor r ++ descriptors rs
 
 -- the descriptors, and before them their length in two bytes
 abbrev pub measured : List Range → List ℕ

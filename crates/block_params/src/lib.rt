@@ -1,8 +1,14 @@
 // The parameter lists of UNMAP, POPULATE TOKEN and WRITE USING TOKEN.
 #![tactic(auto)]
 
-mod fault;
 mod lists;
+mod ranges;
+mod reading;
+#[cfg(test)]
+mod tests;
+mod writing;
 
-pub use fault::ParamFault;
 pub use lists::{PopulateList, WriteList};
+pub use reading::{read_populate, read_unmap, read_write_token};
+pub use scsi_sense::ParamFault;
+pub use writing::{write_populate, write_unmap, write_write_token};

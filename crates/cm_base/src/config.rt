@@ -81,6 +81,7 @@ impl Config {
         self.units.len() as u16
     }
 
+    /// There is a unit of this number.
     pub fn is_configured(&self, unit: u16) -> bool
         ensures { result ≡ is_configured self.now unit }
     {

@@ -11,6 +11,14 @@ pub fn get_u16(from: &[u8], at: usize) -> u16
     BigEndian::read_u16(&from[at..])
 }
 
+/// The number in three bytes from a place on.
+pub fn get_u24(from: &[u8], at: usize) -> u32
+    requires { at + 3 ≤ length from.now }
+    ensures { result ≡ big_from at 3 from.now }
+{
+    BigEndian::read_u24(&from[at..])
+}
+
 /// The number in four bytes from a place on.
 pub fn get_u32(from: &[u8], at: usize) -> u32
     requires { at + 4 ≤ length from.now }

@@ -18,7 +18,7 @@ mod window;
 mod word;
 
 pub use config::{CallList, Config, UnitConfig, UnitList};
-pub use fields::{get_u16, get_u32, get_u64, set_u16, set_u32, set_u64};
+pub use fields::{get_u16, get_u24, get_u32, get_u64, set_u16, set_u32, set_u64};
 pub use input_buffer::{FillFailed, InputBuffer};
 pub use memory_sink::MemorySink;
 pub use memory_source::MemorySource;
@@ -34,3 +34,6 @@ pub use word::Word;
 
 /// Bytes that are shared and never change: cloning and slicing copy none of them.
 pub use bytes::Bytes as Payload;
+
+#[cfg(test)]
+mod tests;

@@ -35,12 +35,14 @@ impl OutputBuffer {
         }
     }
 
+    /// How many bytes wait to be pushed.
     pub fn len(&self) -> usize
         ensures { result ≡ length self.now }
     {
         self.bytes.len() - self.pushed
     }
 
+    /// No byte waits to be pushed.
     pub fn is_empty(&self) -> bool
         ensures { result ≡ (length self.now == 0) }
     {

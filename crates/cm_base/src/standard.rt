@@ -12,6 +12,7 @@ pub struct StandardInput<R> {
 }
 
 impl<R: Read> StandardInput<R> {
+    /// A source over this reader, with no fault so far.
     pub fn new(reader: R) -> StandardInput<R>
         ensures left { ⟦<StandardInput<R> as Source>⟧.left result ≡ None }
         ensures faults { ⟦<StandardInput<R> as Source>⟧.read_faults result ≡ 0 }
@@ -44,6 +45,7 @@ pub struct StandardOutput<W> {
 }
 
 impl<W: Write> StandardOutput<W> {
+    /// A sink over this writer, with no fault so far.
     pub fn new(writer: W) -> StandardOutput<W>
         ensures taken { ⟦<StandardOutput<W> as Sink>⟧.taken result ≡ None }
         ensures faults { ⟦<StandardOutput<W> as Sink>⟧.write_faults result ≡ 0 }

@@ -1,4 +1,4 @@
-ghost use Rattle.std.specs.Prelude.{◌≡◌, ◌+◌, ◌*◌, ◌<◌, ◌≤◌, ℕ, List, [], ◌++◌, length, drop, IfOk, OnOk, OnErr};
+ghost use Rattle.std.specs.Prelude.{◌≡◌, ◌+◌, ◌-◌, ◌*◌, ◌<◌, ◌≤◌, ℕ, List, [], ◌++◌, length, take, drop, slice_range, IfOk, OnOk, OnErr};
 ghost use Rattle.std.specs.Io.KnownBytes.{Keeps, Consumes, IsAtEnd};
 ghost use Rattle.cm_base.specs.Outside.{Faulted, StaysTold};
 
@@ -45,35 +45,46 @@ impl Window {
         self.start += count;
     }
 
-    /// Moves the bytes to the front.
-    pub(crate) fn move_to_front(&mut self)
-        ensures { held self.new ≡ held self.old }
-    {
-        let (start, end) = (self.start, self.end);
-        self.bytes.copy_within(start..end, 0);
-        self.start = 0;
-        self.end = end - start;
-    }
-
-    /// Makes room for a pull. What fills less than half of the window moves to its front, which
-    /// costs no more than using it did; the window doubles where that makes too little room.
+    /// Makes room for a pull. What is left moves to the front where that costs no more than using
+    /// the bytes before it did, and to a larger window where there is too little room.
     pub(crate) fn settle(&mut self) -> Result<(), OutOfMemory>
         ensures held { held self.new ≡ held self.old }
         ensures room { OnOk result (65_536 ≤ room self.new) }
     {
-        let free = self.bytes.len() - self.end;
-        if self.end - self.start <= self.start || free < PIECE {
+        if self.end - self.start <= self.start {
             self.move_to_front();
         }
         if self.bytes.len() - self.end < PIECE {
-            let grown = self
-                .bytes
-                .len()
-                .max(PIECE)
-                .checked_mul(2)
-                .ok_or(OutOfMemory)?;
-            self.bytes.resize(grown, 0)?;
+            self.grow()?;
         }
+        Ok(())
+    }
+
+    /// Moves the bytes to the front, over bytes that were used.
+    fn move_to_front(&mut self)
+        requires { self.old.end - self.old.start ≤ self.old.start }
+        ensures { held self.new ≡ held self.old }
+    {
+        let (start, end) = (self.start, self.end);
+        copy_to_front(&mut self.bytes, start, end);
+        self.start = 0;
+        self.end = end - start;
+    }
+
+    /// Moves the bytes to the front of a window of twice their length.
+    fn grow(&mut self) -> Result<(), OutOfMemory>
+        ensures held { held self.new ≡ held self.old }
+        ensures room { OnOk result (65_536 ≤ room self.new) }
+    {
+        let left = self.as_slice();
+        let count = left.len();
+        let length = count.max(PIECE).checked_mul(2).ok_or(OutOfMemory)?;
+        let mut bytes = Vec::with_capacity(*self.bytes.allocator(), length)?;
+        bytes.extend_from_slice(left)?;
+        bytes.resize(length, 0)?;
+        self.bytes = bytes;
+        self.start = 0;
+        self.end = count;
         Ok(())
     }
 
@@ -95,4 +106,16 @@ impl Window {
         self.end = end + count;
         Ok(count)
     }
+}
+
+/// Copies the bytes from `start` to `end` over the first ones.
+fn copy_to_front(bytes: &mut [u8], start: usize, end: usize)
+    requires ordered { start ≤ end }
+    requires within { end ≤ length bytes.old }
+    requires apart { end - start ≤ start }
+    ensures { take (end - start) bytes.new ≡ slice_range bytes.old start end }
+{
+    let left = end - start;
+    let (used, rest) = bytes.split_at_mut(start);
+    used[..left].copy_from_slice(&rest[..left]);
 }

@@ -20,6 +20,7 @@ impl Model for Word {
 }
 
 impl Word {
+    /// The word of this text.
     pub fn from_text(alloc: Global, text: &str) -> Result<Word, OutOfMemory>
         ensures { IfOk result (λ word. word ≡ text.now) }
     {
@@ -28,6 +29,7 @@ impl Word {
         })
     }
 
+    /// Its bytes.
     pub fn as_slice(&self) -> &[u8]
         ensures { result.now ≡ self.now }
     {

@@ -17,14 +17,14 @@ use Rattle.cm_frame.specs.Laws.{IsSpelledSo}
 
 -- ---- a chain that ends whole
 
-guard-whole : {A : Type 0} (n : ℕ) (a : List ℕ) (y : Parsed A) (x : A) (used : ℕ) → cond (nat_lt (length a) n) Short y ≡ Whole x used → (n ≤ length a) × (y ≡ Whole x used)
+pub guard-whole : {A : Type 0} (n : ℕ) (a : List ℕ) (y : Parsed A) (x : A) (used : ℕ) → cond (nat_lt (length a) n) Short y ≡ Whole x used → (n ≤ length a) × (y ≡ Whole x used)
 guard-whole {A} n a y x used e = go (nat_lt (length a) n) refl e
   where
     go : (t : Bool) → nat_lt (length a) n ≡ t → cond t Short y ≡ Whole x used → (n ≤ length a) × (y ≡ Whole x used)
     go true s k = cc
     go false s k = (ltb-false (length a) n s, k)
 
-bad-whole : {A : Type 0} (t : Bool) (place : ℕ) (y : Parsed A) (x : A) (used : ℕ) → cond t (Bad place) y ≡ Whole x used → (t ≡ false) × (y ≡ Whole x used)
+pub bad-whole : {A : Type 0} (t : Bool) (place : ℕ) (y : Parsed A) (x : A) (used : ℕ) → cond t (Bad place) y ≡ Whole x used → (t ≡ false) × (y ≡ Whole x used)
 bad-whole {A} true place y x used e = cc
 bad-whole {A} false place y x used e = (refl, e)
 
@@ -39,15 +39,24 @@ used_of {A} Short = 0
 used_of {A} (Bad place) = 0
 
 -- what a reader owes at Whole
-record Takes {A : Type 0} (Fits : A → Type 0) (spelling : A → List ℕ) (bytes : List ℕ) (x : A) (used : ℕ) : Type 0 where
+pub record Takes {A : Type 0} (Fits : A → Type 0) (spelling : A → List ℕ) (bytes : List ℕ) (x : A) (used : ℕ) : Type 0 where
   pub fits : Fits x
   pub within : used ≤ length bytes
   pub is : take used bytes ≡ spelling x
 
-moved : {A : Type 0} (Fits : A → Type 0) (spelling : A → List ℕ) (bytes : List ℕ) (x y : A) (m n : ℕ)
+pub moved : {A : Type 0} (Fits : A → Type 0) (spelling : A → List ℕ) (bytes : List ℕ) (x y : A) (m n : ℕ)
     → Takes Fits spelling bytes x m → Whole x m ≡ Whole y n → Takes Fits spelling bytes y n
 moved {A} Fits spelling bytes x y m n t e =
     subst (λ k. Takes Fits spelling bytes y k) (ap used_of e) (subst (λ z. Takes Fits spelling bytes z m) (ap (value_of x) e) t)
+
+-- ---- bytes
+
+-- a byte is spelled by itself
+pub byte-spelled : (place : ℕ) (bytes : List ℕ) (value : ℕ) → AreBytes bytes → place + 1 ≤ length bytes → byte bytes place ≡ value
+    → big_bytes 1 value ≡ part place 1 bytes
+byte-spelled place bytes value all there e =
+    let first : big_from place 1 bytes ≡ value = omega (arith, e) in
+    ap (big_bytes 1) (sym first) ∙ field-spelled place 1 bytes all there
 
 -- ---- requests
 
@@ -89,12 +98,6 @@ request-spelled bytes r used small e =
 
 -- ---- items
 
--- the kind is the first byte
-kind-part : (bytes : List ℕ) (kind : ℕ) → AreBytes bytes → 1 ≤ length bytes → byte bytes 0 ≡ kind → big_bytes 1 kind ≡ part 0 1 bytes
-kind-part bytes kind all one e =
-    let first : big_from 0 1 bytes ≡ kind = omega (arith, e) in
-    ap (big_bytes 1) (sym first) ∙ field-spelled 0 1 bytes all one
-
 begin-takes : (bytes : List ℕ) (p : Parsed Request) (x : TraceItem) (used : ℕ) → AreBytes bytes → 1 ≤ length bytes → byte bytes 0 ≡ 1
     → ((r : Request) (u : ℕ) → p ≡ Whole r u → Takes IsRequest request_bytes (drop 13 bytes) r u × (13 ≤ length bytes))
     → begin_in bytes p ≡ Whole x used → Takes IsItem item_bytes bytes x used
@@ -108,7 +111,7 @@ begin-takes bytes (Whole r u) x used all one kind takes e =
     let j0 : part 0 1 bytes ++ part 1 (4 + (8 + u)) bytes ≡ part 0 (1 + (4 + (8 + u))) bytes = parts-join 0 1 (4 + (8 + u)) bytes in
     let count : 1 + (4 + (8 + u)) ≡ 13 + u = omega arith in
     let spelled : big_bytes 1 1 ++ (big_bytes 4 (field bytes 1 4) ++ (big_bytes 8 (field bytes 5 12) ++ request_bytes r)) ≡ take (13 + u) bytes =
-    ap (λ l. l ++ (big_bytes 4 (field bytes 1 4) ++ (big_bytes 8 (field bytes 5 12) ++ request_bytes r))) (kind-part bytes 1 all one kind)
+    ap (λ l. l ++ (big_bytes 4 (field bytes 1 4) ++ (big_bytes 8 (field bytes 5 12) ++ request_bytes r))) (byte-spelled 0 bytes 1 all one kind)
     ∙ ap (λ l. part 0 1 bytes ++ (l ++ (big_bytes 8 (field bytes 5 12) ++ request_bytes r))) (field-spelled 1 4 bytes all (omega (arith, long)))
     ∙ ap (λ l. part 0 1 bytes ++ (part 1 4 bytes ++ (l ++ request_bytes r))) (field-spelled 5 8 bytes all (omega (arith, long)))
     ∙ ap (λ l. part 0 1 bytes ++ (part 1 4 bytes ++ (part 5 8 bytes ++ l))) (sym t.is)
@@ -127,7 +130,7 @@ run-takes bytes x used all one kind e =
     let j1 : part 1 4 bytes ++ part 5 8 bytes ≡ part 1 12 bytes = parts-join 1 4 8 bytes in
     let j0 : part 0 1 bytes ++ part 1 12 bytes ≡ part 0 13 bytes = parts-join 0 1 12 bytes in
     let spelled : big_bytes 1 2 ++ (big_bytes 4 (field bytes 1 4) ++ big_bytes 8 (field bytes 5 12)) ≡ take 13 bytes =
-    ap (λ l. l ++ (big_bytes 4 (field bytes 1 4) ++ big_bytes 8 (field bytes 5 12))) (kind-part bytes 2 all one kind)
+    ap (λ l. l ++ (big_bytes 4 (field bytes 1 4) ++ big_bytes 8 (field bytes 5 12))) (byte-spelled 0 bytes 2 all one kind)
     ∙ ap (λ l. part 0 1 bytes ++ (l ++ big_bytes 8 (field bytes 5 12))) (field-spelled 1 4 bytes all (omega (arith, whole.0)))
     ∙ ap (λ l. part 0 1 bytes ++ (part 1 4 bytes ++ l)) (field-spelled 5 8 bytes all (omega (arith, whole.0)))
     ∙ ap (λ l. part 0 1 bytes ++ l) j1 ∙ j0 in
@@ -144,7 +147,7 @@ pump-takes bytes x used all one kind e =
     let j1 : part 1 2 bytes ++ part 3 8 bytes ≡ part 1 10 bytes = parts-join 1 2 8 bytes in
     let j0 : part 0 1 bytes ++ part 1 10 bytes ≡ part 0 11 bytes = parts-join 0 1 10 bytes in
     let spelled : big_bytes 1 3 ++ (big_bytes 2 (field bytes 1 2) ++ big_bytes 8 (field bytes 3 10)) ≡ take 11 bytes =
-    ap (λ l. l ++ (big_bytes 2 (field bytes 1 2) ++ big_bytes 8 (field bytes 3 10))) (kind-part bytes 3 all one kind)
+    ap (λ l. l ++ (big_bytes 2 (field bytes 1 2) ++ big_bytes 8 (field bytes 3 10))) (byte-spelled 0 bytes 3 all one kind)
     ∙ ap (λ l. part 0 1 bytes ++ (l ++ big_bytes 8 (field bytes 3 10))) (field-spelled 1 2 bytes all (omega (arith, whole.0)))
     ∙ ap (λ l. part 0 1 bytes ++ (part 1 2 bytes ++ l)) (field-spelled 3 8 bytes all (omega (arith, whole.0)))
     ∙ ap (λ l. part 0 1 bytes ++ l) j1 ∙ j0 in

@@ -48,6 +48,16 @@ reply_bytes (Reply.Check sense) = 0x02 ∷ 0x12 ∷ big_bytes 4 0 ++ sense_bytes
 reply_bytes Reply.Busy = 0x08 ∷ 0x00 ∷ big_bytes 4 0
 reply_bytes Reply.Full = 0x28 ∷ 0x00 ∷ big_bytes 4 0
 
+-- what a reply has behind its status and its lengths: the data-in, or the sense
+abbrev pub reply_body : Reply → List ℕ
+reply_body (Reply.Good bytes) = bytes
+reply_body (Reply.Check sense) = sense_bytes sense
+reply_body _ = []
+
+abbrev pub data_in : Reply → List ℕ
+data_in (Reply.Good bytes) = bytes
+data_in _ = []
+
 -- data that one frame may have
 abbrev pub IsData : List ℕ → Type 0
 IsData bytes = (length bytes ≤ data_limit) × AreBytes bytes
@@ -72,6 +82,10 @@ abbrev pub item_bytes : TraceItem → List ℕ
 item_bytes (TraceItem.Begin initiator moment request) = 0x01 ∷ big_bytes 4 initiator ++ big_bytes 8 moment ++ request_bytes request
 item_bytes (TraceItem.Run initiator moment) = 0x02 ∷ big_bytes 4 initiator ++ big_bytes 8 moment
 item_bytes (TraceItem.Pump unit moment) = 0x03 ∷ big_bytes 2 unit ++ big_bytes 8 moment
+
+abbrev pub data_out : TraceItem → List ℕ
+data_out (TraceItem.Begin initiator moment request) = request.out
+data_out _ = []
 
 abbrev pub IsItem : TraceItem → Type 0
 IsItem (TraceItem.Begin initiator moment request) = (initiator < 2 ^ 32) × (moment < 2 ^ 64) × IsRequest request

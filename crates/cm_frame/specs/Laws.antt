@@ -4,6 +4,11 @@ use Rattle.cm_base.specs.declared.parsed.Parsed.{Parsed}
 use Rattle.cm_base.specs.declared.parsed.Parsed.TheVariants.{Whole, Short}
 use Rattle.cm_base.specs.Fields.{AreBytes}
 
+-- what holds of a whole value and the number of bytes that spell it
+abbrev pub IfWhole : {A : Type 0} → Parsed A → (A → ℕ → Type 0) → Type 0
+IfWhole {A} (Whole x used) P = P x used
+IfWhole {A} _ P = Unit {0}
+
 -- what is spelled is read, whatever follows it
 abbrev pub IsReadBack : {A : Type 0} → (A → Type 0) → (A → List ℕ) → (List ℕ → Parsed A) → Type 0
 IsReadBack {A} Fits spelling read =

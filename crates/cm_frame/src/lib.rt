@@ -2,8 +2,19 @@
 #![tactic(auto)]
 
 mod frame;
+mod header;
 mod item;
+mod laws;
+mod reply;
+mod request;
 
 pub use cm_base::Parsed;
 pub use frame::{Reply, Request};
-pub use item::TraceItem;
+pub use header::{read_header, write_header};
+pub use item::{TraceItem, read_item, write_item};
+pub use laws::{none_begins_law, one_spelling_law, read_back_law, stays_judged_law};
+pub use reply::{read_reply, reply_head, write_reply};
+pub use request::{DATA_LIMIT, read_request, write_request};
+
+#[cfg(test)]
+mod tests;

@@ -17,3 +17,6 @@ pub mod Laws
 pub mod Merged
 pub mod Image
 pub mod Known
+pub mod PlainWritings
+pub mod Plain
+pub mod PlainHolds

@@ -1,4 +1,7 @@
-ghost use Rattle.std.specs.Prelude.{ℕ, List, Bool, length, ◌<◌, ◌≤◌};
+ghost use Rattle.std.specs.Prelude.{◌≡◌, ℕ, List, Bool, length, ◌<◌, ◌≤◌};
+ghost use Rattle.cm_history.specs.declared.act.Act.{Act};
+ghost use Rattle.cm_history.specs.declared.act.Actor.{Actor};
+ghost use Rattle.cm_history.specs.History.{on, answer};
 ghost use Rattle.lba_ranges.specs.declared.ranges.Range.{Range};
 ghost use Rattle.lba_ranges.specs.HeldBlocks.{HeldBlocks};
 ghost use Rattle.cm_history.specs.declared.act.Entry.{Entry};
@@ -24,4 +27,11 @@ pub fn count_law(_config: &Config, _history: &History, _start: usize, _until: us
     ensures { (e : Entry) (id : ℕ) (background : Bool) (ranges : List Range) (rod : HeldBlocks)
         → IsStarted _config.now _history.now.entries _start e id background ranges rod
         → CountPromise _config.now _history.now.entries _start _until e id ranges }
+{}
+
+/// A unit answers from its own entries alone.
+pub fn locality_law(_config: &Config, _history: &History, _unit: u16)
+    ensures { (actor : Actor) (now : ℕ) (act : Act)
+        → answer _config.now (on _unit _history.now.entries) _unit actor now act
+        ≡ answer _config.now _history.now.entries _unit actor now act }
 {}

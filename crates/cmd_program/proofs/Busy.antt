@@ -5,7 +5,7 @@ use Rattle.scsi_sense.specs.Codes.{no_such_unit}
 use Rattle.cm_base.specs.Configuration.{Configuration}
 use Rattle.cm_base.specs.Units.{unit_of, is_configured}
 use Rattle.scsi_sense.specs.SenseCode.{SenseCode}
-use Rattle.scsi_cdb.specs.declared.Cdb.{Cdb}
+use Rattle.scsi_cdb.specs.declared.cdb.Cdb.{Cdb}
 use Rattle.scsi_cdb.specs.Decoded.{decoded}
 use Rattle.cm_frame.specs.declared.frame.Request.{Request}
 use Rattle.cm_frame.specs.declared.frame.Reply.{Reply}

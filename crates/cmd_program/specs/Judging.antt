@@ -6,7 +6,7 @@ use Rattle.cm_base.specs.Units.{unit_of, is_configured}
 use Rattle.scsi_sense.specs.SenseCode.{SenseCode}
 use Rattle.scsi_sense.specs.SenseBytes.{sense_bytes}
 use Rattle.scsi_sense.specs.Codes.{no_sense, no_such_unit, unknown_operation, bad_cdb, bad_list_length}
-use Rattle.scsi_cdb.specs.declared.Cdb.{Cdb}
+use Rattle.scsi_cdb.specs.declared.cdb.Cdb.{Cdb}
 use Rattle.scsi_cdb.specs.Decoded.{decoded}
 use Rattle.cm_frame.specs.declared.frame.Request.{Request}
 use Rattle.block_params.specs.ListsRead.{unmap_read, populate_read, write_token_read}

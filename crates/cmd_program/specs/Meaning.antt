@@ -1,11 +1,14 @@
 -- Which program a command that has come so far stands for
-use Rattle.std.specs.Prelude.{◌≡◌, ℕ, ◌<◌, List, length, None, Bool, true, if◌then◌else◌}
+use Rattle.std.specs.Prelude.{◌≡◌, ℕ, ◌<◌, ◌≤◌, List, length, None, Bool, true, if◌then◌else◌}
 use Rattle.cm_base.specs.Configuration.{Configuration}
 use Rattle.cm_frame.specs.declared.frame.Request.{Request}
 use Rattle.cm_frame.specs.declared.frame.Reply.{Reply}
 use Rattle.cm_history.specs.declared.act.Act.{Act}
 use Rattle.cm_history.specs.declared.act.Actor.{Actor}
 use Rattle.cm_history.specs.declared.answer.Answer.{Answer}
+use Rattle.lba_ranges.specs.HeldBlocks.{HeldBlocks}
+use Rattle.cm_frame.specs.Grammar.{data_limit}
+use Rattle.cm_history.specs.Known.{is_known}
 use Rattle.cm_history.specs.Limits.{within_limits}
 use Rattle.cm_history.specs.Legal.{may_ask}
 use Rattle.cmd_program.specs.declared.command.Command.{Command}
@@ -14,7 +17,7 @@ use Rattle.cmd_program.specs.declared.step.Outcome.{Outcome}
 use Rattle.cmd_program.specs.declared.step.Step.{Step}
 use Rattle.cmd_program.specs.Program.{Program, GivesUp, done, refused, never, ask_then}
 use Rattle.cmd_program.specs.SingleActs.{act_alone, told_read}
-use Rattle.cmd_program.specs.Judging.{program_after}
+use Rattle.cmd_program.specs.Judging.{program_after, step}
 
 -- the reply of a command that gave up
 abbrev pub reply_of : Bool → Reply
@@ -41,17 +44,58 @@ pub record IsAskedOf (config : Configuration) (unit : ℕ) (act : Act) : Type 0 
   pub configured : unit < length config.units
   pub limits : within_limits config unit act ≡ true
   pub asked : (nexus : ℕ) → may_ask unit (Actor.Nexus nexus) act ≡ true
+  pub known : is_known act ≡ true
 
 -- what the step asks may be asked
 abbrev pub IsAskable : Configuration → Step → Type 0
 IsAskable config (Step.Do unit act) = IsAskedOf config unit act
 IsAskable config (Step.Done reply) = Unit {0}
 
+-- the blocks fit into one reply
+pub record FitsReply (list : HeldBlocks) : Type 0 where
+  pub count : length list.items ≤ 2048
+  pub size : list.block_length ≤ 4096
+
 abbrev pub IsSoundPhase : Configuration → Phase → Type 0
 IsSoundPhase config (Phase.Reading unit lba count) = IsAskedOf config unit (Act.Read lba count)
 IsSoundPhase config (Phase.Writing unit lba list) = IsAskedOf config unit (Act.Write lba list)
+IsSoundPhase config (Phase.Read list) = FitsReply list
 IsSoundPhase config _ = Unit {0}
 
--- what the command asks for may be asked
+-- the blocks that a READ is answered fit into one reply
+abbrev pub IsAnswerTo : Phase → Answer → Type 0
+IsAnswerTo (Phase.Reading unit lba count) (Answer.Blocks list) = FitsReply list
+IsAnswerTo _ _ = Unit {0}
+
+-- what the command asks for may be asked, and what it was answered may be told
 abbrev pub IsSound : Configuration → Command → Type 0
 IsSound config command = IsSoundPhase config command.phase
+
+-- ---- lengths
+
+-- the data of a reply has the length that a frame may have
+abbrev pub IsOfLength : Reply → Type 0
+IsOfLength (Reply.Good bytes) = length bytes ≤ data_limit
+IsOfLength _ = Unit {0}
+
+-- what the step replies has such data
+abbrev pub IsWritable : Step → Type 0
+IsWritable (Step.Done reply) = IsOfLength reply
+IsWritable (Step.Do unit act) = Unit {0}
+
+-- an outcome that an act can have: the blocks of a Read fit into one reply
+abbrev pub IsOutcomeOf : Act → Outcome → Type 0
+IsOutcomeOf (Act.Read lba count) (Outcome.Answered (Answer.Blocks list)) = FitsReply list
+IsOutcomeOf _ _ = Unit {0}
+
+abbrev pub MayFollow : Step → Outcome → Type 0
+MayFollow (Step.Do unit act) outcome = IsOutcomeOf act outcome
+MayFollow (Step.Done reply) outcome = Unit {0}
+
+-- the outcome may be that of the act which the command asks for
+pub record IsNotable (config : Configuration) (command : Command) (outcome : Outcome) : Type 0 where
+  pub nexus : ℕ
+  pub request : Request
+  pub outcomes : List Outcome
+  pub stands : StandsFor config command nexus request outcomes
+  pub follows : MayFollow (step config nexus request outcomes) outcome

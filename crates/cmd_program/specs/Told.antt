@@ -6,7 +6,7 @@ use Rattle.cm_base.specs.Configuration.{Configuration}
 use Rattle.cm_base.specs.Fields.{zeros, counted}
 use Rattle.lba_ranges.specs.HeldBlocks.{HeldBlocks, blocks_bytes}
 use Rattle.scsi_sense.specs.SenseCode.{SenseCode}
-use Rattle.copy_status.specs.declared.StatusFields.{StatusFields}
+use Rattle.copy_status.specs.CopyStatus.{CopyStatus}
 use Rattle.copy_status.specs.StatusBytes.{status4_bytes, information_bytes, status1_bytes}
 use Rattle.rod_token.specs.TokenText.{token_text}
 use Rattle.cm_history.specs.declared.act.CopyEnd.{CopyEnd}
@@ -42,7 +42,7 @@ abbrev pub sense_of : OpState → Option SenseCode
 sense_of (OpState.Failed sense) = Some sense
 sense_of _ = None
 
-abbrev pub status_of : OpReport → StatusFields
+abbrev pub status_of : OpReport → CopyStatus
 status_of r = record {
   populate = r.populate;
   status = status_code r.background r.state;

@@ -2,23 +2,26 @@ ghost use Rattle.std.specs.Prelude.{◌≡◌, ◌==◌, ◌≤◌, ◌<◌, ◌
 ghost use Rattle.cm_base.specs.Configuration.{Configuration};
 ghost use Rattle.cm_base.specs.Units.{unit_of};
 ghost use Rattle.cm_frame.specs.declared.frame.Request.{Request};
+ghost use Rattle.lba_ranges.specs.HeldBlocks.{HeldBlocks};
 ghost use Rattle.cm_history.specs.declared.act.Act.{Act};
-ghost use Rattle.scsi_cdb.specs.Transfer.{IsTransfer};
+ghost use Rattle.cm_history.specs.declared.answer.Answer.{Answer};
+ghost use Rattle.scsi_cdb.specs.Decoded.{decoded};
+ghost use Rattle.scsi_cdb.specs.Encoded.{moved as moved_blocks};
 ghost use Rattle.cmd_program.specs.declared.step.Outcome.{Outcome};
 ghost use Rattle.cmd_program.specs.declared.command.Phase.{Phase};
 ghost use Rattle.cmd_program.specs.Stepping.{gave_up};
 ghost use Rattle.scsi_sense.specs.Codes.{bad_cdb};
-ghost use Rattle.cmd_program.specs.Program.{next, give_up, go_on_by, done, refused, unless_refused, ask_then};
+ghost use Rattle.cmd_program.specs.Program.{next, moved, give_up, go_on_by, done, refused, unless_refused, ask_then};
 ghost use Rattle.cmd_program.specs.SingleActs.{told_read, act_alone, blocks_in};
 ghost use Rattle.cmd_program.specs.Judging.{step, judged_cdb};
-ghost use Rattle.cmd_program.specs.Meaning.{StandsFor, IsSound, IsSoundPhase, IsAskable, by_phase, reply_of};
+ghost use Rattle.cmd_program.specs.Meaning.{StandsFor, IsSound, IsSoundPhase, IsAskable, IsWritable, IsNotable, FitsReply, IsAnswerTo, by_phase, reply_of};
 
 use crate::step::{Outcome, Step};
 use cm_base::{Bytes, Config, OutOfMemory, Payload};
 use cm_frame::{Reply, Request};
 use cm_history::{Act, Answer};
 use lba_ranges::BlockList;
-use scsi_cdb::Cdb;
+use scsi_cdb::{Cdb, decode};
 use scsi_sense::Sense;
 use std::alloc::Global;
 use std::mem;
@@ -47,6 +50,27 @@ enum Phase {
 }
 
 impl Command {
+    /// The command of a request of a nexus. It takes the data-out over, which stays shared.
+    pub fn begin(
+        alloc: Global,
+        config: &Config,
+        nexus: u32,
+        request: Request,
+    ) -> Result<Command, OutOfMemory>
+        ensures stands { IfOk result (λ c. StandsFor config.now c nexus request []) }
+        ensures sound { IfOk result (λ c. IsSound config.now c) }
+    {
+        let _nexus = nexus;
+        let Request { unit, cdb, out } = request;
+        if !config.is_configured(unit) {
+            return Ok(Command {
+                phase: Phase::Refused(Sense::logical_unit_not_supported()),
+            });
+        }
+        let phase = judged(alloc, config, unit, &cdb, out)?;
+        Ok(Command { phase })
+    }
+
     /// What the command does next. After an outcome at which it gave up it takes no memory.
     pub fn step(&self, alloc: Global, config: &Config) -> Result<Step, OutOfMemory>
         requires { IsSound config.now self.now }
@@ -54,17 +78,18 @@ impl Command {
             → StandsFor config.now self.now nexus request outcomes
             → IfOk result (λ s. s ≡ step config.now nexus request outcomes) }
         ensures asks { IfOk result (λ s. IsAskable config.now s) }
+        ensures fits { IfOk result IsWritable }
         ensures free { (nexus : ℕ) (request : Request) (outcomes : List Outcome)
             → StandsFor config.now self.now nexus request outcomes
             → gave_up outcomes ≡ true → IsOk result }
     {
-        let _ = config;
-        self.phase.step(alloc)
+        self.phase.step(alloc, config)
     }
 
     /// Notes what came of the act that the command asked for. It takes no memory.
     pub fn note(&mut self, config: &Config, outcome: Outcome)
-        requires { IsSound config.now self.old }
+        requires sound { IsSound config.now self.old }
+        requires notable { IsNotable config.now self.old outcome }
         ensures sound { IsSound config.now self.new }
         ensures stands { (nexus : ℕ) (request : Request) (outcomes : List Outcome)
             → StandsFor config.now self.old nexus request outcomes
@@ -72,16 +97,15 @@ impl Command {
     {
         let _ = config;
         let phase = mem::replace(&mut self.phase, Phase::Odd);
-        self.phase = match outcome {
-            Outcome::Answered(answer) => phase.after(answer),
-            Outcome::Full => phase.given_up(true),
-            Outcome::NoMemory => phase.given_up(false),
-        };
+        self.phase = phase.noted(outcome);
     }
 }
 
 impl Phase {
-    fn step(&self, alloc: Global) -> Result<Step, OutOfMemory>
+    fn step(&self, alloc: Global, config: &Config) -> Result<Step, OutOfMemory>
+        requires { IsSoundPhase config.now self.now }
+        ensures asks { IfOk result (λ s. IsAskable config.now s) }
+        ensures fits { IfOk result IsWritable }
         ensures next { IfOk result (λ s. s ≡ next (by_phase self.now)) }
         ensures free { (full : Bool) → self.now ≡ Phase.GaveUp full → IsOk result }
     {
@@ -94,9 +118,11 @@ impl Phase {
                 },
             }),
             Phase::Read { list } => {
-                let mut data = Bytes::empty(alloc);
-                list.read_into(&mut data)?;
-                Ok(Step::Done(Reply::Good(Payload::from_vec(data.into_vec())?)))
+                let mut bytes = Bytes::empty(alloc);
+                list.read_into(&mut bytes)?;
+                Ok(Step::Done(Reply::Good(Payload::from_vec(
+                    bytes.into_vec(),
+                )?)))
             }
             Phase::Writing { unit, lba, list } => Ok(Step::Do {
                 unit: *unit,
@@ -112,9 +138,24 @@ impl Phase {
         }
     }
 
+    /// The phase after an outcome.
+    fn noted(self, outcome: Outcome) -> Phase
+        requires { (answer : Answer) → outcome ≡ Outcome.Answered answer → IsAnswerTo self answer }
+        ensures program { by_phase result ≡ moved (by_phase self) outcome }
+        ensures sound { (config : Configuration) → IsSoundPhase config self → IsSoundPhase config result }
+    {
+        match outcome {
+            Outcome::Answered(answer) => self.after(answer),
+            Outcome::Full => self.given_up(true),
+            Outcome::NoMemory => self.given_up(false),
+        }
+    }
+
     /// The phase after an answer.
     fn after(self, answer: Answer) -> Phase
-        ensures { by_phase result ≡ go_on_by (by_phase self) answer }
+        requires { IsAnswerTo self answer }
+        ensures program { by_phase result ≡ go_on_by (by_phase self) answer }
+        ensures sound { (config : Configuration) → IsSoundPhase config self → IsSoundPhase config result }
     {
         match self {
             Phase::Reading {
@@ -133,7 +174,8 @@ impl Phase {
 
     /// The phase after an outcome at which the command gives up.
     fn given_up(self, full: bool) -> Phase
-        ensures { by_phase result ≡ give_up (by_phase self) (reply_of full) }
+        ensures sound { (config : Configuration) → IsSoundPhase config result }
+        ensures program { by_phase result ≡ give_up (by_phase self) (reply_of full) }
     {
         match self {
             Phase::GaveUp { full: first } => Phase::GaveUp { full: first },
@@ -151,7 +193,9 @@ fn given_up_reply(full: bool) -> Reply
 
 /// A READ whose act was answered.
 fn after_read(answer: Answer) -> Phase
-    ensures { by_phase result ≡ told_read answer }
+    requires { (list : HeldBlocks) → answer ≡ Answer.Blocks list → FitsReply list }
+    ensures program { by_phase result ≡ told_read answer }
+    ensures sound { (config : Configuration) → IsSoundPhase config result }
 {
     match answer {
         Answer::Blocks(list) => Phase::Read { list },
@@ -162,7 +206,8 @@ fn after_read(answer: Answer) -> Phase
 
 /// A WRITE whose act was answered.
 fn after_write(answer: Answer) -> Phase
-    ensures { by_phase result ≡ unless_refused done answer }
+    ensures sound { (config : Configuration) → IsSoundPhase config result }
+    ensures program { by_phase result ≡ unless_refused done answer }
 {
     match answer {
         Answer::Refused(sense) => Phase::Refused(sense),
@@ -170,8 +215,27 @@ fn after_write(answer: Answer) -> Phase
     }
 }
 
-/// A command of a configured unit, whose CDB was decoded.
+/// A command of a configured unit.
 fn judged(
+    alloc: Global,
+    config: &Config,
+    unit: u16,
+    cdb: &[u8; 16],
+    out: Payload,
+) -> Result<Phase, OutOfMemory>
+    requires configured { unit < length config.now.units }
+    ensures program { IfOk result (λ p. by_phase p
+        ≡ judged_cdb config.now (record { unit = unit; cdb = cdb.now; out = out }) (decoded cdb.now)) }
+    ensures sound { IfOk result (λ p. IsSoundPhase config.now p) }
+{
+    match decode(cdb) {
+        Ok(decoded) => coded(alloc, config, unit, decoded, out),
+        Err(sense) => Ok(Phase::Refused(sense)),
+    }
+}
+
+/// A command of a configured unit, whose CDB was decoded.
+fn coded(
     alloc: Global,
     config: &Config,
     unit: u16,
@@ -179,7 +243,7 @@ fn judged(
     out: Payload,
 ) -> Result<Phase, OutOfMemory>
     requires configured { unit < length config.now.units }
-    requires transfer { IsTransfer cdb }
+    requires transfer { moved_blocks cdb ≤ 2048 }
     ensures program { (bytes : List ℕ) → IfOk result (λ p. by_phase p
         ≡ judged_cdb config.now (record { unit = unit; cdb = bytes; out = out }) (Ok cdb)) }
     ensures sound { IfOk result (λ p. IsSoundPhase config.now p) }

@@ -1,17 +1,17 @@
 -- The bytes that tell how a copy stands
-use Rattle.std.specs.Prelude.{ℕ, List, [], ◌∷◌, ◌++◌, Option, Some, None, if◌then◌else◌}
+use Rattle.std.specs.Prelude.{◌≡◌, ℕ, List, [], ◌∷◌, ◌++◌, length, Option, Some, None, is_some, if◌then◌else◌}
 use Rattle.byteorder.specs.Endian.{big_bytes}
 use Rattle.cm_base.specs.Fields.{zeros, counted}
 use Rattle.scsi_sense.specs.SenseCode.{SenseCode}
 use Rattle.scsi_sense.specs.SenseBytes.{sense_bytes}
-use Rattle.copy_status.specs.declared.StatusFields.{StatusFields}
+use Rattle.copy_status.specs.CopyStatus.{CopyStatus}
 
 -- POPULATE TOKEN or WRITE USING TOKEN
-abbrev pub service_action : StatusFields → ℕ
+abbrev pub service_action : CopyStatus → ℕ
 service_action f = if f.populate then 0x10 else 0x11
 
 -- the host is asked to wait while the operation runs
-abbrev pub delay : StatusFields → ℕ
+abbrev pub delay : CopyStatus → ℕ
 delay f = if f.running then 100 else 0
 
 -- completion status, and twice the length of the sense
@@ -24,16 +24,16 @@ sense_data None = []
 sense_data (Some sense) = sense_bytes sense
 
 -- bytes 4..31; F1h says that the count is one of blocks
-abbrev pub fields_bytes : StatusFields → List ℕ
+abbrev pub fields_bytes : CopyStatus → List ℕ
 fields_bytes f =
     service_action f ∷ f.status ∷ zeros 2 ++ big_bytes 4 (delay f) ++ completion f.sense ++ 0xf1 ∷ big_bytes 8 f.count ++ zeros 8
 
 -- the 32 bytes before the sense
-abbrev pub header_bytes : StatusFields → ℕ → List ℕ
+abbrev pub header_bytes : CopyStatus → ℕ → List ℕ
 header_bytes f available = big_bytes 4 available ++ fields_bytes f
 
 -- RECEIVE COPY STATUS(LID4)
-abbrev pub status4_bytes : StatusFields → List ℕ
+abbrev pub status4_bytes : CopyStatus → List ℕ
 status4_bytes f = counted (fields_bytes f ++ sense_data f.sense)
 
 -- the token, where there is one
@@ -42,9 +42,18 @@ token_part None = big_bytes 4 0
 token_part (Some token) = counted (zeros 2 ++ token)
 
 -- RECEIVE ROD TOKEN INFORMATION
-abbrev pub information_bytes : StatusFields → Option (List ℕ) → List ℕ
+abbrev pub information_bytes : CopyStatus → Option (List ℕ) → List ℕ
 information_bytes f token = counted (fields_bytes f ++ sense_data f.sense ++ token_part token)
 
 -- RECEIVE COPY STATUS(LID1): 12 bytes
 abbrev pub status1_bytes : ℕ → ℕ → ℕ → List ℕ
 status1_bytes state segments bytes = counted (state ∷ big_bytes 2 segments ++ 0 ∷ big_bytes 4 bytes)
+
+-- a token has 512 bytes
+abbrev pub IsToken : Option (List ℕ) → Type 0
+IsToken None = Unit {0}
+IsToken (Some token) = length token ≡ 512
+
+-- there is a token exactly where the operation is a POPULATE TOKEN
+abbrev pub IsTokenOf : CopyStatus → Option (List ℕ) → Type 0
+IsTokenOf s token = IsToken token × (is_some token ≡ s.populate)

@@ -1,5 +1,6 @@
-ghost use Rattle.std.specs.Prelude.{◌≡◌, ◌+◌, ◌*◌, ◌<◌, ◌≤◌, ◌^◌, ◌++◌, List, ℕ, length, slice_range, IfOk, OnOk, OnErr};
+ghost use Rattle.std.specs.Prelude.{◌≡◌, ◌+◌, ◌*◌, ◌<◌, ◌≤◌, ◌^◌, ◌++◌, List, ℕ, length, slice_range, IfOk, OnOk, OnErr, is_some};
 ghost use Rattle.std.specs.Option.{option_copied};
+ghost use Rattle.std.specs.List.{list_all};
 ghost use Rattle.lba_ranges.specs.HeldBlocks.{filled, IsFull, held_at, items_bytes};
 ghost use Rattle.cm_base.specs.Fields.{zeros};
 
@@ -89,6 +90,16 @@ impl Piece {
         match &self.fill {
             Fill::Hole => extend_zeros(into, self.count as usize * size as usize),
             Fill::Bytes(bytes) => into.extend(bytes.as_slice()),
+        }
+    }
+
+    /// Each block of the run is mapped.
+    pub(crate) fn is_mapped(&self, size: u32) -> bool
+        ensures { result ≡ list_all is_some (filled size self.now.count self.now.fill) }
+    {
+        match &self.fill {
+            Fill::Hole => self.count == 0,
+            Fill::Bytes(_) => true,
         }
     }
 

@@ -1,5 +1,6 @@
-ghost use Rattle.std.specs.Prelude.{◌≡◌, ◌+◌, ◌*◌, ◌<◌, ◌≤◌, ◌^◌, ◌++◌, [], List, ℕ, length, slice_range, IfOk, OnOk, OnErr};
+ghost use Rattle.std.specs.Prelude.{◌≡◌, ◌+◌, ◌*◌, ◌<◌, ◌≤◌, ◌^◌, ◌++◌, [], List, ℕ, length, slice_range, IfOk, OnOk, OnErr, is_some};
 ghost use Rattle.std.specs.Option.{option_copied};
+ghost use Rattle.std.specs.List.{list_all};
 ghost use Rattle.lba_ranges.specs.HeldBlocks.{HeldBlocks, filled, cut, IsFull, held_at, AllSized, blocks_bytes};
 
 use crate::fill::{Fill, Piece};
@@ -68,10 +69,24 @@ impl BlockList {
         self.slice(alloc, 0, self.count)
     }
 
+    /// How many blocks there are; each mapped one has the list's block length.
     pub fn blocks(&self) -> u64
-        ensures { result ≡ length self.now.items }
+        ensures count { result ≡ length self.now.items }
+        ensures sized { AllSized self.now.block_length self.now.items }
     {
         self.count
+    }
+
+    /// Each block is mapped.
+    pub fn is_mapped(&self) -> bool
+        ensures { result ≡ list_all is_some self.now.items }
+    {
+        for piece in &self.pieces {
+            if !piece.is_mapped(self.block_length) {
+                return false;
+            }
+        }
+        true
     }
 
     pub fn block_length(&self) -> u32
@@ -124,6 +139,7 @@ impl BlockList {
     pub fn read_into(&self, into: &mut Bytes) -> Result<(), OutOfMemory>
         ensures ok { OnOk result (into.new ≡ into.old ++ blocks_bytes self.now) }
         ensures err { OnErr result ((part : List ℕ) × (into.new ≡ into.old ++ part)) }
+        ensures length { length (blocks_bytes self.now) ≡ length self.now.items * self.now.block_length }
     {
         for piece in &self.pieces {
             piece.read_into(self.block_length, into)?;

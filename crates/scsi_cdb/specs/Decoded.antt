@@ -3,7 +3,7 @@ use Rattle.std.specs.Prelude.{ℕ, ◌-◌, ◌==◌, List, [], ◌∷◌, find,
 use Rattle.cm_base.specs.Fields.{byte, field, bits, bit}
 use Rattle.scsi_sense.specs.SenseCode.{SenseCode}
 use Rattle.scsi_sense.specs.Codes.{unknown_operation, bad_cdb}
-use Rattle.scsi_cdb.specs.declared.Cdb.{Cdb}
+use Rattle.scsi_cdb.specs.declared.cdb.Cdb.{Cdb}
 
 -- A row: operation code, service action where there is one, bytes of the CDB, and what the bytes ask for
 pub record Row : Type 0 where
@@ -52,6 +52,20 @@ has_action b (Some action) = bits b 1 4 0 == action
 abbrev pub is_row_of : List ℕ → Row → Bool
 is_row_of b r = (byte b 0 == r.code) && has_action b r.action
 
+-- the row of the CDB, if there is one
+abbrev pub row_of : List ℕ → Option Row
+row_of b = find (is_row_of b) table
+
+-- what the row reads, and CONTROL, which is the last byte of the CDB
+abbrev pub command_of : List ℕ → Row → Cdb
+command_of b r = r.command b
+
+abbrev pub control_of : List ℕ → Row → ℕ
+control_of b r = byte b (r.size - 1)
+
+abbrev pub named_by : List ℕ → Row → Cdb × ℕ
+named_by b r = (command_of b r, control_of b r)
+
 -- protection, more than 2048 blocks, ANCHOR or DESC
 abbrev pub has_bad_field : List ℕ → Cdb → Bool
 has_bad_field b (Cdb.Read lba count) = not (bits b 1 7 5 == 0) || nat_lt 2048 count
@@ -60,11 +74,14 @@ has_bad_field b (Cdb.Unmap length) = bit b 1 0
 has_bad_field b (Cdb.RequestSense length) = bit b 1 0
 has_bad_field b _ = false
 
--- NACA is bit 2 of the last byte
+-- NACA is bit 2 of CONTROL
+abbrev pub has_fault : List ℕ → Row → Bool
+has_fault b r = bit b (r.size - 1) 2 || has_bad_field b (r.command b)
+
 abbrev pub decoded_by : List ℕ → Option Row → Result Cdb SenseCode
 decoded_by b None = Err unknown_operation
-decoded_by b (Some r) = if bit b (r.size - 1) 2 || has_bad_field b (r.command b) then Err bad_cdb else Ok (r.command b)
+decoded_by b (Some r) = if has_fault b r then Err bad_cdb else Ok (r.command b)
 
 -- what the 16 bytes ask for
 abbrev pub decoded : List ℕ → Result Cdb SenseCode
-decoded b = decoded_by b (find (is_row_of b) table)
+decoded b = decoded_by b (row_of b)

@@ -14,4 +14,5 @@ returns-clause-sound c =
       configured = known;
       limits = write-limits config c.args.unit c.args.lba c.args.count c.args.block_length c.args.out c.in_ok-list.list c.requires.few told c.in_ok-list.ensures;
       asked = λ nexus. refl;
+      known = refl;
     }

@@ -1,5 +1,5 @@
 use Rattle.std.proofs.Common.{append_assoc}
-use Rattle.lba_ranges.proofs.Cells.{AllFull-at, items_of-more, items_bytes-append}
+use Rattle.lba_ranges.proofs.Cells.{AllFull-at, items_of-more, items_bytes-append, length-items_bytes}
 use Rattle.lba_ranges.proofs.list.BlockList.read_into.Goals as goal
 
 pub read_into-requires : goal.read_into-requires
@@ -15,3 +15,9 @@ loop-piece-preserved c =
       items_bytes-append,
     )
     (append_assoc c.args.into.now _ _)
+
+pub returns-clause-length : goal.returns-clause-length
+returns-clause-length c = rw (← c.self.view_is) (length-items_bytes _ _ c.self.invariant.1)
+
+pub returns-in_err-read_into-clause-length : goal.returns-in_err-read_into-clause-length
+returns-in_err-read_into-clause-length c = rw (← c.self.view_is) (length-items_bytes _ _ c.self.invariant.1)

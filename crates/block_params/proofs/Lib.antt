@@ -1,0 +1,4 @@
+pub mod RangeDescriptors
+pub mod Checked
+pub mod Written
+pub mod RoundTrip

@@ -1,0 +1,150 @@
+use crate::{
+    ParamFault, read_populate, read_unmap, read_write_token, write_populate, write_unmap,
+    write_write_token,
+};
+use cm_base::set_u16;
+use lba_ranges::{Range, RangeList};
+use std::alloc::Global;
+
+/// A list of zeros, but for these numbers of two bytes at these places.
+fn list_of(alloc: Global, size: usize, numbers: &[(usize, u16)]) -> Result<Vec<u8>, ParamFault> {
+    let mut list = match vec![in alloc; 0u8; size] {
+        Ok(list) => list,
+        Err(_) => return Err(ParamFault::OutOfMemory),
+    };
+    for &(place, number) in numbers {
+        if place < size && size - place >= 2 {
+            set_u16(&mut list, place, number);
+        }
+    }
+    Ok(list)
+}
+
+/// The additional sense code of a refusal, or 0.
+fn code_of(fault: ParamFault) -> u8 {
+    match fault {
+        ParamFault::Refused(sense) => sense.asc(),
+        ParamFault::OutOfMemory => 0,
+    }
+}
+
+fn refusal<T: Drop>(read: Result<T, ParamFault>) -> u8 {
+    let Err(fault) = read else {
+        return 0;
+    };
+    code_of(fault)
+}
+
+/// Lists that were made to be refused, and their neighbours, in the order of the checks.
+#[test]
+fn hostile_lists(rt: HostRuntime) -> Result<(), ParamFault> {
+    let alloc = rt.alloc();
+    let unmaps: [(usize, &[(usize, u16)], u8); 5] = [
+        (0, &[], 0),
+        (7, &[], 0x1a),
+        (8, &[(2, 0xffff)], 0),
+        (1048, &[(2, 1040)], 0x26),
+        (1047, &[(2, 1040)], 0),
+    ];
+    for (size, numbers, wanted) in unmaps {
+        let list = list_of(alloc, size, numbers)?;
+        let code = refusal(read_unmap(alloc, &list));
+        assert_eq!(rt; code, wanted, "UNMAP of {size}");
+    }
+
+    let populates: [(usize, &[(usize, u16)], u8); 12] = [
+        (15, &[], 0x1a),
+        (16, &[(0, 15)], 0x1a),
+        (16, &[(0, 14)], 0),
+        (32, &[(0, 30), (14, 17)], 0x26),
+        (32, &[(0, 30), (14, 32)], 0x1a),
+        (1056, &[(0, 1054), (14, 1040)], 0x26),
+        (16, &[(0, 14), (6, 3601)], 0x26),
+        (16, &[(0, 14), (2, 0x0200), (8, 0x0080), (10, 1)], 0x26),
+        (16, &[(0, 14), (2, 0x0200), (8, 0x0080), (10, 0xffff)], 0),
+        // (5, 0) and (5, 1); the last block and the first; too many blocks.
+        (48, &[(0, 46), (14, 32), (22, 5), (38, 5), (42, 1)], 0),
+        (
+            48,
+            &[
+                (0, 46),
+                (14, 32),
+                (16, 0xffff),
+                (18, 0xffff),
+                (20, 0xffff),
+                (22, 0xffff),
+                (26, 1),
+                (42, 1),
+            ],
+            0,
+        ),
+        (32, &[(0, 30), (14, 16), (24, 0xffff), (26, 0xffff)], 0x26),
+    ];
+    for (size, numbers, wanted) in populates {
+        let list = list_of(alloc, size, numbers)?;
+        let code = refusal(read_populate(alloc, &list));
+        assert_eq!(rt; code, wanted, "POPULATE of {size}");
+    }
+
+    let writes: [(usize, &[(usize, u16)], u8); 3] = [
+        (535, &[], 0x1a),
+        (552, &[(0, 550), (534, 16), (546, 1)], 0),
+        (568, &[(0, 566), (534, 32), (546, 1), (562, 1)], 0x26),
+    ];
+    for (size, numbers, wanted) in writes {
+        let list = list_of(alloc, size, numbers)?;
+        let code = refusal(read_write_token(alloc, &list));
+        assert_eq!(rt; code, wanted, "WRITE of {size}");
+    }
+    Ok(())
+}
+
+/// The bytes of each list by SBC-3.
+#[test]
+fn lists_of_the_standard(rt: HostRuntime) -> Result<(), ParamFault> {
+    let alloc = rt.alloc();
+    let mut ranges = RangeList::empty(alloc);
+    ranges.push(Range {
+        lba: 0x1000,
+        count: 8,
+    })?;
+    let descriptor = b"\0\0\0\0\0\0\x10\0\0\0\0\x08\0\0\0\0";
+
+    let unmap = write_unmap(alloc, &ranges)?;
+    assert_eq!(rt; unmap.as_slice()[..8], b"\0\x16\0\x10\0\0\0\0"[..]);
+    assert_eq!(rt; unmap.as_slice()[8..], descriptor[..]);
+    assert_eq!(rt; read_unmap(alloc, unmap.as_slice())?.len(), 1);
+
+    let list = read_populate(
+        alloc,
+        b"\0\x1e\0\0\0\0\0\0\0\0\0\0\0\0\0\x10\0\0\0\0\0\0\x10\0\0\0\0\x08\0\0\0\0",
+    )?;
+    assert_eq!(rt; list.timeout, 300);
+    let populate = write_populate(alloc, &list)?;
+    assert_eq!(rt;
+        populate.as_slice()[..16],
+        b"\0\x1e\x02\0\0\0\x01\x2c\0\x80\0\0\0\0\0\x10"[..]
+    );
+    assert_eq!(rt; populate.as_slice()[16..], descriptor[..]);
+
+    // IMMED and DEL_TKN, an offset of 3 blocks, a token of zeros.
+    let asked = list_of(
+        alloc,
+        552,
+        &[
+            (0, 550),
+            (2, 0x0300),
+            (14, 3),
+            (534, 16),
+            (542, 0x1000),
+            (546, 8),
+        ],
+    )?;
+    let list = read_write_token(alloc, &asked)?;
+    assert!(rt; list.immed && list.delete && list.offset == 3 && list.token == [0; 512]);
+    assert_eq!(rt;
+        write_write_token(alloc, &list)?.as_slice(),
+        asked.as_slice()
+    );
+    Ok(())
+}

@@ -1,0 +1,134 @@
+ghost use Rattle.std.specs.Prelude.{◌≡◌, length, IfOk};
+
+use super::*;
+use std::io;
+use std::io::{Read, Write};
+use std::test::Fail;
+
+/// Numbers of the calls that fail.
+fn listed(rt: &HostRuntime, call: u64) -> Result<CallList, Fail> {
+    Ok(CallList::copy(rt.alloc(), &[call])?)
+}
+
+/// Two units, of 512 and of 4096 bytes a block.
+fn two_units(rt: &HostRuntime) -> Result<Config, Fail>
+    ensures { IfOk result (λ config. length config.units ≡ 2) }
+{
+    let first = UnitConfig {
+        blocks: 100,
+        block_length: 512,
+        entries: 16,
+        quota: 100,
+        payload: 1024,
+        group: 0,
+    };
+    let second = UnitConfig {
+        block_length: 4096,
+        ..first
+    };
+    let units = UnitList::copy(rt.alloc(), &[first, second])?;
+    Ok(Config::new([7; 32], units))
+}
+
+#[test]
+fn a_unit_is_named_and_described(rt: HostRuntime) -> Result<(), Fail> {
+    let config = two_units(&rt)?.copy(rt.alloc())?;
+    assert_eq!(rt; unit_name(0x0102), [0x30, 0, 0, 0, 0, 0, 1, 2]);
+    let descriptor = [
+        0xe4, 0, 0, 0, 1, 3, 0, 8, 0x30, 0, 0, 0, 0, 0, 0, 1, 0, 0, 0, 0, 0, 0, 0, 0, 0, 0, 0, 0,
+        0, 0, 0x10, 0,
+    ];
+    assert_eq!(rt; unit_descriptor(&config, 1), descriptor);
+    assert_eq!(rt; config.secret(), &[7; 32]);
+    Ok(())
+}
+
+/// An input grows past its first window, moves to its front, and keeps its bytes at a fault.
+#[test]
+fn an_input_is_filled(rt: HostRuntime) -> Result<(), Fail> {
+    let mut bytes = vec![in rt.alloc(); 1u8; 300_000]?;
+    bytes[299_999] = 2;
+    let mut source = MemorySource::new(Bytes::from_vec(bytes), 100_000, listed(&rt, 3)?);
+    let mut input = InputBuffer::new(rt.alloc());
+    assert_eq!(rt; input.fill(&mut source), Ok(100_000));
+    assert_eq!(rt; input.fill(&mut source), Ok(100_000));
+    assert_eq!(rt; input.fill(&mut source), Err(FillFailed::Read));
+    assert_eq!(rt; input.as_slice().len(), 200_000);
+    assert!(rt; input.as_slice().len() >= 150_000);
+    input.consume(150_000);
+    assert_eq!(rt; input.fill(&mut source), Ok(100_000));
+    assert_eq!(rt; input.fill(&mut source), Ok(0));
+    assert_eq!(rt; input.as_slice().len(), 150_000);
+    assert_eq!(rt; input.as_slice().last(), Some(&2));
+    Ok(())
+}
+
+/// An output keeps what a sink did not take, and hands it on at the next flush.
+#[test]
+fn an_output_is_flushed(rt: HostRuntime) -> Result<(), Fail> {
+    let mut sink = MemorySink::new(rt.alloc(), 4, listed(&rt, 2)?);
+    let mut output = OutputBuffer::new(rt.alloc());
+    output.write(b"from ")?;
+    output.write(b"block")?;
+    assert_eq!(rt; output.flush(&mut sink), Err(WriteFailed));
+    assert_eq!(rt; sink.as_slice(), b"from".as_slice());
+    assert_eq!(rt; output.len(), 6);
+    output.write(b" to ")?;
+    assert_eq!(rt; output.flush(&mut sink), Ok(()));
+    assert!(rt; output.is_empty());
+    assert_eq!(rt; push_all(&mut sink, b"block"), Ok(()));
+    assert_eq!(rt; sink.as_slice(), b"from block to block".as_slice());
+    Ok(())
+}
+
+/// Fails at each call.
+#[derive(Drop)]
+struct Broken;
+
+impl Read for Broken {
+    fn read(&mut self, _into: &mut [u8]) -> io::Result<usize> {
+        Err(io::Error::from(io::ErrorKind::BrokenPipe))
+    }
+}
+
+/// Takes nothing.
+#[derive(Drop)]
+struct Deaf;
+
+impl Write for Deaf {
+    fn write(&mut self, _from: &[u8]) -> io::Result<usize> {
+        Ok(0)
+    }
+
+    fn flush(&mut self) -> io::Result<()> {
+        Ok(())
+    }
+}
+
+#[test]
+fn standard_input_is_read(rt: HostRuntime) -> Result<(), Fail> {
+    let mut input = InputBuffer::new(rt.alloc());
+    let mut source = StandardInput::new(b"CMTRACE1".as_slice());
+    assert_eq!(rt; input.fill(&mut source), Ok(8));
+    assert_eq!(rt; input.fill(&mut source), Ok(0));
+    assert_eq!(rt;
+        input.fill(&mut StandardInput::new(Broken)),
+        Err(FillFailed::Read)
+    );
+    assert_eq!(rt; input.as_slice(), b"CMTRACE1".as_slice());
+    Ok(())
+}
+
+#[test]
+fn standard_output_is_written(rt: HostRuntime) -> Result<(), Fail> {
+    let mut written = Vec::new(rt.alloc());
+    let mut sink = StandardOutput::new(&mut written);
+    assert_eq!(rt; push_all(&mut sink, b"reply"), Ok(()));
+    assert_eq!(rt; push_all(&mut sink, b""), Ok(()));
+    assert_eq!(rt;
+        push_all(&mut StandardOutput::new(Deaf), b"reply"),
+        Err(WriteFailed)
+    );
+    assert_eq!(rt; written.as_slice(), b"reply".as_slice());
+    Ok(())
+}

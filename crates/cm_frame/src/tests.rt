@@ -1,0 +1,190 @@
+ghost use Rattle.std.specs.Prelude.{◌≤◌, length};
+ghost use Rattle.cm_frame.specs.Grammar.{data_limit, data_in};
+
+use super::*;
+use cm_base::{Bytes, Payload};
+use scsi_sense::Sense;
+use std::test::Fail;
+
+/// How a reading ended, and at which place or after how many bytes.
+#[derive(Debug, Clone, Copy, PartialEq, Eq)]
+enum Ending {
+    Whole(usize),
+    Short,
+    Bad(u64),
+}
+
+fn ending_of<T: Drop>(parsed: Parsed<T>) -> Ending {
+    match parsed {
+        Parsed::Whole { used, .. } => Ending::Whole(used),
+        Parsed::Short => Ending::Short,
+        Parsed::Bad { place } => Ending::Bad(place),
+    }
+}
+
+/// One unit of 100 blocks of 512 bytes, with 4096 entries and no cap on what they hold.
+const HEADER: [u8; 74] = [
+    0x43, 0x4d, 0x54, 0x52, 0x41, 0x43, 0x45, 0x31, 0, 1, 2, 3, 4, 5, 6, 7, 8, 9, 10, 11, 12, 13,
+    14, 15, 16, 17, 18, 19, 20, 21, 22, 23, 24, 25, 26, 27, 28, 29, 30, 31, 0, 1, 0, 0, 0, 0, 0, 0,
+    0, 100, 0, 0, 2, 0, 0, 0, 0x10, 0, 0, 0, 0, 0, 0, 0, 0, 100, 0x10, 0, 0, 0, 0, 0, 0, 0,
+];
+
+/// How a header ends in which one byte is changed.
+fn fault(rt: &HostRuntime, header: &[u8], at: usize, byte: u8) -> Result<Ending, Fail> {
+    let mut changed = header.to_vec(rt.alloc())?;
+    if let Some(old) = changed.get_mut(at) {
+        *old = byte;
+    }
+    Ok(ending_of(read_header(rt.alloc(), changed.as_slice())?))
+}
+
+/// A header is read, and written as it was.
+fn is_read_and_written(rt: &HostRuntime, header: &[u8]) -> Result<bool, Fail> {
+    let Parsed::Whole { value, used } = read_header(rt.alloc(), header)? else {
+        return Ok(false);
+    };
+    let same = write_header(rt.alloc(), &value)?.as_slice() == header;
+    Ok(same && used == header.len() && value.units() == 1 && value.secret()[31] == 31)
+}
+
+#[test]
+fn a_header_is_read_and_written(rt: HostRuntime) -> Result<(), Fail> {
+    assert!(rt; is_read_and_written(&rt, &HEADER)?);
+    assert_eq!(rt;
+        ending_of(read_header(rt.alloc(), &HEADER[..41])?),
+        Ending::Short
+    );
+    assert_eq!(rt;
+        ending_of(read_header(rt.alloc(), &HEADER[..73])?),
+        Ending::Short
+    );
+    // A byte, what stands there, and the place of the field that it breaks.
+    let faults = [
+        (7, 0x32, 0),
+        (41, 0, 40),
+        (41, 17, 40),
+        (49, 0, 42),
+        (53, 1, 50),
+        (54, 1, 54),
+        (65, 101, 58),
+        (66, 0, 66),
+        (70, 16, 70),
+        (73, 1, 71),
+    ];
+    for (at, byte, place) in faults {
+        assert_eq!(rt;
+            fault(&rt, &HEADER, at, byte)?,
+            Ending::Bad(place),
+            "at {at}"
+        );
+    }
+    Ok(())
+}
+
+/// Initiator 1 asks unit 0 at moment 0 to write two blocks of 512 bytes from block 0 on.
+const WRITE: [u8; 35] = [
+    1, 0, 0, 0, 1, 0, 0, 0, 0, 0, 0, 0, 0, 0, 0, 4, 0, 0, 0, 0x8a, 0, 0, 0, 0, 0, 0, 0, 0, 0, 0, 0,
+    0, 2, 0, 0,
+];
+
+#[test]
+fn items_are_read_and_written(rt: HostRuntime) -> Result<(), Fail> {
+    let mut bytes = Bytes::copy(rt.alloc(), &WRITE)?;
+    bytes.extend(&[0x11; 512])?;
+    bytes.extend(&[0x22; 512])?;
+    let Parsed::Whole { value, used } = read_item(rt.alloc(), bytes.as_slice())? else {
+        return Err(Fail::new("no item"));
+    };
+    assert_eq!(rt; used, 1059);
+    assert_eq!(rt;
+        write_item(rt.alloc(), &value)?.as_slice(),
+        bytes.as_slice()
+    );
+    let TraceItem::Begin { request, .. } = value else {
+        return Err(Fail::new("no command"));
+    };
+    assert_eq!(rt; request.cdb[0], 0x8a);
+    assert_eq!(rt; request.out.as_slice(), &bytes.as_slice()[35..]);
+    assert_eq!(rt;
+        write_request(rt.alloc(), &request)?.as_slice(),
+        &bytes.as_slice()[13..]
+    );
+    let found = ending_of(read_request(rt.alloc(), &bytes.as_slice()[13..])?);
+    assert_eq!(rt; found, Ending::Whole(1046));
+    Ok(())
+}
+
+#[test]
+fn items_are_judged(rt: HostRuntime) -> Result<(), Fail> {
+    let mut long = WRITE;
+    long[13] = 0xff;
+    let run = [2, 0, 0, 0, 1, 0, 0, 0, 0, 0, 0, 0, 5];
+    let pump = [3, 0, 7, 0, 0, 0, 0, 0, 0, 0, 5];
+    let items: [(&[u8], Ending); 9] = [
+        (&[], Ending::Short),
+        (&[4], Ending::Bad(0)),
+        (&WRITE[..16], Ending::Short),
+        (&WRITE, Ending::Short),
+        (&long[..17], Ending::Bad(13)),
+        (&run, Ending::Whole(13)),
+        (&run[..12], Ending::Short),
+        (&pump, Ending::Whole(11)),
+        (&pump[..10], Ending::Short),
+    ];
+    for (bytes, wanted) in items {
+        let found = ending_of(read_item(rt.alloc(), bytes)?);
+        assert_eq!(rt; found, wanted, "{bytes:?}");
+    }
+    // Data of 8,388,609 bytes, and of FFFFFFFFh.
+    for length in [[0, 0x80, 0, 1], [0xff, 0xff, 0xff, 0xff]] {
+        let found = ending_of(read_request(rt.alloc(), &length)?);
+        assert_eq!(rt; found, Ending::Bad(0));
+    }
+    Ok(())
+}
+
+/// A reply, and its bytes.
+fn spelled(rt: &HostRuntime, reply: Reply, bytes: &[u8]) -> Result<bool, Fail>
+    requires { length (data_in reply) ≤ data_limit }
+{
+    let same = write_reply(rt.alloc(), &reply)?.as_slice() == bytes;
+    Ok(same && ending_of(read_reply(rt.alloc(), bytes)?) == Ending::Whole(bytes.len()))
+}
+
+#[test]
+fn replies_are_read_and_written(rt: HostRuntime) -> Result<(), Fail> {
+    let data = Payload::from_static(&[0x11, 0x22, 0x33]);
+    let sense = Sense::new(0x05, 0x24, 0x00);
+    let check = [
+        2, 0x12, 0, 0, 0, 0, 0x70, 0, 5, 0, 0, 0, 0, 0x0a, 0, 0, 0, 0, 0x24, 0, 0, 0, 0, 0,
+    ];
+    assert!(rt;
+        spelled(
+            &rt,
+            Reply::Good(data),
+            &[0, 0, 0, 0, 0, 3, 0x11, 0x22, 0x33]
+        )?
+    );
+    assert!(rt; spelled(&rt, Reply::Check(sense), &check)?);
+    assert!(rt; spelled(&rt, Reply::Busy, &[8, 0, 0, 0, 0, 0])?);
+    assert!(rt; spelled(&rt, Reply::Full, &[0x28, 0, 0, 0, 0, 0])?);
+    let mut descriptor = check;
+    descriptor[6] = 0x72;
+    let replies: [(&[u8], Ending); 10] = [
+        (&check[..23], Ending::Short),
+        (&descriptor, Ending::Bad(6)),
+        (&[1, 0, 0, 0, 0], Ending::Short),
+        (&[1, 0, 0, 0, 0, 0], Ending::Bad(0)),
+        (&[0, 0x12, 0, 0, 0, 0], Ending::Bad(1)),
+        (&[2, 0, 0, 0, 0, 0], Ending::Bad(1)),
+        (&[8, 0, 0, 0, 0, 1], Ending::Bad(2)),
+        (&[0, 0, 0, 0x80, 0, 1], Ending::Bad(2)),
+        (&[0, 0, 0, 0x80, 0, 0], Ending::Short),
+        (&[0, 0, 0, 0, 0, 2, 1], Ending::Short),
+    ];
+    for (bytes, wanted) in replies {
+        let found = ending_of(read_reply(rt.alloc(), bytes)?);
+        assert_eq!(rt; found, wanted, "{bytes:?}");
+    }
+    Ok(())
+}

@@ -1,0 +1,3 @@
+pub mod Information
+pub mod Parts
+pub mod Statuses

@@ -1,0 +1,2 @@
+pub mod Preceded
+pub mod Copies
