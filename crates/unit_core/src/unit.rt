@@ -171,16 +171,12 @@ impl<B: Blocks + Drop> UnitOver<B> {
     {
         let unit = self.config.unit(self.unit);
         match act {
-            Act::Read { lba, count } => plans::read(self.alloc, &self.blocks, unit, *lba, *count),
-            Act::Capture { lba, count } => plans::read(
-                self.alloc,
-                &self.blocks,
-                unit,
-                *lba,
-                *count,
-            ),
-            Act::Write { lba, list } => plans::write(self.alloc, &self.blocks, unit, *lba, list),
-            Act::Put { lba, list } => plans::write(self.alloc, &self.blocks, unit, *lba, list),
+            Act::Read { lba, count } | Act::Capture { lba, count } => {
+                plans::read(self.alloc, &self.blocks, unit, *lba, *count)
+            }
+            Act::Write { lba, list } | Act::Put { lba, list } => {
+                plans::write(self.alloc, &self.blocks, unit, *lba, list)
+            }
             Act::Unmap { ranges } => plans::unmap(self.alloc, unit, ranges),
             Act::MapStatus { lba } => plans::status(self.alloc, &self.blocks, unit, *lba),
             Act::Delete { .. } => Ok(plans::answered(Answer::Done)),

@@ -1,4 +1,4 @@
-use Rattle.std.proofs.Common.{◌≡◌, ℕ, ◌∙◌, ap}
+use Rattle.std.proofs.Common.{◌≡◌, ℕ, ◌∙◌, ap, inl, inr}
 use Rattle.std.proofs.lemmas.Result.{IfOk-weaker}
 use Rattle.cm_base.specs.declared.config.UnitConfig.{UnitConfig}
 use Rattle.cm_history.specs.declared.act.Act.{Act}
@@ -16,22 +16,10 @@ returns-in-Read-clause-answer g c =
     let count = c.in-Read.count in
     let told = ap (λ (u : UnitConfig). answer_read u holds lba count) c.unit-unit.ensures.told in
     let same = told ∙ read-agrees _ _ _ _ holds lba count c.self.invariant.blocks in
-    rw (c.in-Read.is, ← c.self.view_is)
-    (IfOk-weaker c.read.result (λ (p : Plan). p.answer ≡ answer_read c.unit-unit.result holds lba count)
+    let known = IfOk-weaker c.read.result (λ (p : Plan). p.answer ≡ answer_read c.unit-unit.result holds lba count)
     (λ (p : Plan). (actor : Actor) (moment : ℕ) → p.answer ≡ answer c.self.inside.config c.self.inside.history.entries c.self.inside.unit actor moment (Act.Read lba count))
-    (λ p e actor moment. e ∙ same) c.read.ensures.answer)
-
-pub returns-in-Capture-clause-answer : goal.returns-in-Capture-clause-answer
-returns-in-Capture-clause-answer g c =
-    let holds = g.B.Blocks.holds c.self.inside.blocks in
-    let lba = c.in-Capture.lba in
-    let count = c.in-Capture.count in
-    let told = ap (λ (u : UnitConfig). answer_read u holds lba count) c.unit-unit.ensures.told in
-    let same = told ∙ read-agrees _ _ _ _ holds lba count c.self.invariant.blocks in
-    rw (c.in-Capture.is, ← c.self.view_is)
-    (IfOk-weaker c.read-in-Capture.result (λ (p : Plan). p.answer ≡ answer_read c.unit-unit.result holds lba count)
-    (λ (p : Plan). (actor : Actor) (moment : ℕ) → p.answer ≡ answer c.self.inside.config c.self.inside.history.entries c.self.inside.unit actor moment (Act.Capture lba count))
-    (λ p e actor moment. e ∙ same) c.read-in-Capture.ensures.answer)
+    (λ p e actor moment. e ∙ same) c.read.ensures.answer in
+    elim c.in-Read.is [ inl e ↦ rw (e, ← c.self.view_is) known | inr e ↦ rw (e, ← c.self.view_is) known ]
 
 pub returns-in-Write-clause-answer : goal.returns-in-Write-clause-answer
 returns-in-Write-clause-answer g c =
@@ -40,22 +28,10 @@ returns-in-Write-clause-answer g c =
     let list = c.in-Write.list in
     let told = ap (λ (u : UnitConfig). answer_write u holds lba list.items) c.unit-unit.ensures.told in
     let same = told ∙ write-agrees _ _ _ _ holds lba list.items c.self.invariant.blocks in
-    rw (c.in-Write.is, ← c.self.view_is)
-    (IfOk-weaker c.write.result (λ (p : Plan). p.answer ≡ answer_write c.unit-unit.result holds lba list.items)
+    let known = IfOk-weaker c.write.result (λ (p : Plan). p.answer ≡ answer_write c.unit-unit.result holds lba list.items)
     (λ (p : Plan). (actor : Actor) (moment : ℕ) → p.answer ≡ answer c.self.inside.config c.self.inside.history.entries c.self.inside.unit actor moment (Act.Write lba list))
-    (λ p e actor moment. e ∙ same) c.write.ensures.answer)
-
-pub returns-in-Put-clause-answer : goal.returns-in-Put-clause-answer
-returns-in-Put-clause-answer g c =
-    let holds = g.B.Blocks.holds c.self.inside.blocks in
-    let lba = c.in-Put.lba in
-    let list = c.in-Put.list in
-    let told = ap (λ (u : UnitConfig). answer_write u holds lba list.items) c.unit-unit.ensures.told in
-    let same = told ∙ write-agrees _ _ _ _ holds lba list.items c.self.invariant.blocks in
-    rw (c.in-Put.is, ← c.self.view_is)
-    (IfOk-weaker c.write-in-Put.result (λ (p : Plan). p.answer ≡ answer_write c.unit-unit.result holds lba list.items)
-    (λ (p : Plan). (actor : Actor) (moment : ℕ) → p.answer ≡ answer c.self.inside.config c.self.inside.history.entries c.self.inside.unit actor moment (Act.Put lba list))
-    (λ p e actor moment. e ∙ same) c.write-in-Put.ensures.answer)
+    (λ p e actor moment. e ∙ same) c.write.ensures.answer in
+    elim c.in-Write.is [ inl e ↦ rw (e, ← c.self.view_is) known | inr e ↦ rw (e, ← c.self.view_is) known ]
 
 pub returns-in-MapStatus-clause-answer : goal.returns-in-MapStatus-clause-answer
 returns-in-MapStatus-clause-answer g c =
