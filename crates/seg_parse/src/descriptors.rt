@@ -1,6 +1,7 @@
 ghost use Rattle.std.specs.Prelude.{◌≡◌, ◌≢◌, ◌<◌, ◌≤◌, length, IfOk, IfErr, Some, None};
 ghost use Rattle.cm_base.specs.Fields.{byte};
 ghost use Rattle.scsi_sense.specs.Codes.{unknown_cscd};
+ghost use Rattle.seg_parse.specs.CopyLists.{IsCscd, IsSegment};
 ghost use Rattle.seg_parse.specs.Descriptors.{is_named, cscd, segment, segment_fault};
 
 use crate::list::{Cscd, Segment};
@@ -45,6 +46,7 @@ pub fn read_cscd(bytes: &[u8]) -> Result<Cscd, Sense>
     requires { 32 ≤ length bytes.now }
     ensures known { IfOk result (λ _. byte bytes.now 0 ≡ 0xe4) }
     ensures read { IfOk result (λ unit. unit ≡ cscd bytes.now) }
+    ensures fits { IfOk result IsCscd }
     ensures unknown { IfErr result (λ sense. sense ≡ unknown_cscd) }
     ensures other { IfErr result (λ _. byte bytes.now 0 ≢ 0xe4) }
 {
@@ -64,6 +66,7 @@ pub fn read_segment(cscds: usize, bytes: &[u8]) -> Result<Segment, Sense>
     ensures sound { IfOk result (λ _. segment_fault cscds bytes.now ≡ None) }
     ensures read { IfOk result (λ read. read ≡ segment bytes.now) }
     ensures whole { IfOk result (λ _. 28 ≤ length bytes.now) }
+    ensures within { IfOk result (IsSegment cscds) }
     ensures fault { IfErr result (λ sense. segment_fault cscds bytes.now ≡ Some sense) }
 {
     if bytes[0] != BLOCK_TO_BLOCK {
