@@ -11,6 +11,7 @@ use scsi_sense::Sense;
 
 /// Bytes of a CSCD descriptor and of a segment descriptor.
 pub const CSCD: usize = 32;
+
 pub const SEGMENT: usize = 28;
 
 /// Identification descriptor CSCD descriptor (SPC-4).
@@ -18,6 +19,7 @@ pub const IDENTIFICATION: u8 = 0xe4;
 
 /// Block device to block device segment descriptor (SPC-4), and the bytes after its length field.
 pub const BLOCK_TO_BLOCK: u8 = 0x02;
+
 pub const SEGMENT_LENGTH: u16 = 0x0018;
 
 /// The designator is a binary NAA designator of the logical unit, of eight bytes.

@@ -15,6 +15,7 @@ const HEAD: usize = 16;
 
 /// Descriptors of one list.
 const MAX_CSCDS: usize = 16;
+
 const MAX_SEGMENTS: usize = 64;
 
 /// LIST ID USAGE of a list that is discarded after it was used, which is not supported.

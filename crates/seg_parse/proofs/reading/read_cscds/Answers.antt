@@ -10,7 +10,7 @@ pub returns-in_err-read_cscd-clause-refused : goal.returns-in_err-read_cscd-clau
 returns-in_err-read_cscd-clause-refused c =
     let told = c.in_err-read_cscd.ensures in
     let refused = cscds-refused (cscds_read c.args.count c.args.bytes.now) c.loop.units (c.args.count - c.loop.counter) (c.args.count - (c.loop.counter + 1))
-        c.loop.rest.now c.loop.invariant.read (omega arith) told.other in
+    c.loop.rest.now c.loop.invariant.read (omega arith) told.other in
     let p = err_from_is_err_and c.from_residual.result c.from_residual.ensures.1 in
     rw (p.1, p.2, told.unknown) refused
 

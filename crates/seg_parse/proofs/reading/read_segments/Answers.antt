@@ -26,7 +26,7 @@ returns-in_err-read_segment-clause-refused c =
     let some : 0 < length rest = search (rules, tests) in
     let fuel : 64 - length items ≡ suc (63 - length items) = omega (arith, some, c.loop-rest.invariant.few) in
     let refused = segments-refused (segments_read c.args.cscds 64 c.args.bytes.now) items c.args.cscds (64 - length items) (63 - length items) rest
-        c.in_err-read_segment.field-0.0 c.loop-rest.invariant.read fuel some c.in_err-read_segment.ensures.fault in
+    c.in_err-read_segment.field-0.0 c.loop-rest.invariant.read fuel some c.in_err-read_segment.ensures.fault in
     let p = err_from_is_err_and c.from_residual.result c.from_residual.ensures.1 in
     rw (p.1, p.2) refused
 
