@@ -2,6 +2,8 @@
 #![tactic(auto)]
 
 mod map;
+#[cfg(test)]
+mod tests;
 mod unit;
 
 pub use unit::PlainUnit;

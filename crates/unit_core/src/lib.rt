@@ -4,6 +4,8 @@
 mod block_plans;
 mod change;
 mod refusals;
+#[cfg(test)]
+mod tests;
 mod unit;
 
 pub use unit::{ActRefused, Unit, UnitOver};
