@@ -1,5 +1,5 @@
 -- What is written is read as the same value
-use Rattle.std.proofs.Common.{◌≡◌, ℕ, ◌+◌, ◌-◌, ◌*◌, ◌/◌, ◌%◌, ◌^◌, ◌<◌, ◌≤◌, ◌==◌, nat_lt, Bool, true, false, not, List, [], ◌∷◌, ◌++◌, length, take, drop, Option, Result, Ok, None, refl, sym, ap, ◌∙◌, arith, min, append_assoc, drop-drop}
+use Rattle.std.proofs.Common.{◌≡◌, ℕ, ◌+◌, ◌-◌, ◌*◌, ◌/◌, ◌%◌, ◌^◌, ◌<◌, ◌≤◌, ◌==◌, nat_lt, Bool, true, false, not, List, [], ◌∷◌, ◌++◌, length, take, drop, Ok, None, refl, sym, ap, ◌∙◌, arith, min, append_assoc, drop-drop}
 use Rattle.std.proofs.lemmas.Bool.{le-ltb, eq-eqb}
 use Rattle.std.proofs.lemmas.Bool.Decides.{nat_tests}
 use Rattle.std.proofs.lemmas.List.Elements.{All-head, All-tail}
@@ -8,8 +8,8 @@ use Rattle.std.specs.List.{slice_range}
 use Rattle.std.proofs.Math.Seq.{drop-append_seam, take-append_seam}
 use Rattle.cm_base.specs.Fields.{field, bit, flag, zeros}
 use Rattle.cm_base.proofs.FieldLaws.{field-moved, number-back}
-use Rattle.scsi_sense.specs.SenseCode.{SenseCode}
 use Rattle.scsi_sense.specs.Faults.{unless, or_else}
+use Rattle.scsi_sense.proofs.FaultLaws.{unless-no_faults}
 use Rattle.lba_ranges.specs.declared.ranges.Range.{Range}
 use Rattle.block_params.specs.declared.lists.PopulateList.{PopulateList}
 use Rattle.block_params.specs.declared.lists.WriteList.{WriteList}
@@ -71,16 +71,11 @@ populate_fault-none bytes timeout type = grind (arith, nat_tests)
 timeout_of-asked : (t : ℕ) → 1 ≤ t → timeout_of t ≡ t
 timeout_of-asked t some = grind (arith, nat_tests)
 
--- where there is no fault, what comes next stands
-no_fault : {A : Type 0} (a b c : Option SenseCode) (next : Result A SenseCode) → a ≡ None → b ≡ None → c ≡ None → unless (or_else a (or_else b c)) next ≡ next
-no_fault a b c next first second third =
-    ap (λ x. unless (or_else x (or_else b c)) next) first ∙ ap (λ x. unless (or_else x c) next) second ∙ ap (λ x. unless x next) third
-
 populate_read-whole : (bytes : List ℕ) (t : ℕ) (rs : List Range) → length_fault 16 bytes ≡ None → populate_fault bytes ≡ None
     → field bytes 4 7 ≡ t → 1 ≤ t → ranges_from 16 bytes ≡ rs → range_fault rs ≡ None
     → populate_read bytes ≡ Ok (record { timeout = t; ranges = rs })
 populate_read-whole bytes t rs lengths fields timeout some ranges apart =
-    no_fault (length_fault 16 bytes) (populate_fault bytes) (range_fault (ranges_from 16 bytes))
+    unless-no_faults (length_fault 16 bytes) (populate_fault bytes) (range_fault (ranges_from 16 bytes))
     (Ok (record { timeout = timeout_of (field bytes 4 7); ranges = ranges_from 16 bytes })) lengths fields (ap range_fault ranges ∙ apart)
     ∙ ap (λ x. Ok (record { timeout = x; ranges = ranges_from 16 bytes })) (ap timeout_of timeout ∙ timeout_of-asked t some)
     ∙ ap (λ x. Ok (record { timeout = t; ranges = x })) ranges
