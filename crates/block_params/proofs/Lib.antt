@@ -1,4 +1,3 @@
 pub mod RangeDescriptors
-pub mod Checked
 pub mod Written
 pub mod RoundTrip

@@ -1,18 +1,9 @@
 -- Range descriptors, one after the other
-use Rattle.std.proofs.Common.{◌≡◌, ℕ, zero, suc, ◌+◌, ◌*◌, List, [], ◌∷◌, ◌++◌, length, drop, slice_index, refl, ap, ◌∙◌, arith}
-use Rattle.std.proofs.lemmas.List.{get_or-drop}
+use Rattle.std.proofs.Common.{◌≡◌, ℕ, zero, suc, ◌+◌, ◌*◌, List, [], ◌∷◌, ◌++◌, length, drop, refl, ap, ◌∙◌, arith}
 use Rattle.byteorder.specs.Endian.{big_from}
+use Rattle.cm_base.proofs.FieldLaws.{field-moved}
 use Rattle.lba_ranges.specs.declared.ranges.Range.{Range}
 use Rattle.block_params.specs.RangesRead.{ranges_in}
-
--- a number further on
-pub big_from-drop : (k i n : ℕ) (xs : List ℕ) → big_from i n (drop k xs) ≡ big_from (k + i) n xs
-big_from-drop k i zero xs = refl
-big_from-drop k i (suc n) xs =
-    let byte : slice_index (drop k xs) i ≡ slice_index xs (k + i) = get_or-drop k xs i 0 in
-    let place : k + suc i ≡ suc (k + i) = omega arith in
-    let rest : big_from (suc i) n (drop k xs) ≡ big_from (suc (k + i)) n xs = big_from-drop k (suc i) n xs ∙ ap (λ j. big_from j n xs) place in
-    rw (byte, rest) refl
 
 pub length-ranges_in : (n : ℕ) (bytes : List ℕ) → length (ranges_in n bytes) ≡ n
 length-ranges_in zero bytes = refl
@@ -24,8 +15,8 @@ range_at at bytes = record { lba = big_from at 8 bytes; count = big_from (at + 8
 
 range_at-drop : (at next : ℕ) (bytes : List ℕ) → next ≡ 16 + at → range_at at (drop 16 bytes) ≡ range_at next bytes
 range_at-drop at next bytes is =
-    let lba : big_from at 8 (drop 16 bytes) ≡ big_from next 8 bytes = big_from-drop 16 at 8 bytes ∙ ap (λ j. big_from j 8 bytes) (omega arith) in
-    let count : big_from (at + 8) 4 (drop 16 bytes) ≡ big_from (next + 8) 4 bytes = big_from-drop 16 (at + 8) 4 bytes ∙ ap (λ j. big_from j 4 bytes) (omega arith) in
+    let lba : big_from at 8 (drop 16 bytes) ≡ big_from next 8 bytes = field-moved at 8 16 bytes ∙ ap (λ j. big_from j 8 bytes) (omega arith) in
+    let count : big_from (at + 8) 4 (drop 16 bytes) ≡ big_from (next + 8) 4 bytes = field-moved (at + 8) 4 16 bytes ∙ ap (λ j. big_from j 4 bytes) (omega arith) in
     ap (λ l. record { lba = l; count = big_from (at + 8) 4 (drop 16 bytes) }) lba ∙ ap (λ c. record { lba = big_from next 8 bytes; count = c }) count
 
 -- one more descriptor

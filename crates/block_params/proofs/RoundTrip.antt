@@ -1,15 +1,15 @@
 -- What is written is read as the same value
-use Rattle.std.proofs.Common.{◌≡◌, ℕ, ◌+◌, ◌-◌, ◌*◌, ◌/◌, ◌%◌, ◌^◌, ◌<◌, ◌≤◌, ◌==◌, nat_lt, Bool, true, false, not, List, [], ◌∷◌, ◌++◌, length, take, drop, Option, Result, Ok, None, refl, sym, ap, ◌∙◌, arith, min, append_assoc, drop-drop}
+use Rattle.std.proofs.Common.{◌≡◌, ℕ, ◌+◌, ◌-◌, ◌*◌, ◌/◌, ◌%◌, ◌^◌, ◌<◌, ◌≤◌, ◌==◌, nat_lt, Bool, true, false, not, List, [], ◌∷◌, ◌++◌, length, take, drop, Ok, None, refl, sym, ap, ◌∙◌, arith, min, append_assoc, drop-drop}
 use Rattle.std.proofs.lemmas.Bool.{le-ltb, eq-eqb}
 use Rattle.std.proofs.lemmas.Bool.Decides.{nat_tests}
 use Rattle.std.proofs.lemmas.List.Elements.{All-head, All-tail}
 use Rattle.byteorder.specs.Endian.{big_from}
-use Rattle.byteorder.specs.Numbers.{big_number-reads_back}
 use Rattle.std.specs.List.{slice_range}
 use Rattle.std.proofs.Math.Seq.{drop-append_seam, take-append_seam}
 use Rattle.cm_base.specs.Fields.{field, bit, flag, zeros}
-use Rattle.scsi_sense.specs.SenseCode.{SenseCode}
+use Rattle.cm_base.proofs.FieldLaws.{field-moved, number-back}
 use Rattle.scsi_sense.specs.Faults.{unless, or_else}
+use Rattle.scsi_sense.proofs.FaultLaws.{unless-no_faults}
 use Rattle.lba_ranges.specs.declared.ranges.Range.{Range}
 use Rattle.block_params.specs.declared.lists.PopulateList.{PopulateList}
 use Rattle.block_params.specs.declared.lists.WriteList.{WriteList}
@@ -18,15 +18,14 @@ use Rattle.block_params.specs.RangesRead.{ranges_in, ranges_length, ranges_from,
 use Rattle.block_params.specs.ListsRead.{unmap_count, unmap_read, populate_fault, timeout_of, populate_read, write_token_read}
 use Rattle.block_params.specs.ListsWritten.{descriptor, descriptors, measured, unmap_written, populate_written, write_token_written}
 use Rattle.block_params.proofs.Written.{length-descriptors, length_behind}
-use Rattle.block_params.proofs.RangeDescriptors.{big_from-drop}
 
 -- the descriptors of ranges are these ranges
 pub ranges_in-descriptors : (rs : List Range) → AreRanges rs → ranges_in (length rs) (descriptors rs) ≡ rs
 ranges_in-descriptors [] fit = refl
 ranges_in-descriptors (r ∷ rs) fit =
     let here = All-head IsRange r rs fit in
-    let lba = big_number-reads_back 8 r.lba [] here.0 in
-    let count = big_number-reads_back 4 r.count [] here.1 in
+    let lba = number-back 8 r.lba here.0 in
+    let count = number-back 4 r.count here.1 in
     ap (λ x. record { lba = x; count = big_from 8 4 (descriptor r) } ∷ ranges_in (length rs) (descriptors rs)) lba
     ∙ ap (λ x. record { lba = r.lba; count = x } ∷ ranges_in (length rs) (descriptors rs)) count
     ∙ ap (λ l. r ∷ l) (ranges_in-descriptors rs (All-tail IsRange r rs fit))
@@ -42,7 +41,7 @@ unmap_read-whole bytes n long is few =
 
 -- two bytes spell a number below 65,536
 two_bytes : (n : ℕ) → n < 65536 → n / 256 % 256 * 256 + (n % 256 * 1 + 0) ≡ n
-two_bytes n fits = big_number-reads_back 2 n [] fits
+two_bytes n fits = number-back 2 n fits
 
 pub unmap_back : (rs : List Range) → AreRanges rs → length rs ≤ 64 → unmap_read (unmap_written rs) ≡ Ok rs
 unmap_back rs fit few =
@@ -72,16 +71,11 @@ populate_fault-none bytes timeout type = grind (arith, nat_tests)
 timeout_of-asked : (t : ℕ) → 1 ≤ t → timeout_of t ≡ t
 timeout_of-asked t some = grind (arith, nat_tests)
 
--- where there is no fault, what comes next stands
-no_fault : {A : Type 0} (a b c : Option SenseCode) (next : Result A SenseCode) → a ≡ None → b ≡ None → c ≡ None → unless (or_else a (or_else b c)) next ≡ next
-no_fault a b c next first second third =
-    ap (λ x. unless (or_else x (or_else b c)) next) first ∙ ap (λ x. unless (or_else x c) next) second ∙ ap (λ x. unless x next) third
-
 populate_read-whole : (bytes : List ℕ) (t : ℕ) (rs : List Range) → length_fault 16 bytes ≡ None → populate_fault bytes ≡ None
     → field bytes 4 7 ≡ t → 1 ≤ t → ranges_from 16 bytes ≡ rs → range_fault rs ≡ None
     → populate_read bytes ≡ Ok (record { timeout = t; ranges = rs })
 populate_read-whole bytes t rs lengths fields timeout some ranges apart =
-    no_fault (length_fault 16 bytes) (populate_fault bytes) (range_fault (ranges_from 16 bytes))
+    unless-no_faults (length_fault 16 bytes) (populate_fault bytes) (range_fault (ranges_from 16 bytes))
     (Ok (record { timeout = timeout_of (field bytes 4 7); ranges = ranges_from 16 bytes })) lengths fields (ap range_fault ranges ∙ apart)
     ∙ ap (λ x. Ok (record { timeout = x; ranges = ranges_from 16 bytes })) (ap timeout_of timeout ∙ timeout_of-asked t some)
     ∙ ap (λ x. Ok (record { timeout = t; ranges = x })) ranges
@@ -101,7 +95,7 @@ populate_back list legal fit few =
     let length_is = length-descriptors rs in
     let told : field bytes 0 1 ≡ length (drop 2 bytes) = two_bytes (length (drop 2 bytes)) (omega arith) in
     let measure : ranges_length 16 bytes ≡ 16 * length rs = two_bytes (16 * length rs) (omega arith) in
-    let timeout : field bytes 4 7 ≡ list.timeout = big_number-reads_back 4 list.timeout [] (omega (arith, legal.timeout)) in
+    let timeout : field bytes 4 7 ≡ list.timeout = number-back 4 list.timeout (omega (arith, legal.timeout)) in
     populate_read-whole bytes list.timeout rs
     (length_fault-none 16 (length rs) bytes (omega arith) (omega (arith, told)) measure (omega arith) few)
     (populate_fault-none bytes (omega (arith, timeout, legal.timeout)) refl) timeout legal.timeout.0
@@ -155,9 +149,9 @@ write_token_back list legal fit few fits whole =
     let parts : length (drop 16 bytes) ≡ 520 + 16 * length rs = length_behind list.token rest ∙ omega arith in
     let told : field bytes 0 1 ≡ length (drop 2 bytes) = two_bytes (length (drop 2 bytes)) (omega (arith, parts)) in
     let measure : ranges_length 536 bytes ≡ 16 * length rs =
-    sym (big_from-drop 528 6 2 bytes) ∙ ap (big_from 6 2) behind ∙ two_bytes (16 * length rs) (omega arith) in
+    sym (field-moved 6 2 528 bytes) ∙ ap (big_from 6 2) behind ∙ two_bytes (16 * length rs) (omega arith) in
     let after : drop 536 bytes ≡ descriptors rs = sym (drop-drop 8 528 bytes) ∙ ap (drop 8) behind in
     write_token_read-whole bytes list
     (length_fault-none 536 (length rs) bytes (omega (arith, parts)) (omega (arith, told, parts)) measure (omega (arith, parts)) few)
-    (immed_of list.immed list.delete) (delete_of list.immed list.delete) (big_number-reads_back 8 list.offset [] fits)
+    (immed_of list.immed list.delete) (delete_of list.immed list.delete) (number-back 8 list.offset fits)
     (token_of list.token rest whole) (ranges_from-written 536 bytes rs fit after measure) legal

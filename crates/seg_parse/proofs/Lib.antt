@@ -1,2 +1,4 @@
 pub mod Preceded
 pub mod Copies
+pub mod Written
+pub mod RoundTrip

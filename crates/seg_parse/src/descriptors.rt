@@ -1,6 +1,7 @@
 ghost use Rattle.std.specs.Prelude.{◌≡◌, ◌≢◌, ◌<◌, ◌≤◌, length, IfOk, IfErr, Some, None};
 ghost use Rattle.cm_base.specs.Fields.{byte};
 ghost use Rattle.scsi_sense.specs.Codes.{unknown_cscd};
+ghost use Rattle.seg_parse.specs.CopyLists.{IsCscd, IsSegment};
 ghost use Rattle.seg_parse.specs.Descriptors.{is_named, cscd, segment, segment_fault};
 
 use crate::list::{Cscd, Segment};
@@ -10,6 +11,7 @@ use scsi_sense::Sense;
 
 /// Bytes of a CSCD descriptor and of a segment descriptor.
 pub const CSCD: usize = 32;
+
 pub const SEGMENT: usize = 28;
 
 /// Identification descriptor CSCD descriptor (SPC-4).
@@ -17,6 +19,7 @@ pub const IDENTIFICATION: u8 = 0xe4;
 
 /// Block device to block device segment descriptor (SPC-4), and the bytes after its length field.
 pub const BLOCK_TO_BLOCK: u8 = 0x02;
+
 pub const SEGMENT_LENGTH: u16 = 0x0018;
 
 /// The designator is a binary NAA designator of the logical unit, of eight bytes.
@@ -45,6 +48,7 @@ pub fn read_cscd(bytes: &[u8]) -> Result<Cscd, Sense>
     requires { 32 ≤ length bytes.now }
     ensures known { IfOk result (λ _. byte bytes.now 0 ≡ 0xe4) }
     ensures read { IfOk result (λ unit. unit ≡ cscd bytes.now) }
+    ensures fits { IfOk result IsCscd }
     ensures unknown { IfErr result (λ sense. sense ≡ unknown_cscd) }
     ensures other { IfErr result (λ _. byte bytes.now 0 ≢ 0xe4) }
 {
@@ -64,6 +68,7 @@ pub fn read_segment(cscds: usize, bytes: &[u8]) -> Result<Segment, Sense>
     ensures sound { IfOk result (λ _. segment_fault cscds bytes.now ≡ None) }
     ensures read { IfOk result (λ read. read ≡ segment bytes.now) }
     ensures whole { IfOk result (λ _. 28 ≤ length bytes.now) }
+    ensures within { IfOk result (IsSegment cscds) }
     ensures fault { IfErr result (λ sense. segment_fault cscds bytes.now ≡ Some sense) }
 {
     if bytes[0] != BLOCK_TO_BLOCK {

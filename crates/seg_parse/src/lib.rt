@@ -4,9 +4,11 @@
 mod descriptors;
 mod list;
 mod reading;
-
+#[cfg(test)]
+mod tests;
+mod writing;
 
 pub use list::{CopyList, Cscd, CscdList, Segment, SegmentList};
 pub use reading::read_lid1;
-
 pub use scsi_sense::ParamFault;
+pub use writing::write_lid1;

@@ -1,5 +1,6 @@
-ghost use Rattle.std.specs.Prelude.{◌≡◌, ◌+◌, ◌*◌, ◌/◌, ◌≤◌, length, IfOk, IfErr, Ok, Some, None};
+ghost use Rattle.std.specs.Prelude.{◌≡◌, ◌+◌, ◌*◌, ◌/◌, ◌≤◌, length, All, IfOk, IfErr, Ok, Some, None};
 ghost use Rattle.scsi_sense.specs.Faults.{Refuses};
+ghost use Rattle.seg_parse.specs.CopyLists.{IsCscd, IsSegment, IsCopyList};
 ghost use Rattle.seg_parse.specs.Descriptors.{cscds_read, segments_read};
 ghost use Rattle.seg_parse.specs.ListRead.{usage, cscd_length, segment_length, head_fault, lid1_read};
 
@@ -14,6 +15,7 @@ const HEAD: usize = 16;
 
 /// Descriptors of one list.
 const MAX_CSCDS: usize = 16;
+
 const MAX_SEGMENTS: usize = 64;
 
 /// LIST ID USAGE of a list that is discarded after it was used, which is not supported.
@@ -23,6 +25,8 @@ const DISCARD: u8 = 1;
 fn read_cscds(alloc: Global, count: usize, bytes: &[u8]) -> Result<CscdList, ParamFault>
     requires { 32 * count ≤ length bytes.now }
     ensures read { IfOk result (λ units. cscds_read count bytes.now ≡ Ok units) }
+    ensures count { IfOk result (λ units. length units ≡ count) }
+    ensures fit { IfOk result (All IsCscd) }
     ensures refused { IfErr result (Refuses (cscds_read count bytes.now)) }
 {
     let mut units = Sequence::empty(alloc);
@@ -38,6 +42,8 @@ fn read_cscds(alloc: Global, count: usize, bytes: &[u8]) -> Result<CscdList, Par
 fn read_segments(alloc: Global, cscds: usize, bytes: &[u8]) -> Result<SegmentList, ParamFault>
     requires { length bytes.now ≤ 1792 }
     ensures read { IfOk result (λ segments. segments_read cscds 64 bytes.now ≡ Ok segments) }
+    ensures few { IfOk result (λ segments. length segments ≤ 64) }
+    ensures within { IfOk result (All (IsSegment cscds)) }
     ensures refused { IfErr result (Refuses (segments_read cscds 64 bytes.now)) }
 {
     let mut segments = Sequence::empty(alloc);
@@ -105,6 +111,7 @@ fn measure(list: &[u8]) -> Result<(usize, usize), Sense>
 pub fn read_lid1(alloc: Global, list: &[u8]) -> Result<CopyList, ParamFault>
     ensures read { IfOk result (λ copy. lid1_read list.now ≡ Ok copy) }
     ensures refused { IfErr result (Refuses (lid1_read list.now)) }
+    ensures legal { IfOk result IsCopyList }
 {
     let (cscds, segments) = measure(list)?;
     let (_, descriptors) = list.split_at(HEAD);

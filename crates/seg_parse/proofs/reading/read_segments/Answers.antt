@@ -1,4 +1,6 @@
-use Rattle.std.proofs.Common.{◌≡◌, ◌+◌, ◌-◌, ◌<◌, [], ◌∷◌, ◌∙◌, ap, sym, suc, length, length-append, arith, rules, tests}
+use Rattle.std.proofs.Common.{All, subst, ◌≡◌, ◌+◌, ◌-◌, ◌<◌, [], ◌∷◌, ◌∙◌, ap, sym, suc, length, length-append, arith, rules, tests}
+use Rattle.std.proofs.lemmas.List.Elements.{All-push, All-nil}
+use Rattle.seg_parse.specs.CopyLists.{IsSegment}
 use Rattle.std.proofs.lemmas.Result.{err_from_is_err_and}
 use Rattle.seg_parse.specs.Descriptors.{segments_read}
 use Rattle.seg_parse.proofs.Preceded.{preceded, preceded-none, segments-more, segments-refused}
@@ -12,6 +14,8 @@ loop-rest-init c =
     record {
       read = sym (preceded-none (segments_read cscds 64 bytes))
           ∙ ap (λ s. preceded s (segments_read cscds (64 - length s) bytes)) (sym none);
+      bound = omega (arith, ap length none);
+      within = subst (All (IsSegment cscds)) (sym none) (All-nil (IsSegment cscds));
       few = omega (arith, ap length none);
     }
 
@@ -22,7 +26,7 @@ returns-in_err-read_segment-clause-refused c =
     let some : 0 < length rest = search (rules, tests) in
     let fuel : 64 - length items ≡ suc (63 - length items) = omega (arith, some, c.loop-rest.invariant.few) in
     let refused = segments-refused (segments_read c.args.cscds 64 c.args.bytes.now) items c.args.cscds (64 - length items) (63 - length items) rest
-        c.in_err-read_segment.field-0.0 c.loop-rest.invariant.read fuel some c.in_err-read_segment.ensures.fault in
+    c.in_err-read_segment.field-0.0 c.loop-rest.invariant.read fuel some c.in_err-read_segment.ensures.fault in
     let p = err_from_is_err_and c.from_residual.result c.from_residual.ensures.1 in
     rw (p.1, p.2) refused
 
@@ -40,5 +44,8 @@ loop-rest-preserved c =
       read = segments-more (segments_read c.args.cscds 64 c.args.bytes.now) items more c.in_ok-read_segment.field-0 c.args.cscds
           (64 - length items) (64 - length more) rest c.split_at.result.1.now c.loop-rest.invariant.read fuel some told.sound told.read
           c.split_at.ensures.back pushed;
+      bound = omega (arith, longer, some, c.loop-rest.invariant.few);
+      within = subst (All (IsSegment c.args.cscds)) (sym pushed)
+          (All-push (IsSegment c.args.cscds) items c.in_ok-read_segment.field-0 c.loop-rest.invariant.within told.within);
       few = omega (arith, longer, told.whole, c.loop-rest.invariant.few, c.split_at.ensures.back_len);
     }

@@ -1,5 +1,5 @@
--- A list whose lengths are right is read as its ranges are
-use Rattle.std.proofs.Common.{◌≡◌, Option, Some, None, Result, Ok, Err, ap}
+-- What comes of faults, and of what is read where there is none
+use Rattle.std.proofs.Common.{◌≡◌, Option, Some, None, Result, Ok, Err, ap, ◌∙◌}
 use Rattle.scsi_sense.specs.SenseCode.{SenseCode}
 use Rattle.scsi_sense.specs.Faults.{unless, or_else, Refuses}
 use Rattle.scsi_sense.specs.declared.fault.ParamFault.{ParamFault}
@@ -12,6 +12,11 @@ unless-none_first first second next none = ap (λ f. unless (or_else f second) n
 pub unless-made : {A B : Type 0} (make : A → B) (fault : Option SenseCode) (read value : A) → unless fault (Ok read) ≡ Ok value → unless fault (Ok (make read)) ≡ Ok (make value)
 unless-made make None read value is = let same : read ≡ value = cc in ap (λ v. Ok (make v)) same
 unless-made make (Some sense) read value is = absurd (cc)
+
+-- where there is no fault, what comes next stands
+pub unless-no_faults : {A : Type 0} (a b c : Option SenseCode) (next : Result A SenseCode) → a ≡ None → b ≡ None → c ≡ None → unless (or_else a (or_else b c)) next ≡ next
+unless-no_faults a b c next first second third =
+    ap (λ x. unless (or_else x (or_else b c)) next) first ∙ ap (λ x. unless (or_else x c) next) second ∙ ap (λ x. unless x next) third
 
 -- a refusal stays one, whatever would be made of the value
 pub Refuses-made : {A B : Type 0} (make : A → B) (fault : Option SenseCode) (read : A) (told : ParamFault) → Refuses (unless fault (Ok read)) told

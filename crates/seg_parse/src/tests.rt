@@ -1,0 +1,96 @@
+use crate::{ParamFault, read_lid1, write_lid1};
+use cm_base::set_u16;
+use std::alloc::Global;
+
+/// A list of zeros, but for these numbers of two bytes at these places.
+fn list_of(alloc: Global, size: usize, numbers: &[(usize, u16)]) -> Result<Vec<u8>, ParamFault> {
+    let mut list = match vec![in alloc; 0u8; size] {
+        Ok(list) => list,
+        Err(_) => return Err(ParamFault::OutOfMemory),
+    };
+    for &(place, number) in numbers {
+        if place < size && size - place >= 2 {
+            set_u16(&mut list, place, number);
+        }
+    }
+    Ok(list)
+}
+
+/// Additional sense code and qualifier of a refusal, or 0.
+fn code_of(fault: ParamFault) -> (u8, u8) {
+    match fault {
+        ParamFault::Refused(sense) => (sense.asc(), sense.ascq()),
+        ParamFault::OutOfMemory => (0, 0),
+    }
+}
+
+fn refusal(alloc: Global, list: &[u8]) -> (u8, u8) {
+    let Err(fault) = read_lid1(alloc, list) else {
+        return (0, 0);
+    };
+    code_of(fault)
+}
+
+/// Lists that were made to be refused, in the order of the checks.
+#[test]
+fn hostile_lists(rt: HostRuntime) -> Result<(), ParamFault> {
+    let alloc = rt.alloc();
+    let lists: [(usize, &[(usize, u16)], (u8, u8)); 14] = [
+        (15, &[], (0x1a, 0x00)),
+        (16, &[], (0, 0)),
+        (16, &[(0, 0x0008), (2, 33), (14, 1)], (0x26, 0x00)),
+        (16, &[(2, 33), (14, 1)], (0x26, 0x0b)),
+        (16, &[(2, 33)], (0x26, 0x00)),
+        (16, &[(2, 544)], (0x26, 0x06)),
+        (16, &[(10, 1820)], (0x26, 0x08)),
+        (16, &[(10, 28)], (0x1a, 0x00)),
+        (43, &[(10, 27), (16, 0x0200)], (0x1a, 0x00)),
+        (44, &[(10, 28), (16, 0x0200), (18, 0x0018)], (0x26, 0x00)),
+        (48, &[(2, 32), (16, 0xe000)], (0x26, 0x07)),
+        (
+            76,
+            &[(2, 32), (10, 28), (16, 0xe400), (48, 0x0300)],
+            (0x26, 0x09),
+        ),
+        (
+            76,
+            &[
+                (2, 32),
+                (10, 28),
+                (16, 0xe400),
+                (48, 0x0200),
+                (50, 0x0018),
+                (54, 1),
+            ],
+            (0x26, 0x00),
+        ),
+        (
+            76,
+            &[(2, 32), (10, 28), (16, 0xe400), (48, 0x0200), (50, 0x0018)],
+            (0, 0),
+        ),
+    ];
+    for (size, numbers, wanted) in lists {
+        let list = list_of(alloc, size, numbers)?;
+        assert_eq!(rt; refusal(alloc, &list), wanted, "list of {size}");
+    }
+
+    // List 7 without usage of its identifier, a unit with the name 3000000000000001h and blocks of
+    // 512 bytes, and 8 blocks of it from 1 to 2. The first list has STR, priority, PAD and CAT.
+    let asked =
+        b"\x07\x3e\0\x20\0\0\0\0\0\0\0\x1c\0\0\0\0\xe4\0\0\0\x01\x03\0\x08\x30\0\0\0\0\0\0\x01\0\0\0\0\0\0\0\0\0\0\0\0\x04\0\x02\0\x02\x01\0\x18\0\0\0\0\0\0\0\x08\0\0\0\0\0\0\0\x01\0\0\0\0\0\0\0\x02";
+    let wanted =
+        b"\x07\x18\0\x20\0\0\0\0\0\0\0\x1c\0\0\0\0\xe4\0\0\0\x01\x03\0\x08\x30\0\0\0\0\0\0\x01\0\0\0\0\0\0\0\0\0\0\0\0\0\0\x02\0\x02\0\0\x18\0\0\0\0\0\0\0\x08\0\0\0\0\0\0\0\x01\0\0\0\0\0\0\0\x02";
+    let list = read_lid1(alloc, asked)?;
+    assert_eq!(rt;
+        (list.id, list.usage, list.units.len(), list.segments.len()),
+        (7, 3, 1, 1)
+    );
+    for unit in list.units.as_slice() {
+        if unit.name.is_none() {
+            return Err(ParamFault::OutOfMemory);
+        }
+    }
+    assert_eq!(rt; write_lid1(alloc, &list)?.as_slice(), wanted.as_slice());
+    Ok(())
+}
