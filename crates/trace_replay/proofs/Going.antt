@@ -1,0 +1,81 @@
+-- How a command goes on
+use Rattle.std.proofs.Common.{◌≡◌, ℕ, List, [], ◌∷◌, ◌++◌, refl, ap, sym, ◌∙◌, subst, true, false, Bool, append-nil}
+use Rattle.std.specs.Prelude.{cond, ◌||◌, Option}
+use Rattle.cm_base.specs.Configuration.{Configuration}
+use Rattle.cm_frame.specs.declared.frame.Request.{Request}
+use Rattle.cm_history.specs.declared.act.Act.{Act}
+use Rattle.cmd_program.specs.declared.command.Command.{Command}
+use Rattle.cmd_program.specs.declared.step.Step.{Step}
+use Rattle.cmd_program.specs.declared.step.Outcome.{Outcome}
+use Rattle.cmd_program.specs.Stepping.{gave_up, gives_up}
+use Rattle.cmd_program.specs.Meaning.{StandsFor, IsOutcomeOf, MayFollow, IsNotable}
+use Rattle.cmd_program.specs.Judging.{step}
+use Rattle.cm_frame.specs.declared.frame.Reply.{Reply}
+use Rattle.trace_replay.specs.declared.nexus.Waiting.{Waiting}
+use Rattle.trace_replay.specs.Standing.{Pending, Mark, NoMark, AtBegin, AtAct, AtStep, noted, noted_at_step, next_step}
+use Rattle.trace_replay.specs.Machines.{IsCommandOf, IsNext, WentOn, HasBegun, mark_of}
+use Rattle.trace_replay.proofs.Telling.{any-append}
+
+none-of : (act : Act) → IsOutcomeOf act Outcome.NoMemory
+none-of (Act.Read lba count) = tt
+none-of _ = tt
+
+pub full-of : (act : Act) → IsOutcomeOf act Outcome.Full
+full-of (Act.Read lba count) = tt
+full-of _ = tt
+
+pub none-follows : (s : Step) → MayFollow s Outcome.NoMemory
+none-follows (Step.Do unit act) = none-of act
+none-follows (Step.Done reply) = tt
+
+pub gave-up-more : (outcomes : List Outcome) (outcome : Outcome) → gave_up (outcomes ++ outcome ∷ []) ≡ (gave_up outcomes || gives_up outcome)
+gave-up-more outcomes outcome = any-append gives_up outcomes (outcome ∷ []) ∙ ap (λ b. gave_up outcomes || b) (or-false (gives_up outcome))
+  where
+    or-false : (b : Bool) → (b || false) ≡ b
+    or-false true = refl
+    or-false false = refl
+
+or-true : (b : Bool) → (b || true) ≡ true
+or-true true = refl
+or-true false = refl
+
+pub gave-up-none : (outcomes : List Outcome) → gave_up (outcomes ++ Outcome.NoMemory ∷ []) ≡ true
+gave-up-none outcomes = gave-up-more outcomes Outcome.NoMemory ∙ or-true (gave_up outcomes)
+
+-- memory was there for the step
+pub next-there : (config : Configuration) (c : Command) (p : Pending) (next : Step) (given : Bool) → IsCommandOf config c given p
+    → next ≡ next_step step config p → IsNext config c p next given
+next-there config c p next given is same =
+    let none : p.outcomes ++ [] ≡ p.outcomes = append-nil p.outcomes in
+    record {
+      wanted = false;
+      once = λ _. refl;
+      command = record {
+        stands = subst (StandsFor config c p.initiator p.request) (sym none) is.stands;
+        gave_up = is.gave_up ∙ ap gave_up (sym none);
+      };
+      is = same ∙ ap (step config p.initiator p.request) (sym none);
+    }
+
+-- memory was wanted for it, and the command gave up
+pub next-wanted : (config : Configuration) (c : Command) (p : Pending) (next : Step) → (gave_up p.outcomes ≡ true → ⊥)
+    → StandsFor config c p.initiator p.request (p.outcomes ++ Outcome.NoMemory ∷ [])
+    → next ≡ step config p.initiator p.request (p.outcomes ++ Outcome.NoMemory ∷ []) → IsNext config c p next true
+next-wanted config c p next first stands same = record {
+  wanted = true;
+  once = λ gone. absurd (first gone);
+  command = record { stands = stands; gave_up = sym (gave-up-none p.outcomes) };
+  is = same;
+}
+
+-- a command that was begun goes on, with one of two marks
+pub begun : (config : Configuration) (initiator : ℕ) (request : Request) (waits : Option Waiting) (reply : Option Reply)
+    → ((wanted : Bool) × (gave_up [] ≡ true → wanted ≡ false)
+    × WentOn config (noted (record { initiator = initiator; request = request; outcomes = [] }) (noted_at_step (mark_of wanted))) waits reply)
+    → (mark : Mark) × HasBegun config initiator request mark waits reply
+begun config initiator request waits reply went = go went.0 went.2
+  where
+    go : (wanted : Bool) → WentOn config (noted (record { initiator = initiator; request = request; outcomes = [] }) (noted_at_step (mark_of wanted))) waits reply
+        → (mark : Mark) × HasBegun config initiator request mark waits reply
+    go true w = (AtStep, w)
+    go false w = (NoMark, w)

@@ -1,0 +1,13 @@
+pub mod Steps
+pub mod Grows
+pub mod Exits
+pub mod Telling
+pub mod Written
+pub mod Doing
+pub mod Forms
+pub mod Going
+pub mod Running
+pub mod Sizes
+pub mod Playing
+pub mod Counted
+pub mod Machining

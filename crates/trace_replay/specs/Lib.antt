@@ -1,0 +1,11 @@
+pub mod Items
+pub mod Standing
+pub mod Played
+pub mod Marks
+pub mod Replayed
+pub mod Laws
+pub mod Machines
+pub mod Counting
+pub mod Faults
+pub mod Writing
+pub mod Players

@@ -1,0 +1,83 @@
+-- Where memory may have been refused
+use Rattle.std.specs.Prelude.{ℕ, List, [], ◌∷◌, drop, Option, Some, None, is_some, Bool, true, false, ◌&&◌, ◌||◌, not, nat_lt, if◌then◌else◌}
+use Rattle.std.specs.List.{list_any}
+use Rattle.cm_base.specs.Configuration.{Configuration}
+use Rattle.cm_history.specs.declared.act.Act.{Act}
+use Rattle.cm_history.specs.declared.act.Actor.{Actor}
+use Rattle.cm_history.specs.declared.act.Entry.{Entry}
+use Rattle.cm_history.specs.History.{past_of}
+use Rattle.cm_history.specs.Operations.{would_serve}
+use Rattle.cm_frame.specs.declared.item.TraceItem.{TraceItem}
+use Rattle.cm_base.specs.declared.parsed.Parsed.{Parsed}
+use Rattle.cm_base.specs.declared.parsed.Parsed.TheVariants.{Whole}
+use Rattle.cm_frame.specs.Reading.{read_header}
+use Rattle.cmd_program.specs.declared.step.Outcome.{Outcome}
+use Rattle.cmd_program.specs.declared.step.Step.{Step}
+use Rattle.cmd_program.specs.Stepping.{Stepping, gave_up}
+use Rattle.trace_replay.specs.Items.{Placed, trace_of, items_limit}
+use Rattle.trace_replay.specs.Standing.{Pending, Standing, Mark, NoMark, AtBegin, AtAct, AtStep, at_first, waiting, has_no_room, next_step, next, fits}
+use Rattle.trace_replay.specs.Played.{mark_for, marks_behind, is_busy, replies_that}
+
+-- an End, Abort or Close that serves an operation, for which memory is never wanted
+abbrev pub ends_operation : Configuration → List Entry → Actor → ℕ → Act → Bool
+ends_operation config entries actor unit (Act.End id) = is_some (would_serve (past_of config unit entries) actor (Act.End id))
+ends_operation config entries actor unit (Act.Abort id) = is_some (would_serve (past_of config unit entries) actor (Act.Abort id))
+ends_operation config entries actor unit (Act.Close id result) =
+    is_some (would_serve (past_of config unit entries) actor (Act.Close id result))
+ends_operation config entries actor unit _ = false
+
+-- the mark says nothing
+abbrev pub is_no_mark : Mark → Bool
+is_no_mark NoMark = true
+is_no_mark _ = false
+
+-- the mark may stand at the act
+abbrev pub allowed_at_act : Configuration → List Entry → Actor → Mark → Step → Bool
+allowed_at_act config entries actor mark (Step.Done reply) = is_no_mark mark
+allowed_at_act config entries actor AtAct (Step.Do unit act) = not (ends_operation config entries actor unit act)
+allowed_at_act config entries actor AtStep (Step.Do unit act) = not (has_no_room config entries actor unit act)
+allowed_at_act config entries actor AtBegin (Step.Do unit act) = false
+allowed_at_act config entries actor NoMark (Step.Do unit act) = true
+
+-- the mark may stand at a Run of the command, and at none after the one at which it gave up
+abbrev pub allowed_at_run : Stepping → Configuration → Standing → Mark → Option Pending → Bool
+allowed_at_run step config s mark None = true
+allowed_at_run step config s mark (Some p) =
+    if gave_up p.outcomes then is_no_mark mark else allowed_at_act config s.entries (Actor.Nexus p.initiator) mark (next_step step config p)
+
+abbrev pub is_allowed : Stepping → Configuration → Standing → TraceItem → Mark → Bool
+is_allowed step config s (TraceItem.Begin initiator moment request) AtAct = false
+is_allowed step config s (TraceItem.Begin initiator moment request) mark = true
+is_allowed step config s (TraceItem.Run initiator moment) mark = allowed_at_run step config s mark (waiting initiator s.pending)
+is_allowed step config s (TraceItem.Pump unit moment) mark = true
+
+-- each mark may stand where it stands
+abbrev pub are_allowed : Stepping → Configuration → Standing → List Placed → List Mark → Bool
+are_allowed step config s [] marks = true
+are_allowed step config s (x ∷ xs) marks =
+    if fits config s x.item
+    then is_allowed step config s x.item (mark_for x.item marks)
+    && are_allowed step config (next step config s x.item (mark_for x.item marks)) xs (marks_behind x.item marks)
+    else true
+
+-- bytes that stand at a place, where `n` more items are allowed
+abbrev pub may_mark_from : Stepping → Configuration → Standing → ℕ → ℕ → List ℕ → List Mark → Bool
+may_mark_from step config s n place bytes marks = are_allowed step config s (trace_of n place bytes).items marks
+
+abbrev pub allowed_after : Stepping → Parsed Configuration → List ℕ → List Mark → Bool
+allowed_after step (Whole config used) bytes marks = may_mark_from step config at_first items_limit used (drop used bytes) marks
+allowed_after step _ bytes marks = true
+
+-- the marks may stand at the items of this input
+abbrev pub may_mark : Stepping → List ℕ → List Mark → Bool
+may_mark step bytes marks = allowed_after step (read_header bytes) bytes marks
+
+-- ---- what marks show
+
+abbrev pub is_no_memory : Outcome → Bool
+is_no_memory Outcome.NoMemory = true
+is_no_memory _ = false
+
+-- a reply is BUSY, or a command that still waits met want of memory
+abbrev pub met_want : Standing → Bool
+met_want s = nat_lt 0 (replies_that is_busy s) || list_any (λ (p : Pending). list_any is_no_memory p.outcomes) s.pending

@@ -1,0 +1,102 @@
+-- A trace, played item after item from the empty history
+use Rattle.std.specs.Prelude.{ℕ, List, [], ◌∷◌, ◌++◌, length, drop, flat_map, count_by, Bool, true, false, if◌then◌else◌}
+use Rattle.cm_base.specs.Configuration.{Configuration}
+use Rattle.cm_frame.specs.declared.frame.Reply.{Reply}
+use Rattle.cm_frame.specs.declared.item.TraceItem.{TraceItem}
+use Rattle.cm_base.specs.declared.parsed.Parsed.{Parsed}
+use Rattle.cm_base.specs.declared.parsed.Parsed.TheVariants.{Whole, Short, Bad}
+use Rattle.byteorder.specs.Endian.{big_bytes}
+use Rattle.cm_frame.specs.Grammar.{reply_bytes}
+use Rattle.cm_frame.specs.Reading.{read_header}
+use Rattle.cmd_program.specs.Stepping.{Stepping}
+use Rattle.trace_replay.specs.declared.summary.Summary.{Summary}
+use Rattle.trace_replay.specs.Items.{Ending, Torn, BadHeader, BadRecord, Placed, trace_of, items_limit}
+use Rattle.trace_replay.specs.Standing.{Standing, Record, Mark, NoMark, at_first, next, fits}
+
+-- how things stand at the end, and why it is the end
+pub record Played : Type 0 where
+  pub standing : Standing
+  pub ending : Ending
+
+-- There is a mark for each Begin and each Run, and none for a Pump. Marks that are not there say nothing.
+abbrev pub first_mark : List Mark → Mark
+first_mark [] = NoMark
+first_mark (m ∷ marks) = m
+
+abbrev pub later_marks : List Mark → List Mark
+later_marks [] = []
+later_marks (m ∷ marks) = marks
+
+abbrev pub mark_for : TraceItem → List Mark → Mark
+mark_for (TraceItem.Pump unit moment) marks = NoMark
+mark_for item marks = first_mark marks
+
+abbrev pub marks_behind : TraceItem → List Mark → List Mark
+marks_behind (TraceItem.Pump unit moment) marks = marks
+marks_behind item marks = later_marks marks
+
+-- the items one after another, up to the first that does not fit
+abbrev pub play : Stepping → Configuration → Standing → List Placed → Ending → List Mark → Played
+play step config s [] ending marks = record { standing = s; ending = ending }
+play step config s (x ∷ xs) ending marks =
+    if fits config s x.item
+    then play step config (next step config s x.item (mark_for x.item marks)) xs ending (marks_behind x.item marks)
+    else record { standing = s; ending = BadRecord x.place }
+
+-- bytes that stand at a place, where `n` more items are allowed
+abbrev pub played_from : Stepping → Configuration → Standing → ℕ → ℕ → List ℕ → List Mark → Played
+played_from step config s n place bytes marks =
+    play step config s (trace_of n place bytes).items (trace_of n place bytes).ending marks
+
+abbrev pub never_began : Ending → Played
+never_began ending = record { standing = at_first; ending = ending }
+
+abbrev pub played_after : Stepping → Parsed Configuration → List ℕ → List Mark → Played
+played_after step (Whole config used) bytes marks = played_from step config at_first items_limit used (drop used bytes) marks
+played_after step Short bytes marks = never_began (Torn 0)
+played_after step (Bad place) bytes marks = never_began (BadHeader place)
+
+-- a whole input: a header, and then items
+abbrev pub played : Stepping → List ℕ → List Mark → Played
+played step bytes marks = played_after step (read_header bytes) bytes marks
+
+-- ---- the output and the counts
+
+-- the initiator in four bytes, and the reply
+abbrev pub record_bytes : Record → List ℕ
+record_bytes r = big_bytes 4 r.initiator ++ reply_bytes r.reply
+
+abbrev pub output_of : Standing → List ℕ
+output_of s = flat_map record_bytes s.replies
+
+abbrev pub is_good : Reply → Bool
+is_good (Reply.Good bytes) = true
+is_good _ = false
+
+abbrev pub is_check : Reply → Bool
+is_check (Reply.Check sense) = true
+is_check _ = false
+
+abbrev pub is_busy : Reply → Bool
+is_busy Reply.Busy = true
+is_busy _ = false
+
+abbrev pub is_task_set_full : Reply → Bool
+is_task_set_full Reply.Full = true
+is_task_set_full _ = false
+
+-- how many of the replies are such
+abbrev pub replies_that : (Reply → Bool) → Standing → ℕ
+replies_that test s = count_by (λ (r : Record). test r.reply) s.replies
+
+abbrev pub summary_of : Standing → Summary
+summary_of s = record {
+  records = s.items;
+  replies = length s.replies;
+  good = replies_that is_good s;
+  check = replies_that is_check s;
+  busy = replies_that is_busy s;
+  full = replies_that is_task_set_full s;
+  steps = length s.entries;
+  bytes = length (output_of s);
+}

@@ -1,0 +1,58 @@
+-- What a replay owes, by its answer
+use Rattle.std.specs.Prelude.{◌≡◌, ℕ, List, [], Option, Result, Ok, Err, ◌⊎◌, IfSome, IsTrue}
+use Rattle.std.specs.Io.KnownBytes.{Consumes, Appends}
+use Rattle.cm_base.specs.Outside.{Faulted, IsBeginning}
+use Rattle.cmd_program.specs.Stepping.{Stepping}
+use Rattle.trace_replay.specs.declared.summary.Summary.{Summary}
+use Rattle.trace_replay.specs.declared.fault.ReplayFault.{ReplayFault}
+use Rattle.trace_replay.specs.declared.fault.ReplayFault.TheVariants.{ReadFault, WriteFault, OutOfMemory}
+use Rattle.trace_replay.specs.Items.{Done, Torn, BadHeader, BadRecord, Records, Ending}
+use Rattle.trace_replay.specs.Standing.{Mark}
+use Rattle.trace_replay.specs.Played.{Played, played, output_of, summary_of}
+use Rattle.trace_replay.specs.Marks.{may_mark, met_want}
+
+-- The bytes that a replay is judged by are all that the source had left; where a pull failed, those that were pulled.
+abbrev pub IsInput : Option (List ℕ) → Option (List ℕ) → List ℕ → Result Summary ReplayFault → Type 0
+IsInput left rest bytes (Err ReadFault) = Consumes left rest bytes
+IsInput left rest bytes _ = IfSome left (λ all. bytes ≡ all)
+
+-- all replies of the trace were written, and it ended so
+abbrev pub EndsSo : Played → List ℕ → Ending → Type 0
+EndsSo p pushed ending = (p.ending ≡ ending) × (pushed ≡ output_of p.standing)
+
+-- by its answer, what was written and how the trace ended
+abbrev pub IsAnswer : Played → List ℕ → Result Summary ReplayFault → Type 0
+IsAnswer p pushed (Ok summary) = EndsSo p pushed Done × (summary ≡ summary_of p.standing)
+IsAnswer p pushed (Err (ReplayFault.Torn place)) = EndsSo p pushed (Torn place)
+IsAnswer p pushed (Err (ReplayFault.BadHeader place)) = EndsSo p pushed (BadHeader place)
+IsAnswer p pushed (Err (ReplayFault.BadRecord place)) = EndsSo p pushed (BadRecord place)
+IsAnswer p pushed (Err ReplayFault.Records) = EndsSo p pushed Records
+IsAnswer p pushed (Err ReadFault) = pushed ≡ output_of p.standing
+IsAnswer p pushed (Err WriteFault) = IsBeginning pushed (output_of p.standing)
+IsAnswer p pushed (Err OutOfMemory) = IsBeginning pushed (output_of p.standing)
+
+-- A trace that ends well, where memory is never refused, is answered so, or a reply or a waiting command shows that memory was refused.
+abbrev pub IsCompleteBy : Played → Played → List ℕ → Result Summary ReplayFault → Type 0
+IsCompleteBy free marked pushed (Err ReadFault) = Unit {0}
+IsCompleteBy free marked pushed (Err WriteFault) = Unit {0}
+IsCompleteBy free marked pushed (Err OutOfMemory) = Unit {0}
+IsCompleteBy free marked pushed answer = free.ending ≡ Done → IsAnswer free pushed answer ⊎ IsTrue (met_want marked.standing)
+
+-- The bytes, the marks and what was written, such that the answer is that of the trace.
+pub record Replayed (step : Stepping) (left rest taken given : Option (List ℕ)) (answer : Result Summary ReplayFault) : Type 0 where
+  pub bytes : List ℕ
+  pub marks : List Mark
+  pub pushed : List ℕ
+  pub input : IsInput left rest bytes answer
+  pub output : Appends taken given pushed
+  pub allowed : IsTrue (may_mark step bytes marks)
+  pub ending : IsAnswer (played step bytes marks) pushed answer
+  pub complete : IsCompleteBy (played step bytes []) (played step bytes marks) pushed answer
+
+-- ---- the faults of the outside
+
+-- A failed read is answered only where the source counted one, and a failed write only where the sink did.
+abbrev pub IsCounted : ℕ → ℕ → ℕ → ℕ → Result Summary ReplayFault → Type 0
+IsCounted reads reads_after writes writes_after (Err ReadFault) = Faulted reads reads_after × (writes_after ≡ writes)
+IsCounted reads reads_after writes writes_after (Err WriteFault) = (reads_after ≡ reads) × Faulted writes writes_after
+IsCounted reads reads_after writes writes_after _ = (reads_after ≡ reads) × (writes_after ≡ writes)

@@ -1,0 +1,15 @@
+// A trace, played item after item.
+#![tactic(auto)]
+
+mod fault;
+mod machine;
+mod nexus;
+mod player;
+mod reply;
+mod summary;
+mod trace;
+mod units;
+
+pub use fault::ReplayFault;
+pub use summary::Summary;
+pub use trace::replay;
