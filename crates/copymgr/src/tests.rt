@@ -1,0 +1,146 @@
+use crate::rows::{ROWS, Row};
+use crate::status::Status;
+use crate::top::top;
+use cm_base::{Bytes, CallList, MemorySink, MemorySource, Word};
+use std::alloc::Global;
+use std::test::Fail;
+
+/// The bytes of pieces of hex text.
+fn bytes_of(alloc: Global, pieces: &[&str]) -> Result<Bytes, Fail> {
+    let mut bytes = Bytes::empty(alloc);
+    for piece in pieces {
+        match piece.split_once('*') {
+            Some((byte, count)) => {
+                let byte = hex::decode(alloc, byte)?;
+                for _ in 0..count.parse::<u16>()? {
+                    bytes.extend(&byte)?;
+                }
+            }
+            None => bytes.extend(&hex::decode(alloc, *piece)?)?,
+        }
+    }
+    Ok(bytes)
+}
+
+/// Plays a trace by pulls and pushes of so many bytes, of which those listed fail.
+fn played(
+    alloc: Global,
+    row: &Row,
+    step: usize,
+    pulls: CallList,
+    pushes: CallList,
+) -> Result<(Status, MemorySink), Fail>
+    requires { 0 < step }
+{
+    let mut words = Vec::new(alloc);
+    words.push(Word::from_text(alloc, "replay")?)?;
+    let mut input = MemorySource::new(bytes_of(alloc, row.trace)?, step, pulls);
+    let mut output = MemorySink::new(alloc, step, pushes);
+    let status = top(alloc, &words, &mut input, &mut output);
+    Ok((status, output))
+}
+
+/// The list of one number.
+fn only(alloc: Global, call: u64) -> Result<CallList, Fail> {
+    let mut calls = CallList::empty(alloc);
+    calls.push(call)?;
+    Ok(calls)
+}
+
+#[test]
+fn worked_traces(rt: HostRuntime) -> Result<(), Fail> {
+    let alloc = rt.alloc();
+    for row in &ROWS {
+        for step in [1, 7, 4096] {
+            let none = CallList::empty(alloc);
+            let (status, output) = played(alloc, row, step, none, CallList::empty(alloc))?;
+            let replies = bytes_of(alloc, row.replies)?;
+            assert!(rt; status == row.status, "{}: {status}", row.name);
+            assert!(rt; output.as_slice() == replies.as_slice(), "{}", row.name);
+        }
+    }
+    Ok(())
+}
+
+/// Each pull of 'write then read' fails once: what was taken are the replies to what was pulled.
+#[test]
+fn failing_pulls(rt: HostRuntime) -> Result<(), Fail> {
+    let alloc = rt.alloc();
+    let row = &ROWS[3];
+    let replies = bytes_of(alloc, row.replies)?;
+    for call in 1..14u64 {
+        let failing = only(alloc, call)?;
+        let (status, output) = played(alloc, row, 100, failing, CallList::empty(alloc))?;
+        assert!(rt; status == Status::ReadFault, "{call}: {status}");
+        let taken = match call {
+            ..=12 => 0,
+            _ => replies.len(),
+        };
+        assert!(rt; output.as_slice() == &replies.as_slice()[..taken], "{call}");
+    }
+    Ok(())
+}
+
+/// Each push fails once: what was taken is a beginning of the replies.
+#[test]
+fn failing_pushes(rt: HostRuntime) -> Result<(), Fail> {
+    let alloc = rt.alloc();
+    let row = &ROWS[3];
+    let replies = bytes_of(alloc, row.replies)?;
+    for call in 1..17u64 {
+        let failing = only(alloc, call)?;
+        let (status, output) = played(alloc, row, 100, CallList::empty(alloc), failing)?;
+        assert!(rt; status == Status::WriteFault, "{call}: {status}");
+        assert!(rt; replies.as_slice().starts_with(output.as_slice()), "{call}");
+        assert!(rt; output.as_slice().len() < replies.len(), "{call}");
+    }
+    Ok(())
+}
+
+/// Other words are Usage, and nothing is taken.
+#[test]
+fn other_words(rt: HostRuntime) -> Result<(), Fail> {
+    let alloc = rt.alloc();
+    let lines: [&[&str]; 7] = [
+        &[],
+        &["Replay"],
+        &["replay", "replay"],
+        &["--help"],
+        &["--version"],
+        &["gen", "1"],
+        &["serve", "127.0.0.1:3260", "1"],
+    ];
+    for line in lines {
+        let mut words = Vec::new(alloc);
+        for word in line {
+            words.push(Word::from_text(alloc, word)?)?;
+        }
+        let trace = bytes_of(alloc, ROWS[3].trace)?;
+        let mut input = MemorySource::new(trace, 4096, CallList::empty(alloc));
+        let mut output = MemorySink::new(alloc, 4096, CallList::empty(alloc));
+        assert!(rt; top(alloc, &words, &mut input, &mut output) == Status::Usage);
+        assert!(rt; output.as_slice().is_empty());
+    }
+    Ok(())
+}
+
+/// The lines on standard error and the exit statuses.
+#[test]
+fn statuses(rt: HostRuntime) -> Result<(), Fail> {
+    let all = [
+        (Status::Done, 0, "done"),
+        (Status::ReadFault, 1, "read failed"),
+        (Status::WriteFault, 2, "write failed"),
+        (Status::OutOfMemory, 3, "out of memory"),
+        (Status::Torn(74), 4, "input ends inside the part at byte 74"),
+        (Status::BadHeader(8), 5, "bad header at byte 8"),
+        (Status::Usage, 6, "use replay"),
+        (Status::BadRecord(109), 7, "bad record at byte 109"),
+        (Status::Records, 8, "too many records"),
+    ];
+    for (status, code, line) in all {
+        assert!(rt; status.code() == code);
+        assert!(rt; status.to_string(rt.alloc())?.as_str() == line);
+    }
+    Ok(())
+}
