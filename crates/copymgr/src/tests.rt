@@ -1,3 +1,5 @@
+ghost use Rattle.std.specs.Prelude.{◌<◌};
+
 use crate::rows::{ROWS, Row};
 use crate::status::Status;
 use crate::top::top;
