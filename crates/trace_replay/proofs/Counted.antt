@@ -225,7 +225,7 @@ module _ (left rest taken given : Option (List ℕ)) (p : Player) (is : IsAt lef
   answered-at m r h fits given' p' machine input place summary (Err e) w =
       let all : output_of (behind h.mark) ≡ output_of is.s ++ record_bytes r = ap (flat_map record_bytes) h.replied ∙ output-more is.s.replies r in
       let waits : IsWritten taken given (p.output ++ record_bytes r) (output_of (behind h.mark)) =
-          subst (IsWritten taken given (p.output ++ record_bytes r)) (sym all) (written-gathered taken given given p.output (output_of is.s) (record_bytes r) (p.output ++ record_bytes r) refl is.loop.written) in
+      subst (IsWritten taken given (p.output ++ record_bytes r)) (sym all) (written-gathered taken given given p.output (output_of is.s) (record_bytes r) (p.output ++ record_bytes r) refl is.loop.written) in
       ends-begun left rest taken given is.config (behind h.mark) (items_limit - (p.summary.records + 1)) (p.place + used) (drop used p.input) (p.output ++ record_bytes r)
       (loop-next (r ∷ []) m h given (items_limit - (p.summary.records + 1)) (p.place + used) (drop used p.input) (p.output ++ record_bytes r)
       (one-less (r ∷ []) m h (with_item p.summary 0) refl) refl refl waits)

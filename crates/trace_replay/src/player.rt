@@ -111,7 +111,7 @@ impl Player {
         requires left { 0 < left_of self.old }
         ensures turned { (left taken : Option (List ℕ)) → IsAt left (I.left input.old) taken (O.taken output.old) self.old
             → MatchResult result (HasTurned left (I.left input.new) taken (O.taken output.new) self.new)
-                (λ e. Replayed step left (I.left input.new) taken (O.taken output.new) (Err e)) }
+            (λ e. Replayed step left (I.left input.new) taken (O.taken output.new) (Err e)) }
         ensures counted { IsCountedBy (I.read_faults input.old) (I.read_faults input.new) (O.write_faults output.old) (O.write_faults output.new) result }
         ensures records { IfOk result (λ more. more ≡ true → self.new.summary.records ≡ self.old.summary.records + 1) }
     {
@@ -150,7 +150,7 @@ impl Player {
     ) -> Result<bool, ReplayFault>
         ensures more { (left taken : Option (List ℕ)) → IsAt left (I.left input.old) taken (O.taken output.old) self.old
             → MatchResult result (HasMore left (I.left input.new) taken (O.taken output.new) self.new)
-                (λ e. Replayed step left (I.left input.new) taken (O.taken output.new) (Err e)) }
+            (λ e. Replayed step left (I.left input.new) taken (O.taken output.new) (Err e)) }
         ensures counted { IsCountedBy (I.read_faults input.old) (I.read_faults input.new) (O.write_faults output.old) (O.write_faults output.new) result }
         ensures summary { self.new.summary ≡ self.old.summary }
     {

@@ -12,9 +12,10 @@ returns-then-not-branch-clause-played g c = λ left taken is.
 pub loop-self-preserved : goal.loop-self-preserved
 loop-self-preserved g c =
     let t = c.in_ok-turn.ensures.turned None None (any-player None None (g.I.Source.left c.loop-self.input) (g.O.Sink.taken c.loop-self.output) c.loop-self.self c.loop-self.invariant.1) in
-    let more = c.in_ok-turn.ensures.records c.if-not-branch.false in
-    (λ left taken is. (c.in_ok-turn.ensures.turned left taken (c.loop-self.invariant.0 left taken is)).is,
-    any-player (g.I.Source.left c.turn.new.input) (g.O.Sink.taken c.turn.new.output) None None c.turn.new.self t.is,
-    c.in_ok-turn.ensures.counted.0 ∙ c.loop-self.invariant.2,
-    c.in_ok-turn.ensures.counted.1 ∙ c.loop-self.invariant.3,
-    omega (arith, more, c.loop-self-test.true))
+    let more = c.in_ok-turn.ensures.records c.if-not-branch.false in (
+      λ left taken is. (c.in_ok-turn.ensures.turned left taken (c.loop-self.invariant.0 left taken is)).is,
+      any-player (g.I.Source.left c.turn.new.input) (g.O.Sink.taken c.turn.new.output) None None c.turn.new.self t.is,
+      c.in_ok-turn.ensures.counted.0 ∙ c.loop-self.invariant.2,
+      c.in_ok-turn.ensures.counted.1 ∙ c.loop-self.invariant.3,
+      omega (arith, more, c.loop-self-test.true),
+    )

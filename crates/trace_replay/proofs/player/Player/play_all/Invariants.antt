@@ -6,7 +6,7 @@ use Rattle.trace_replay.proofs.player.Player.play_all.Given as goal
 abbrev pub invariant-loop-self : goal.invariant-loop-self
 invariant-loop-self g l =
     ((left taken : Option (List ℕ)) → IsAt left (g.I.Source.left l.initial.input) taken (g.O.Sink.taken l.initial.output) l.initial.self
-        → IsAt left (g.I.Source.left l.input) taken (g.O.Sink.taken l.output) l.self)
+    → IsAt left (g.I.Source.left l.input) taken (g.O.Sink.taken l.output) l.self)
     × IsPlayer l.self
     × (g.I.Source.read_faults l.input ≡ g.I.Source.read_faults l.initial.input)
     × (g.O.Sink.write_faults l.output ≡ g.O.Sink.write_faults l.initial.output)

@@ -6,9 +6,10 @@ use Rattle.trace_replay.proofs.units.Units.new.Goals as goal
 
 pub loop-unit-preserved : goal.loop-unit-preserved
 loop-unit-preserved c =
-    let new = c.in_ok-push.ensures.items in
-    (omega (arith, ap length new, length-append c.loop-unit.units.items (c.in_ok-new.field-0 ∷ []), c.loop-unit.invariant.0),
-    λ u value e. pushed-each c.loop-unit.units.items c.in_ok-new.field-0 (λ (n : ℕ) (v : unit.Standing). v ≡ record { config = c.args.config.now; unit = n; entries = [] })
-    c.loop-unit.invariant.1
-    (c.in_ok-new.ensures ∙ ap (λ (n : ℕ). record { config = c.args.config.now; unit = n; entries = [] }) (sym c.loop-unit.invariant.0)) u value
-    (sym (ap (λ l. slice_get l u) new) ∙ e))
+    let new = c.in_ok-push.ensures.items in (
+      omega (arith, ap length new, length-append c.loop-unit.units.items (c.in_ok-new.field-0 ∷ []), c.loop-unit.invariant.0),
+      λ u value e. pushed-each c.loop-unit.units.items c.in_ok-new.field-0 (λ (n : ℕ) (v : unit.Standing). v ≡ record { config = c.args.config.now; unit = n; entries = [] })
+          c.loop-unit.invariant.1
+          (c.in_ok-new.ensures ∙ ap (λ (n : ℕ). record { config = c.args.config.now; unit = n; entries = [] }) (sym c.loop-unit.invariant.0)) u value
+          (sym (ap (λ l. slice_get l u) new) ∙ e),
+    )
