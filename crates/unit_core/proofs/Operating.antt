@@ -1,0 +1,74 @@
+-- What holds of each operation of a unit
+use Rattle.std.proofs.Common.{◌≡◌, ℕ, zero, suc, ◌+◌, ◌-◌, ◌*◌, ◌<◌, ◌≤◌, List, [], ◌∷◌, ◌++◌, length, take, drop, refl, ap, sym, ◌∙◌, subst, arith, true, false, Bool, inl, inr, length-append}
+use Rattle.std.specs.Prelude.{Option, Some, None, ◌⊎◌, ◌==◌, ◌&&◌, not, map, min, is_some, nat_lt, nat_le, ◌^◌, option_map, if◌then◌else◌}
+use Rattle.std.proofs.lemmas.Bool.Decides.{nat_tests}
+use Rattle.std.proofs.lemmas.Grind.{common_steps}
+use Rattle.cm_base.specs.Configuration.{Configuration}
+use Rattle.cm_base.specs.Units.{unit_of}
+use Rattle.cm_history.specs.declared.act.Act.{Act}
+use Rattle.cm_history.specs.declared.act.Actor.{Actor}
+use Rattle.cm_history.specs.declared.answer.Answer.{Answer}
+use Rattle.cm_history.specs.declared.answer.OpState.{OpState}
+use Rattle.cm_history.specs.Bounds.{piece_blocks}
+use Rattle.cm_history.specs.Deeds.{Deed, is_refusal, is_answered}
+use Rattle.cm_history.specs.Blocks.{held, mapped_with}
+use Rattle.cm_history.specs.Limits.{within_limits}
+use Rattle.cm_history.specs.Legal.{may_ask}
+use Rattle.lba_ranges.specs.Denoted.{is_within}
+use Rattle.cm_history.specs.Senses.{in_use, out_of_range, too_many}
+use Rattle.cm_history.specs.Tokens.{is_populate, tokens}
+use Rattle.cm_history.specs.Operations.{Operation, OfToken, operations, operation_after, made_operation, makes_operation, is_making, serves, would_serve, running, is_running, is_running_state, is_foreground, is_background, fits, kept, written, list_of, next_piece, state_of, was_stopped, was_ended, is_failure}
+use Rattle.cm_history.specs.Answers.{deed, answer_after, writings, wrote_of, serial_made, is_busy}
+use Rattle.cm_history.proofs.Lists.{In, Each, Each-in, Each-by, Each-map, Each-append, In-filter, find-in, find-none, find-some, filter-passes}
+use Rattle.cm_history.proofs.Counts.{IsPast, made-after, apart, same_place}
+use Rattle.cm_history.proofs.Records.{and_first, kept_in}
+
+-- a deed that the unit may have been asked
+pub record IsAsked (config : Configuration) (unit : ℕ) (d : Deed) : Type 0 where
+  pub limits : within_limits config unit d.entry.act ≡ true
+  pub asked : may_ask unit d.entry.actor d.entry.act ≡ true
+
+-- an operation that such a deed made
+pub record IsMadeBy (config : Configuration) (unit : ℕ) (d : Deed) : Type 0 where
+  pub asked : IsAsked config unit d
+  pub makes : is_making d.entry.act ≡ true
+  pub serial : is_populate d.entry.act ≡ true → is_some (serial_made d.answer) ≡ true
+
+and_second : (a b : Bool) → (a && b) ≡ true → b ≡ true
+and_second true b e = e
+and_second false b e = cc
+
+populate-made : (config : Configuration) (unit : ℕ) (past : List Deed) (actor : Actor) (now : ℕ) (act : Act) → is_populate act ≡ true
+    → not (is_refusal (answer_after config unit past actor now act)) ≡ true → is_some (serial_made (answer_after config unit past actor now act)) ≡ true
+populate-made config unit past actor now (Act.Populate id timeout ranges) e answered =
+    go (is_busy past actor OfToken id) (not (is_within (unit_of config unit).blocks ranges)) (nat_le (2 ^ 48) (length (tokens past))) answered
+  where
+    go : (a b c : Bool)
+        → not (is_refusal (if a then Answer.Refused in_use else if b then Answer.Refused out_of_range else if c then Answer.Refused too_many else Answer.Made (length (tokens past)))) ≡ true
+        → is_some (serial_made (if a then Answer.Refused in_use else if b then Answer.Refused out_of_range else if c then Answer.Refused too_many else Answer.Made (length (tokens past)))) ≡ true
+    go true b c h = cc
+    go false true c h = cc
+    go false false true h = cc
+    go false false false h = refl
+populate-made config unit past actor now _ e answered = cc
+
+-- each operation was made by such a deed
+pub all-made_by : (config : Configuration) (unit : ℕ) (past : List Deed) → IsPast config unit past → Each (IsAsked config unit) past
+    → Each (λ (o : Operation). IsMadeBy config unit o.made) (operations past)
+all-made_by config unit [] is asked = tt
+all-made_by config unit (d ∷ past) is asked =
+    Each-append _ (map (operation_after d) (operations past)) _
+    (Each-map _ (operation_after d) (operations past)
+    (Each-by _ (operations past) (λ o i. subst (IsMadeBy config unit) (sym (made-after d o)) (Each-in _ (operations past) o (all-made_by config unit past is.1 asked.1) i))))
+    (new (makes_operation d) refl)
+  where
+    answer : is_answered d ≡ true → not (is_refusal (answer_after config unit past d.entry.actor d.entry.moment d.entry.act)) ≡ true
+    answer e = sym (ap is_answered is.0) ∙ e
+
+    new : (t : Bool) → makes_operation d ≡ t → Each (λ (o : Operation). IsMadeBy config unit o.made) (if t then made_operation d ∷ [] else [])
+    new true e = (record {
+      asked = asked.0;
+      makes = and_first (is_making d.entry.act) (is_answered d) e;
+      serial = λ p. ap (λ (x : Deed). is_some (serial_made x.answer)) is.0 ∙ populate-made config unit past d.entry.actor d.entry.moment d.entry.act p (answer (and_second (is_making d.entry.act) (is_answered d) e));
+    }, tt)
+    new false e = tt
