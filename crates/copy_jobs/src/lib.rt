@@ -1,0 +1,14 @@
+// The operations of a unit: which are kept, which run, and what each is to write next.
+#![tactic(auto)]
+
+mod job;
+mod key;
+mod piece;
+mod refused;
+mod table;
+
+pub use job::{Job, Work, WriteJob};
+pub use key::Key;
+pub use piece::NextPiece;
+pub use refused::JobRefused;
+pub use table::JobTable;

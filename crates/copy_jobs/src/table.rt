@@ -1,0 +1,202 @@
+ghost use Rattle.std.specs.Prelude.{◌≡◌, ◌≢◌, ℕ, ◌^◌, ◌≤◌, [], length, find, Some, None, true, false, IfOk, IfErr, OnOk, OnErr, IfSome, IfNone};
+ghost use Rattle.std.specs.Option.{option_map};
+ghost use Rattle.lba_ranges.specs.Denoted.{total, is_within, is_overlapping};
+ghost use Rattle.cm_history.specs.Bounds.{running_operations};
+ghost use Rattle.cm_history.specs.Operations.{is_running_copy};
+ghost use Rattle.copy_jobs.specs.declared.job.Job.{Job};
+ghost use Rattle.copy_jobs.specs.Jobs.{has_key, runs_as, is_busy, is_crowded, running, reserved, started, opened, made};
+ghost use Rattle.copy_jobs.specs.Keeping.{keep};
+ghost use Rattle.copy_jobs.specs.Changes.{change, with_work, moved_by, stopped_by, terminated, closed_by};
+ghost use Rattle.copy_jobs.specs.Pieces.{is_next, next_length, IsNextPiece};
+ghost use Rattle.copy_jobs.specs.Reports.{report_of, result_of};
+ghost use Rattle.copy_jobs.specs.Tables.{KeysApart};
+
+use crate::job::{Job, Work, WriteJob};
+use crate::key::Key;
+use crate::piece::NextPiece;
+use crate::refused::JobRefused;
+use cm_base::OutOfMemory;
+use cm_history::{CopyEnd, CopyState, OpReport, OpState};
+use lba_ranges::{BlockList, RangeList};
+use scsi_sense::Sense;
+use std::alloc::Global;
+use std::marker::Model;
+
+/// The operations that a unit keeps: at most 256, of which at most 64 run. Contracts see them in the order in
+/// which they were kept.
+#[derive(Drop)]
+pub struct JobTable {
+    alloc: Global,
+    jobs: Vec<Job>,
+    running: u32,
+    reserved: u64,
+}
+
+impl Model for JobTable {
+    ghost use Rattle.std.specs.Prelude.{List};
+    ghost use Rattle.copy_jobs.specs.declared.job.Job.{Job};
+    ghost use Rattle.copy_jobs.specs.Tables.{IsTable};
+
+    ghost Value = { List Job };
+
+    ghost view = { λ t. t.jobs.items };
+
+    ghost invariant = { λ t. IsTable t.jobs.items t.running t.reserved };
+}
+
+impl JobTable {
+    /// A table that keeps nothing. It takes no memory.
+    pub fn new(alloc: Global) -> JobTable
+        ensures { result ≡ [] }
+    {
+        JobTable {
+            alloc,
+            jobs: Vec::new(alloc),
+            running: 0,
+            reserved: 0,
+        }
+    }
+
+    /// An operation of the key runs. It takes no memory.
+    pub fn runs(&self, key: Key) -> bool
+        ensures busy { result ≡ is_busy key self.now }
+        ensures apart { KeysApart self.now }
+    {
+        unreachable!()
+    }
+
+    /// How many operations run, at most 64. It takes no memory.
+    pub fn running(&self) -> u32
+        ensures running { result ≡ length (running self.now) }
+        ensures few { result ≤ running_operations }
+    {
+        self.running
+    }
+
+    /// How many entries of the unit's record are kept free for the operations that run. It takes no memory.
+    pub fn reserved(&self) -> u64
+        ensures reserved { result ≡ reserved self.now }
+        ensures few { result ≤ 65_600 }
+    {
+        self.reserved
+    }
+
+    /// Keeps an operation that is to write the blocks of `rod`, at most 1,048,576, to `ranges` (SPC-4, WRITE USING
+    /// TOKEN). One without blocks is done at once. The record of an ended operation of the key is replaced; where
+    /// 256 are kept, the first that has ended makes room. After each refusal the table is as before: `InUse` where
+    /// an operation of the key runs, else `TooMany` where 64 run.
+    pub fn start(
+        &mut self,
+        key: Key,
+        background: bool,
+        ranges: RangeList,
+        rod: BlockList,
+    ) -> Result<(), JobRefused>
+        requires token { key.copy ≡ false }
+        requires apart { is_overlapping ranges ≡ false }
+        requires numbers { is_within (2 ^ 64) ranges ≡ true }
+        requires total { total ranges ≡ length rod.items }
+        requires few { length rod.items ≤ 1_048_576 }
+        ensures kept { OnOk result (self.new ≡ keep self.old (started key background ranges rod)) }
+        ensures idle { OnOk result (is_busy key self.old ≡ false) }
+        ensures room { OnOk result (is_crowded self.old ≡ false) }
+        ensures busy { IfErr result (λ e. e ≡ JobRefused.InUse → is_busy key self.old ≡ true) }
+        ensures judged { IfErr result (λ e. e ≡ JobRefused.TooMany → is_busy key self.old ≡ false) }
+        ensures crowded { IfErr result (λ e. e ≡ JobRefused.TooMany → is_crowded self.old ≡ true) }
+        ensures refused { OnErr result (self.new ≡ self.old) }
+    {
+        unreachable!()
+    }
+
+    /// Keeps a copy that its nexus is to carry out (SPC-4, EXTENDED COPY). Room is made, and refused, as by `start`.
+    pub fn open(&mut self, key: Key) -> Result<(), JobRefused>
+        requires { key.copy ≡ true }
+        ensures kept { OnOk result (self.new ≡ keep self.old (opened key)) }
+        ensures idle { OnOk result (is_busy key self.old ≡ false) }
+        ensures room { OnOk result (is_crowded self.old ≡ false) }
+        ensures busy { IfErr result (λ e. e ≡ JobRefused.InUse → is_busy key self.old ≡ true) }
+        ensures judged { IfErr result (λ e. e ≡ JobRefused.TooMany → is_busy key self.old ≡ false) }
+        ensures crowded { IfErr result (λ e. e ≡ JobRefused.TooMany → is_crowded self.old ≡ true) }
+        ensures refused { OnErr result (self.new ≡ self.old) }
+    {
+        unreachable!()
+    }
+
+    /// Keeps that the token of this serial was made of so many blocks (SPC-4, POPULATE TOKEN). Room is made as by
+    /// `start`. It is refused as `InUse` where an operation of the key runs, and never as `TooMany`; the table is
+    /// then as before.
+    pub fn made(&mut self, key: Key, serial: u64, blocks: u32) -> Result<(), JobRefused>
+        requires { key.copy ≡ false }
+        ensures kept { OnOk result (self.new ≡ keep self.old (made key serial blocks)) }
+        ensures idle { OnOk result (is_busy key self.old ≡ false) }
+        ensures busy { IfErr result (λ e. e ≡ JobRefused.InUse → is_busy key self.old ≡ true) }
+        ensures never { IfErr result (λ e. e ≢ JobRefused.TooMany) }
+        ensures refused { OnErr result (self.new ≡ self.old) }
+    {
+        unreachable!()
+    }
+
+    /// What is to be written next, at most 1024 blocks: by the foreground operation of a key, or without a key by the
+    /// background operation that was kept first. `None` where no such operation runs.
+    pub fn next(&self, key: Option<Key>) -> Result<Option<NextPiece>, OutOfMemory>
+        ensures none { IfOk result (λ found. found ≡ None → find (is_next key) self.now ≡ None) }
+        ensures piece { IfOk result (λ found. IfSome found (λ piece. IsNextPiece key self.now piece)) }
+    {
+        unreachable!()
+    }
+
+    /// The next piece of the operation, of so many blocks, was written. With the last one it is done. It takes no
+    /// memory.
+    pub fn moved(&mut self, key: Key, blocks: u32)
+        requires token { key.copy ≡ false }
+        requires piece { next_length key self.old ≡ Some blocks }
+        ensures { self.new ≡ change (runs_as key) (with_work (moved_by blocks)) self.old }
+    {
+        unreachable!()
+    }
+
+    /// The next piece of the operation was refused, and it goes on no more. It takes no memory.
+    pub fn fail(&mut self, key: Key, sense: Sense)
+        requires token { key.copy ≡ false }
+        requires busy { is_busy key self.old ≡ true }
+        ensures { self.new ≡ change (runs_as key) (with_work (stopped_by sense)) self.old }
+    {
+        unreachable!()
+    }
+
+    /// The operation was ended before it was done. It takes no memory.
+    pub fn terminate(&mut self, key: Key)
+        requires token { key.copy ≡ false }
+        requires busy { is_busy key self.old ≡ true }
+        ensures { self.new ≡ change (runs_as key) (with_work terminated) self.old }
+    {
+        unreachable!()
+    }
+
+    /// The copy has come to its end. It takes no memory.
+    pub fn close(&mut self, key: Key, end: CopyEnd)
+        requires copy { key.copy ≡ true }
+        requires busy { is_busy key self.old ≡ true }
+        requires ended { is_running_copy end.state ≡ false }
+        ensures { self.new ≡ change (runs_as key) (with_work (closed_by end)) self.old }
+    {
+        unreachable!()
+    }
+
+    /// What is kept of a token operation (SPC-4, RECEIVE ROD TOKEN INFORMATION); `None` where nothing is. It takes no
+    /// memory.
+    pub fn report(&self, key: Key) -> Option<OpReport>
+        requires { key.copy ≡ false }
+        ensures { result ≡ option_map (λ (job : Job). report_of job.work) (find (has_key key) self.now) }
+    {
+        unreachable!()
+    }
+
+    /// How a copy stands (SPC-4, RECEIVE COPY STATUS); `None` where nothing is kept of it. It takes no memory.
+    pub fn recall(&self, key: Key) -> Option<CopyEnd>
+        requires { key.copy ≡ true }
+        ensures { result ≡ option_map (λ (job : Job). result_of job.work) (find (has_key key) self.now) }
+    {
+        unreachable!()
+    }
+}
