@@ -1,3 +1,4 @@
 pub mod HeldBlocks
 pub mod Denoted
 pub mod Writings
+pub mod Roomy

@@ -36,7 +36,8 @@ fn extend_zeros(into: &mut Bytes, count: usize) -> Result<(), OutOfMemory>
 }
 
 impl Piece {
-    /// The bytes of a block, or `None` where it is unmapped.
+    /// The bytes of the block at this place of the run, or `None` where it is unmapped.
+    /// `size` is the bytes of a block. It takes no memory.
     pub fn held(&self, size: u32, index: u32) -> Option<&[u8]>
         requires full { IsFull size self.now.count self.now.fill }
         requires within { index < self.now.count }
@@ -103,7 +104,7 @@ impl Piece {
         }
     }
 
-    /// Some blocks of the run, which share its bytes.
+    /// Some blocks of the run, which share its bytes. `size` is the bytes of a block.
     pub fn part(&self, size: u32, from: u32, count: u32) -> Result<Piece, OutOfMemory>
         requires full { IsFull size self.now.count self.now.fill }
         requires within { from + count ≤ self.now.count }

@@ -32,6 +32,7 @@ impl Model for BlockList {
 }
 
 impl BlockList {
+    /// The list without blocks; those to come have so many bytes each. It takes no memory.
     pub fn empty(alloc: Global, block_length: u32) -> BlockList
         ensures length { result.block_length ≡ block_length }
         ensures empty { result.items ≡ [] }
@@ -69,7 +70,7 @@ impl BlockList {
         self.slice(alloc, 0, self.count)
     }
 
-    /// How many blocks there are; each mapped one has the list's block length.
+    /// How many blocks there are; each mapped one has the list's block length. It takes no memory.
     pub fn blocks(&self) -> u64
         ensures count { result ≡ length self.now.items }
         ensures sized { AllSized self.now.block_length self.now.items }
@@ -77,7 +78,7 @@ impl BlockList {
         self.count
     }
 
-    /// Each block is mapped.
+    /// Each block is mapped. It takes no memory.
     pub fn is_mapped(&self) -> bool
         ensures { result ≡ list_all is_some self.now.items }
     {
@@ -89,12 +90,15 @@ impl BlockList {
         true
     }
 
+    /// The bytes of a block. It takes no memory.
     pub fn block_length(&self) -> u32
         ensures { result ≡ self.now.block_length }
     {
         self.block_length
     }
 
+    /// Adds the blocks of a run to the end; a list has fewer than 2^64.
+    /// At `OutOfMemory` the list is as before.
     pub fn push(&mut self, piece: Piece) -> Result<(), OutOfMemory>
         requires full { IsFull self.old.block_length piece.count piece.fill }
         requires room { length self.old.items + piece.count < 2 ^ 64 }
@@ -109,6 +113,8 @@ impl BlockList {
         Ok(())
     }
 
+    /// The bytes of the block at this place, or `None` where it is unmapped or past the end.
+    /// It takes no memory.
     pub fn held(&self, index: u64) -> Option<&[u8]>
         ensures { option_copied result ≡ held_at self.now.items index }
     {
@@ -183,7 +189,7 @@ impl BlockList {
         Ok(list)
     }
 
-    /// Adds all blocks of another list.
+    /// Adds all blocks of another list to the end. At `OutOfMemory` the list is as before.
     pub fn append(&mut self, mut other: BlockList) -> Result<(), OutOfMemory>
         requires size { self.old.block_length ≡ other.block_length }
         requires room { length self.old.items + length other.items < 2 ^ 64 }

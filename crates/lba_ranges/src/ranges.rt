@@ -62,6 +62,7 @@ impl Model for RangeList {
 }
 
 impl RangeList {
+    /// The list without ranges. It takes no memory.
     pub fn empty(alloc: Global) -> RangeList
         ensures { result ≡ [] }
     {
@@ -70,6 +71,15 @@ impl RangeList {
         }
     }
 
+    /// The list of these ranges. It takes no memory.
+    pub(crate) fn from_vec(ranges: Vec<Range>) -> RangeList
+        requires { length ranges.items ≤ 64 }
+        ensures { result ≡ ranges.items }
+    {
+        RangeList { ranges }
+    }
+
+    /// How many ranges there are, at most 64. It takes no memory.
     pub fn len(&self) -> usize
         ensures length { result ≡ length self.now }
         ensures few { result ≤ 64 }
@@ -77,6 +87,7 @@ impl RangeList {
         self.ranges.len()
     }
 
+    /// The range at this place; the first is at 0. It takes no memory.
     pub fn at(&self, index: usize) -> Range
         requires { index < length self.now }
         ensures { slice_get self.now index ≡ Some result }
@@ -84,6 +95,7 @@ impl RangeList {
         self.ranges[index]
     }
 
+    /// Adds a range to the end, as one of at most 64. At `OutOfMemory` the list is as before.
     pub fn push(&mut self, range: Range) -> Result<(), OutOfMemory>
         requires { length self.old < 64 }
         ensures ok { OnOk result (self.new ≡ self.old ++ range ∷ []) }
@@ -93,7 +105,7 @@ impl RangeList {
         Ok(())
     }
 
-    /// Takes the last range out; `None` exactly where the list is empty.
+    /// Takes the last range out; `None` exactly where the list is empty. It takes no memory.
     pub fn pop(&mut self) -> Option<Range>
         ensures last { IfSome result (λ range. self.old ≡ self.new ++ range ∷ []) }
         ensures empty { IfNone result ((self.old ≡ []) × (self.new ≡ [])) }
@@ -101,7 +113,8 @@ impl RangeList {
         self.ranges.pop()
     }
 
-    /// How many blocks the ranges denote.
+    /// How many blocks the ranges denote, a block once for each range that it is in.
+    /// It takes no memory.
     pub fn total(&self) -> u64
         ensures total { result ≡ total self.now }
         ensures few { result ≤ 64 * 4_294_967_295 }
@@ -125,7 +138,7 @@ impl RangeList {
         Ok(blocks)
     }
 
-    /// The number of the block at this place.
+    /// The number of the block at this place. It takes no memory.
     pub fn block(&self, place: u64) -> u64
         requires within { place < total self.now }
         requires numbers { IsTrue (is_within (2 ^ 64) self.now) }
@@ -141,7 +154,7 @@ impl RangeList {
         unreachable!()
     }
 
-    /// Two places of the list denote one block.
+    /// Two places of the list denote one block. It takes no memory.
     pub fn overlap(&self) -> bool
         ensures { result ≡ is_overlapping self.now }
     {
@@ -153,7 +166,7 @@ impl RangeList {
         false
     }
 
-    /// Every range ends within so many blocks.
+    /// Every range ends within so many blocks. It takes no memory.
     pub fn within(&self, blocks: u64) -> bool
         ensures { result ≡ is_within blocks self.now }
     {
@@ -205,6 +218,7 @@ impl RangeList {
         Ok(part)
     }
 
+    /// An equal list.
     pub fn copy(&self, alloc: Global) -> Result<RangeList, OutOfMemory>
         ensures { IfOk result (λ l. l ≡ self.now) }
     {

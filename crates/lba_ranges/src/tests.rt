@@ -17,6 +17,20 @@ fn ranges(rt: HostRuntime) -> Result<(), Fail> {
     Ok(())
 }
 
+/// Two ranges for which there was room.
+#[test]
+fn ranges_with_room(rt: HostRuntime) -> Result<(), Fail> {
+    let mut builder = RangeListBuilder::empty(rt.alloc());
+    builder.reserve(2)?;
+    builder.append(Range { lba: 10, count: 3 });
+    builder.append(Range { lba: 20, count: 2 });
+    assert_eq!(rt; builder.len(), 2);
+    let list = builder.into_list();
+    assert_eq!(rt; list.len(), 2);
+    assert!(rt; list.total() == 5 && list.at(1).lba == 20);
+    Ok(())
+}
+
 /// Two blocks of four bytes, a hole, and one more block.
 #[test]
 fn blocks(rt: HostRuntime) -> Result<(), Fail> {

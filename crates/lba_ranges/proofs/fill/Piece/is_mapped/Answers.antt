@@ -1,4 +1,4 @@
-use Rattle.std.proofs.Common.{◌≡◌, sym}
+use Rattle.std.proofs.Common.{sym}
 use Rattle.lba_ranges.proofs.Cells.{mapped-cut}
 use Rattle.lba_ranges.proofs.fill.Piece.is_mapped.Goals as goal
 

@@ -1,0 +1,8 @@
+-- A range list that is being built, as contracts see it
+use Rattle.std.specs.Prelude.{ℕ, List}
+use Rattle.lba_ranges.specs.declared.ranges.Range.{Range}
+
+pub record Roomy : Type 0 where
+  pub ranges : List Range
+  -- how many more ranges have room
+  pub spare : ℕ
