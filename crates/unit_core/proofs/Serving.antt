@@ -189,7 +189,7 @@ pub token-runs : (o : Operation) → form_of o.made.entry.act ≡ OfToken → is
 token-runs o form e = sym (ap (is_running_as o) form) ∙ e
 
 -- a server that goes on wrote a whole piece
-paced-after : (unit : UnitConfig) (past : List Deed) (d : Deed) (o : Operation) → Serves unit past o d.answer d.wrote d.entry.act
+pub paced-after : (unit : UnitConfig) (past : List Deed) (d : Deed) (o : Operation) → Serves unit past o d.answer d.wrote d.entry.act
     → is_running o ≡ true → IsBegun o → IsPaced o → IsPaced (record o { servers = d ∷ o.servers })
 paced-after unit past d o (inl moves) runs begun paced = λ r.
     let left = left-running (record o { servers = d ∷ o.servers }) o.made.entry.act r in

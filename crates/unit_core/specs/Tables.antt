@@ -1,0 +1,49 @@
+-- The tables of a unit, as its past makes them
+use Rattle.std.specs.Prelude.{ℕ, List, length, map, Option, Some, None, Bool, true, false}
+use Rattle.cm_history.specs.declared.act.Act.{Act}
+use Rattle.cm_history.specs.declared.act.Actor.{Actor}
+use Rattle.cm_history.specs.declared.act.Actor.TheVariants.{Nexus, Pump}
+use Rattle.cm_history.specs.Deeds.{Deed}
+use Rattle.cm_history.specs.Operations.{Operation, Form, OfToken, OfCopy, form_of, id_of, written, state, result_of, kept}
+use Rattle.cm_history.specs.Answers.{serial_made}
+use Rattle.lba_ranges.specs.Denoted.{total}
+use Rattle.copy_jobs.specs.declared.key.Key.{Key}
+use Rattle.copy_jobs.specs.declared.job.Job.{Job}
+use Rattle.copy_jobs.specs.declared.job.Work.{Work}
+use Rattle.copy_jobs.specs.declared.job.Work.TheVariants.{Populated, Writing, Copying}
+
+-- ---- operations
+
+-- the number of a nexus; a pump begins no operation
+abbrev pub number_of : Actor → ℕ
+number_of (Nexus nexus) = nexus
+number_of (Pump unit) = unit
+
+abbrev pub is_copy : Form → Bool
+is_copy OfToken = false
+is_copy OfCopy = true
+
+abbrev pub key_of : Actor → Form → ℕ → Key
+key_of actor form id = record { actor = number_of actor; copy = is_copy form; id = id }
+
+abbrev pub serial_or_none : Option ℕ → ℕ
+serial_or_none None = 0
+serial_or_none (Some serial) = serial
+
+-- what is kept of the operation that this act made
+abbrev pub work_of : Operation → Act → Work
+work_of o (Act.Start id background ranges rod) =
+    Writing (record { background = background; ranges = ranges; rod = rod; written = length (written o); state = state o })
+work_of o (Act.Open id) = Copying (result_of o.servers)
+work_of o (Act.Populate id timeout ranges) = Populated (serial_or_none (serial_made o.made.answer)) (total ranges)
+work_of o _ = Populated 0 0
+
+abbrev pub job_of : Operation → Job
+job_of o = record {
+  key = key_of o.made.entry.actor (form_of o.made.entry.act) (id_of o.made.entry.act);
+  work = work_of o o.made.entry.act;
+}
+
+-- the jobs that a unit keeps
+abbrev pub jobs_of : List Deed → List Job
+jobs_of past = map job_of (kept past)
