@@ -6,11 +6,32 @@ use Rattle.cm_history.specs.declared.act.Actor.TheVariants.{Nexus, Pump}
 use Rattle.cm_history.specs.Deeds.{Deed}
 use Rattle.cm_history.specs.Operations.{Operation, Form, OfToken, OfCopy, form_of, id_of, written, state, result_of, kept}
 use Rattle.cm_history.specs.Answers.{serial_made}
+use Rattle.cm_base.specs.declared.config.UnitConfig.{UnitConfig}
 use Rattle.lba_ranges.specs.Denoted.{total}
+use Rattle.lba_ranges.specs.HeldBlocks.{HeldBlocks}
+use Rattle.cm_history.specs.Tokens.{Token, Fate, Live, Expired, Evicted, Deleted, tokens, rod}
+use Rattle.rod_store.specs.declared.kept.Kept.{Kept}
+use Rattle.rod_store.specs.declared.kept.Standing.{Standing}
 use Rattle.copy_jobs.specs.declared.key.Key.{Key}
 use Rattle.copy_jobs.specs.declared.job.Job.{Job}
 use Rattle.copy_jobs.specs.declared.job.Work.{Work}
 use Rattle.copy_jobs.specs.declared.job.Work.TheVariants.{Populated, Writing, Copying}
+
+-- ---- tokens
+
+-- a token stands for its blocks as long as it is live
+abbrev pub standing_of : HeldBlocks → Token → Fate → Standing HeldBlocks
+standing_of rod t Live = Standing.Live t.timeout t.last_use rod
+standing_of rod t Expired = Standing.Expired
+standing_of rod t Evicted = Standing.Evicted
+standing_of rod t Deleted = Standing.Deleted
+
+abbrev pub kept_of : UnitConfig → Token → Kept HeldBlocks
+kept_of unit t = record { serial = t.serial; blocks = total t.ranges; standing = standing_of (rod unit t) t t.fate }
+
+-- the tokens that a unit made
+abbrev pub tokens_of : UnitConfig → List Deed → List (Kept HeldBlocks)
+tokens_of unit past = map (kept_of unit) (tokens past)
 
 -- ---- operations
 
