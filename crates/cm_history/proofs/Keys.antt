@@ -92,12 +92,12 @@ not_busy config unit past actor now (Act.Open id) m e = go (is_busy past actor O
     go false other x = refl
 not_busy config unit past actor now _ m e = cc
 
-and_second : (a b : Bool) → (a && b) ≡ true → b ≡ true
+pub and_second : (a b : Bool) → (a && b) ≡ true → b ≡ true
 and_second true b e = e
 and_second false b e = cc
 
 -- no record that stays has the key of a new operation
-new_key : (config : Configuration) (unit : ℕ) (past : List Deed) (d : Deed) (r : Operation) → IsPast config unit past → d ≡ deed config unit past d.entry → makes_operation d ≡ true
+pub new_key : (config : Configuration) (unit : ℕ) (past : List Deed) (d : Deed) (r : Operation) → IsPast config unit past → d ≡ deed config unit past d.entry → makes_operation d ≡ true
     → In r (filter (λ x. not (has_ended x && same_key (made_operation d) x)) (kept past)) → same_key (made_operation d) r ≡ false
 new_key config unit past d r is made makes i = go (is_running r) refl (same_key (made_operation d) r) refl
   where
@@ -136,13 +136,13 @@ same_actor-is (Pump a) (Pump b) e = let same : a ≡ b = grind (arith, nat_tests
 same_actor-is (Nexus a) (Pump b) e = cc
 same_actor-is (Pump a) (Nexus b) e = cc
 
-same_form-is : (a b : Form) → same_form a b ≡ true → a ≡ b
+pub same_form-is : (a b : Form) → same_form a b ≡ true → a ≡ b
 same_form-is OfToken OfToken e = refl
 same_form-is OfCopy OfCopy e = refl
 same_form-is OfToken OfCopy e = cc
 same_form-is OfCopy OfToken e = cc
 
-one-key : (actor : Actor) (form : Form) (id : ℕ) (a b : Operation) → has_key actor form id a ≡ true → has_key actor form id b ≡ true → same_key a b ≡ true
+pub one-key : (actor : Actor) (form : Form) (id : ℕ) (a b : Operation) → has_key actor form id a ≡ true → has_key actor form id b ≡ true → same_key a b ≡ true
 one-key actor form id a b x y =
     let t = same_actor a.made.entry.actor actor in
     let u = same_form (form_of a.made.entry.act) form in
@@ -156,7 +156,7 @@ one-key actor form id a b x y =
     ∙ ap (λ u. has_key actor u (id_of a.made.entry.act) b) what
     ∙ ap (λ u. has_key actor form u b) name ∙ y
 
-same-record : (actor : Actor) (form : Form) (id : ℕ) (os : List Operation) (a b : Operation) → KeysApart os → In a os → In b os
+pub same-record : (actor : Actor) (form : Form) (id : ℕ) (os : List Operation) (a b : Operation) → KeysApart os → In a os → In b os
     → has_key actor form id a ≡ true → has_key actor form id b ≡ true → a ≡ b
 same-record actor form id [] a b k i j x y = absurd i
 same-record actor form id (o ∷ os) a b k (inl p) (inl q) x y = sym p ∙ q

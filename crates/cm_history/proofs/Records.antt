@@ -14,14 +14,14 @@ use Rattle.cm_history.proofs.Lists.{In, In-filter, In-append, In-split, In-appen
 use Rattle.cm_history.proofs.Counts.{IsPast, apart, same_place}
 
 -- a deed that serves none leaves all operations
-served_none : (d : Deed) (os : List Operation) → d.served ≡ None → map (operation_after d) os ≡ os
+pub served_none : (d : Deed) (os : List Operation) → d.served ≡ None → map (operation_after d) os ≡ os
 served_none d [] e = refl
 served_none d (o ∷ os) e =
     let same : operation_after d o ≡ o = subst (λ (s : Option ℕ). (if serves s o then record o { servers = d ∷ o.servers } else o) ≡ o) (sym e) refl in
     ap (λ (x : Operation). x ∷ map (operation_after d) os) same ∙ ap (λ l. o ∷ l) (served_none d os e)
 
 -- an act that makes an operation serves none
-making_serves : (past : List Deed) (actor : Actor) (act : Act) → is_making act ≡ true → would_serve past actor act ≡ None
+pub making_serves : (past : List Deed) (actor : Actor) (act : Act) → is_making act ≡ true → would_serve past actor act ≡ None
 making_serves past actor (Act.Populate id timeout ranges) e = find-none (running past)
 making_serves past actor (Act.Start id background ranges rod) e = find-none (running past)
 making_serves past actor (Act.Open id) e = find-none (running past)
@@ -48,7 +48,7 @@ with_room_in os o i = go (length os == kept_records) i
     go false j = j
 
 -- a deed that makes an operation serves none
-makes_serves : (config : Configuration) (unit : ℕ) (past : List Deed) (d : Deed) → d ≡ deed config unit past d.entry → makes_operation d ≡ true → d.served ≡ None
+pub makes_serves : (config : Configuration) (unit : ℕ) (past : List Deed) (d : Deed) → d ≡ deed config unit past d.entry → makes_operation d ≡ true → d.served ≡ None
 makes_serves config unit past d made makes =
     ap (λ (x : Deed). x.served) made
     ∙ ap (option_map (λ (x : Operation). x.made.place)) (making_serves past d.entry.actor d.entry.act (and_first _ _ makes))
