@@ -34,19 +34,21 @@ impl History {
         }
     }
 
+    /// How many entries there are. It takes no memory.
     pub fn len(&self) -> usize
         ensures { result ≡ length self.now.entries }
     {
         self.entries.len()
     }
 
+    /// There are no entries. It takes no memory.
     pub fn is_empty(&self) -> bool
         ensures { result ≡ (length self.now.entries == 0) }
     {
         self.entries.is_empty()
     }
 
-    /// The entry at this place.
+    /// The entry at this place; the oldest is at 0. It takes no memory.
     pub fn at(&self, index: usize) -> &Entry
         requires { index < length self.now.entries }
         ensures { slice_get self.now.entries index ≡ Some result.now }

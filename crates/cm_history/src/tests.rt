@@ -187,48 +187,30 @@ fn token_of_unit_0() -> [u8; 512] {
     text
 }
 
+fn read(count: u32) -> Act {
+    Act::Read { lba: 9, count }
+}
+
+fn redeem(text: [u8; 512], target: u16) -> Act {
+    Act::Redeem { text, target }
+}
+
+fn capture(count: u32) -> Act {
+    Act::Capture { lba: 0, count }
+}
+
 #[test]
 fn numbers_have_limits(rt: HostRuntime) -> Result<(), Fail> {
     let config = one_unit(&rt)?;
     let text = token_of_unit_0();
     let acts = [
-        (
-            Act::Read {
-                lba: 9,
-                count: 2048,
-            },
-            true,
-        ),
-        (
-            Act::Read {
-                lba: 0,
-                count: 2049,
-            },
-            false,
-        ),
-        (Act::Redeem { text, target: 0 }, true),
-        (Act::Redeem { text, target: 1 }, false),
-        (
-            Act::Redeem {
-                text: [0; 512],
-                target: 0,
-            },
-            false,
-        ),
-        (
-            Act::Capture {
-                lba: 0,
-                count: 65_535,
-            },
-            true,
-        ),
-        (
-            Act::Capture {
-                lba: 0,
-                count: 65_536,
-            },
-            false,
-        ),
+        (read(2048), true),
+        (read(2049), false),
+        (redeem(text, 0), true),
+        (redeem(text, 1), false),
+        (redeem([0; 512], 0), false),
+        (capture(65_535), true),
+        (capture(65_536), false),
         (close(CopyState::Done), true),
         (close(CopyState::Running), false),
         (Act::Pump, true),
@@ -236,6 +218,27 @@ fn numbers_have_limits(rt: HostRuntime) -> Result<(), Fail> {
     for (place, (act, allowed)) in acts.iter().enumerate() {
         assert_eq!(rt; within_limits(&config, 0, act), *allowed, "act {place}");
     }
+    Ok(())
+}
+
+#[test]
+fn acts_are_copied(rt: HostRuntime) -> Result<(), Fail> {
+    let alloc = rt.alloc();
+    let act = start(ranges(&rt, 5, 9)?, holes(&rt, 512, 4)?).copy(alloc)?;
+    assert!(rt;
+        matches!(&act, Act::Start { ranges, rod, .. } if ranges.total() == 4 && rod.blocks() == 4)
+    );
+    let entry = Entry {
+        stamp: 6,
+        unit: 0,
+        actor: Actor::Nexus(1),
+        seq: 7,
+        moment: 8,
+        act: write(&rt, 3, 0x44)?,
+    };
+    let entry = entry.copy(alloc)?;
+    assert!(rt; entry.stamp == 6 && entry.seq == 7 && entry.moment == 8);
+    assert!(rt; matches!(&entry.act, Act::Write { lba: 3, list } if list.blocks() == 1));
     Ok(())
 }
 

@@ -1,7 +1,8 @@
-ghost use Rattle.std.specs.Prelude.{◌≡◌, ◌+◌, ◌*◌, ◌<◌, ◌≤◌, ◌^◌, ◌++◌, [], List, ℕ, length, slice_range, IfOk, OnOk, OnErr, is_some};
+ghost use Rattle.std.specs.Prelude.{◌≡◌, ◌-◌, IfSome, true, false, ◌+◌, ◌*◌, ◌<◌, ◌≤◌, ◌^◌, ◌++◌, [], List, ℕ, length, slice_range, IfOk, OnOk, OnErr, is_some};
 ghost use Rattle.std.specs.Option.{option_copied};
 ghost use Rattle.std.specs.List.{list_all};
-ghost use Rattle.lba_ranges.specs.HeldBlocks.{HeldBlocks, filled, cut, IsFull, held_at, AllSized, blocks_bytes};
+ghost use Rattle.lba_ranges.specs.declared.fill.Fill.TheVariants.{Hole};
+ghost use Rattle.lba_ranges.specs.HeldBlocks.{IsHoleAtEnd, items_of, AllFull, HeldBlocks, filled, cut, IsFull, held_at, AllSized, blocks_bytes};
 
 use crate::fill::{Fill, Piece};
 use cm_base::{Bytes, OutOfMemory, Payload};
@@ -18,7 +19,7 @@ pub struct BlockList {
 
 impl Model for BlockList {
     ghost use Rattle.std.specs.Prelude.{◌≡◌, length};
-    ghost use Rattle.lba_ranges.specs.HeldBlocks.{HeldBlocks, items_of, AllFull};
+    ghost use Rattle.lba_ranges.specs.HeldBlocks.{IsHoleAtEnd, items_of, AllFull, HeldBlocks, items_of, AllFull};
 
     ghost Value = { HeldBlocks };
 
@@ -29,6 +30,53 @@ impl Model for BlockList {
 
     ghost invariant = { λ b. (b.count ≡ length (items_of b.block_length b.pieces.items))
         × AllFull b.block_length b.pieces.items };
+}
+
+/// How long the hole at the end is with the blocks of a hole more: `None` where one of them is
+/// no hole, or a run can't be as long.
+fn widened(pieces: &[Piece], more: &Piece) -> Option<u32>
+    ensures hole { IfSome result (λ count. IsHoleAtEnd pieces.now (count - more.now.count)) }
+    ensures more { IfSome result (λ count. more.now.count ≤ count) }
+    ensures both { IfSome result (λ count. more.now.fill ≡ Hole) }
+{
+    let last = pieces.last()?;
+    match (&last.fill, &more.fill) {
+        (Fill::Hole, Fill::Hole) => last.count.checked_add(more.count),
+        _ => None,
+    }
+}
+
+/// Lets a hole at the end take in the blocks of a hole. Otherwise, at `false`, all stays.
+fn widen_hole(pieces: &mut Vec<Piece>, more: &Piece) -> bool
+    ensures widened { result ≡ true → (size : ℕ) → items_of size pieces.new.items
+        ≡ items_of size pieces.old.items ++ filled size more.now.count more.now.fill }
+    ensures full { (size : ℕ) → AllFull size pieces.old.items → AllFull size pieces.new.items }
+    ensures kept { result ≡ false → pieces.new ≡ pieces.old }
+{
+    let Some(count) = widened(pieces, more) else {
+        return false;
+    };
+    let last = pieces.len() - 1;
+    pieces[last] = Piece {
+        count,
+        fill: Fill::Hole,
+    };
+    true
+}
+
+/// Adds a run to the end; a hole joins the hole before it.
+fn push_joined(pieces: &mut Vec<Piece>, piece: Piece) -> Result<(), OutOfMemory>
+    ensures items { OnOk result ((size : ℕ) → items_of size pieces.new.items
+        ≡ items_of size pieces.old.items ++ filled size piece.count piece.fill) }
+    ensures full { OnOk result ((size : ℕ) → AllFull size pieces.old.items → IsFull size piece.count piece.fill
+        → AllFull size pieces.new.items) }
+    ensures err { OnErr result (pieces.new.items ≡ pieces.old.items) }
+{
+    if widen_hole(pieces, &piece) {
+        return Ok(());
+    }
+    pieces.push(piece)?;
+    Ok(())
 }
 
 impl BlockList {
@@ -97,7 +145,7 @@ impl BlockList {
         self.block_length
     }
 
-    /// Adds the blocks of a run to the end; a list has fewer than 2^64.
+    /// Adds the blocks of a run to the end, fewer than 2^64 in all; a hole joins the hole before it.
     /// At `OutOfMemory` the list is as before.
     pub fn push(&mut self, piece: Piece) -> Result<(), OutOfMemory>
         requires full { IsFull self.old.block_length piece.count piece.fill }
@@ -108,7 +156,7 @@ impl BlockList {
         ensures err { OnErr result (self.new ≡ self.old) }
     {
         let count = piece.count;
-        self.pieces.push(piece)?;
+        push_joined(&mut self.pieces, piece)?;
         self.count += u64::from(count);
         Ok(())
     }

@@ -31,7 +31,7 @@ fn ranges_with_room(rt: HostRuntime) -> Result<(), Fail> {
     Ok(())
 }
 
-/// Two blocks of four bytes, a hole, and one more block.
+/// Two blocks of four bytes, two holes, and one more block.
 #[test]
 fn blocks(rt: HostRuntime) -> Result<(), Fail> {
     let alloc = rt.alloc();
@@ -41,13 +41,19 @@ fn blocks(rt: HostRuntime) -> Result<(), Fail> {
         count: 1,
         fill: Fill::Hole,
     })?;
+    list.push(Piece {
+        count: 1,
+        fill: Fill::Hole,
+    })?;
     let last = Payload::copy_from_slice(alloc, &[9, 9, 9, 9])?;
     list.append(BlockList::from_payload(alloc, 4, 1, last)?)?;
     let list = list.copy(alloc)?;
-    assert_eq!(rt; list.blocks(), 4);
+    assert_eq!(rt; list.blocks(), 5);
     let mut read = Bytes::empty(alloc);
     list.read_into(&mut read)?;
-    assert!(rt; read.as_slice() == [1, 2, 3, 4, 5, 6, 7, 8, 0, 0, 0, 0, 9, 9, 9, 9].as_slice());
+    assert!(rt;
+        read.as_slice() == [1, 2, 3, 4, 5, 6, 7, 8, 0, 0, 0, 0, 0, 0, 0, 0, 9, 9, 9, 9].as_slice()
+    );
     let items = list.slice(alloc, 1, 2)?.items(alloc)?;
     assert_eq!(rt; items.len(), 2);
     assert!(rt; matches!(&items[0], Some(bytes) if bytes.as_slice() == [5, 6, 7, 8].as_slice()));

@@ -1,0 +1,101 @@
+ghost use Rattle.std.specs.Prelude.{◌≡◌, IfOk};
+ghost use Rattle.cm_history.specs.declared.act.Act.{Act};
+
+use crate::act::{Act, Entry};
+use cm_base::OutOfMemory;
+use lba_ranges::{BlockList, RangeList};
+use std::alloc::Global;
+
+fn write(lba: u64, list: BlockList) -> Act
+    ensures { result ≡ Act.Write lba list }
+{
+    Act::Write { lba, list }
+}
+
+fn unmap(ranges: RangeList) -> Act
+    ensures { result ≡ Act.Unmap ranges }
+{
+    Act::Unmap { ranges }
+}
+
+fn populate(id: u32, timeout: u32, ranges: RangeList) -> Act
+    ensures { result ≡ Act.Populate id timeout ranges }
+{
+    Act::Populate {
+        id,
+        timeout,
+        ranges,
+    }
+}
+
+fn start(id: u32, background: bool, ranges: RangeList, rod: BlockList) -> Act
+    ensures { result ≡ Act.Start id background ranges rod }
+{
+    Act::Start {
+        id,
+        background,
+        ranges,
+        rod,
+    }
+}
+
+fn put(lba: u64, list: BlockList) -> Act
+    ensures { result ≡ Act.Put lba list }
+{
+    Act::Put { lba, list }
+}
+
+impl Act {
+    /// An equal act, which shares the bytes of its blocks.
+    pub fn copy(&self, alloc: Global) -> Result<Act, OutOfMemory>
+        ensures { IfOk result (λ act. act ≡ self.now) }
+    {
+        let act = match *self {
+            Act::Read { lba, count } => Act::Read { lba, count },
+            Act::Write { lba, ref list } => write(lba, list.copy(alloc)?),
+            Act::Unmap { ref ranges } => unmap(ranges.copy(alloc)?),
+            Act::MapStatus { lba } => Act::MapStatus { lba },
+            Act::Populate {
+                id,
+                timeout,
+                ref ranges,
+            } => populate(id, timeout, ranges.copy(alloc)?),
+            Act::Redeem { text, target } => Act::Redeem { text, target },
+            Act::Delete { serial } => Act::Delete { serial },
+            Act::Start {
+                id,
+                background,
+                ref ranges,
+                ref rod,
+            } => start(id, background, ranges.copy(alloc)?, rod.copy(alloc)?),
+            Act::Advance { id } => Act::Advance { id },
+            Act::Pump => Act::Pump,
+            Act::End { id } => Act::End { id },
+            Act::Abort { id } => Act::Abort { id },
+            Act::Report { id } => Act::Report { id },
+            Act::Capture { lba, count } => Act::Capture { lba, count },
+            Act::Put { lba, ref list } => put(lba, list.copy(alloc)?),
+            Act::Open { id } => Act::Open { id },
+            Act::Close { id, result } => Act::Close { id, result },
+            Act::Recall { id } => Act::Recall { id },
+        };
+        Ok(act)
+    }
+}
+
+impl Entry {
+    /// An equal entry, which shares the bytes of its act's blocks.
+    pub fn copy(&self, alloc: Global) -> Result<Entry, OutOfMemory>
+        ensures { IfOk result (λ entry. entry ≡ self.now) }
+    {
+        let act = self.act.copy(alloc)?;
+        Ok(Entry {
+            stamp: self.stamp,
+            unit: self.unit,
+            actor: self.actor,
+            seq: self.seq,
+            moment: self.moment,
+            act,
+        })
+    }
+}
