@@ -21,7 +21,7 @@ use Rattle.copy_jobs.specs.declared.key.Key.{Key}
 use Rattle.copy_jobs.specs.declared.job.Job.{Job}
 use Rattle.copy_jobs.specs.Jobs as jobs
 use Rattle.copy_jobs.specs.Keeping as keeping
-use Rattle.copy_jobs.specs.Changes.{change}
+use Rattle.copy_jobs.specs.BlockChanges.{change}
 use Rattle.unit_core.specs.Tables.{key_of, job_of, jobs_of}
 use Rattle.unit_core.proofs.Finding.{filter-map, filter-same, map-append, map-map, map-same}
 use Rattle.unit_core.proofs.Jobs.{IsNexus, IsOwn, own-nexus, job-runs, job-key}

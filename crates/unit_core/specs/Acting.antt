@@ -21,9 +21,16 @@ abbrev pub entry_at : Standing → Actor → ℕ → ℕ → ℕ → Act → Ent
 entry_at s actor seq stamp moment act =
     record { stamp = max stamp (last_stamp (past s)) + 1; unit = s.unit; actor = actor; seq = seq; moment = moment; act = act }
 
+-- the act serves a running operation
+abbrev pub serves_operation : Standing → Actor → Act → Bool
+serves_operation s actor act = is_some (would_serve (past s) actor act)
+
 -- an End, Abort or Close that serves an operation
+abbrev pub ends : List Deed → Actor → Act → Bool
+ends past actor (Act.End id) = is_some (would_serve past actor (Act.End id))
+ends past actor (Act.Abort id) = is_some (would_serve past actor (Act.Abort id))
+ends past actor (Act.Close id result) = is_some (would_serve past actor (Act.Close id result))
+ends past actor _ = false
+
 abbrev pub ends_operation : Standing → Actor → Act → Bool
-ends_operation s actor (Act.End id) = is_some (would_serve (past s) actor (Act.End id))
-ends_operation s actor (Act.Abort id) = is_some (would_serve (past s) actor (Act.Abort id))
-ends_operation s actor (Act.Close id result) = is_some (would_serve (past s) actor (Act.Close id result))
-ends_operation s actor _ = false
+ends_operation s actor act = ends (past s) actor act

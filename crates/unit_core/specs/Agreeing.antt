@@ -1,22 +1,45 @@
 -- What a unit keeps beside its record, and how that agrees with the record
-use Rattle.std.specs.Prelude.{◌≡◌, ℕ, ◌+◌, ◌<◌, ◌≤◌, List, [], length}
+use Rattle.std.specs.Prelude.{◌≡◌, ℕ, ◌+◌, ◌<◌, ◌≤◌, List, [], ◌∷◌, length, true, ⊤}
 use Rattle.cm_base.specs.Configuration.{Configuration, IsUnit}
 use Rattle.cm_base.specs.Units.{unit_of}
 use Rattle.cm_base.specs.declared.config.UnitConfig.{UnitConfig}
 use Rattle.cm_history.specs.declared.act.Entry.{Entry}
+use Rattle.lba_ranges.specs.HeldBlocks.{HeldBlocks}
 use Rattle.lba_ranges.specs.Writings.{Held}
 use Rattle.cm_history.specs.Deeds.{Deed, last_stamp, moment}
 use Rattle.cm_history.specs.Blocks.{held, mapped}
-use Rattle.cm_history.specs.Tokens.{tokens}
-use Rattle.cm_history.specs.Operations.{operations, kept}
 use Rattle.cm_history.specs.Room.{payload, reserved}
 use Rattle.cm_history.specs.History.{on, past_of}
+use Rattle.cm_history.specs.Limits.{within_limits}
+use Rattle.cm_history.specs.Legal.{may_ask}
+use Rattle.rod_store.specs.Store.{Store}
+use Rattle.copy_jobs.specs.declared.job.Job.{Job}
+use Rattle.unit_core.specs.Tables.{tokens_of, jobs_of}
+
+-- the act was one that may be asked
+pub record IsAsked (config : Configuration) (unit : ℕ) (d : Deed) : Type 0 where
+  pub limits : within_limits config unit d.entry.act ≡ true
+  pub asked : may_ask unit d.entry.actor d.entry.act ≡ true
+
+abbrev pub AllAsked : Configuration → ℕ → List Deed → Type 0
+AllAsked config unit [] = ⊤
+AllAsked config unit (d ∷ past) = IsAsked config unit d × AllAsked config unit past
 
 -- the blocks hold what the past says
 pub record BlocksAgree (unit : UnitConfig) (past : List Deed) (own_blocks own_length : ℕ) (holds : ℕ → Held) : Type 0 where
   pub count : own_blocks ≡ unit.blocks
   pub size : own_length ≡ unit.block_length
   pub same : (block : ℕ) → block < unit.blocks → holds block ≡ held past block
+
+-- the tokens are those that the past made
+pub record TokensAgree (unit : UnitConfig) (number : ℕ) (past : List Deed) (own : Store HeldBlocks) : Type 0 where
+  pub unit : own.unit ≡ number
+  pub tokens : own.tokens ≡ tokens_of unit past
+
+-- the jobs are the operations that the past keeps, and the entries that they need are free
+pub record JobsAgree (past : List Deed) (own : List Job) (spare : ℕ) : Type 0 where
+  pub jobs : own ≡ jobs_of past
+  pub free : reserved past ≤ spare
 
 -- the counters are those of the past
 pub record CountersAgree (past : List Deed) (own_stamp own_moment own_payload : ℕ) : Type 0 where
@@ -30,19 +53,18 @@ pub record KeepsRoom (unit : UnitConfig) (past : List Deed) : Type 0 where
   pub payload : payload 0 past ≤ unit.payload
   pub quota : mapped unit past ≤ unit.quota
 
--- no act so far made a token or an operation
-pub record IsQuiet (past : List Deed) : Type 0 where
-  pub operations : operations past ≡ []
-  pub kept : kept past ≡ []
-  pub tokens : tokens past ≡ []
-
--- all that a unit keeps agrees with its record
-pub record Agrees (config : Configuration) (unit : ℕ) (entries : List Entry) (own_blocks own_length : ℕ) (holds : ℕ → Held) (own_stamp own_moment own_payload : ℕ) : Type 0 where
+-- the entries are the unit's own, and may have been asked
+pub record IsRecord (config : Configuration) (unit : ℕ) (entries : List Entry) : Type 0 where
   pub configured : unit < length config.units
   pub limits : IsUnit (unit_of config unit)
-  -- each entry is the unit's own
   pub own : on unit entries ≡ entries
+  pub asked : AllAsked config unit (past_of config unit entries)
+
+-- all that a unit keeps agrees with its record
+pub record Agrees (config : Configuration) (unit : ℕ) (entries : List Entry) (spare : ℕ) (own_blocks own_length : ℕ) (holds : ℕ → Held) (own_tokens : Store HeldBlocks) (own_jobs : List Job) (own_stamp own_moment own_payload : ℕ) : Type 0 where
+  pub record_is : IsRecord config unit entries
   pub blocks : BlocksAgree (unit_of config unit) (past_of config unit entries) own_blocks own_length holds
+  pub tokens : TokensAgree (unit_of config unit) unit (past_of config unit entries) own_tokens
+  pub jobs : JobsAgree (past_of config unit entries) own_jobs spare
   pub counters : CountersAgree (past_of config unit entries) own_stamp own_moment own_payload
   pub room : KeepsRoom (unit_of config unit) (past_of config unit entries)
-  pub quiet : IsQuiet (past_of config unit entries)

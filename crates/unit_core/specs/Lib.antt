@@ -1,5 +1,8 @@
 pub mod Standing
 pub mod Acting
-pub mod Agreeing
-pub mod Changes
 pub mod Tables
+pub mod Agreeing
+pub mod BlockChanges
+pub mod JobChanges
+pub mod TokenChanges
+pub mod Planning

@@ -3,9 +3,9 @@ ghost use Rattle.std.specs.Prelude.{◌≡◌, ◌<◌, ◌^◌, ◌∷◌, [], 
 ghost use Rattle.lba_ranges.specs.Denoted.{blocks_of};
 ghost use Rattle.lba_ranges.specs.Writings.{unmapped};
 ghost use Rattle.cm_history.specs.Answers.{answer_read, answer_write, answer_unmap, answer_status, put_at, wrote_of};
-ghost use Rattle.unit_core.specs.Changes.{writings_of, MayChange};
+ghost use Rattle.unit_core.specs.BlockChanges.{writings_of, MayChange};
 
-use crate::change::Change;
+use crate::block_change::BlockChange;
 use crate::refusals;
 use cm_base::{OutOfMemory, UnitConfig};
 use cm_history::Answer;
@@ -15,19 +15,19 @@ use unmap_thin::{mapped_after, runs};
 
 /// What an act is answered, and what it is to write.
 #[derive(Drop)]
-pub(crate) struct Plan {
+pub(crate) struct BlockPlan {
     pub answer: Answer,
-    pub change: Change,
+    pub change: BlockChange,
 }
 
 /// An act that writes nothing.
-pub(crate) fn answered(answer: Answer) -> Plan
+pub(crate) fn answered(answer: Answer) -> BlockPlan
     ensures answer { result.answer ≡ answer }
-    ensures change { result.change ≡ Change.Nothing }
+    ensures change { result.change ≡ BlockChange.Nothing }
 {
-    Plan {
+    BlockPlan {
         answer,
-        change: Change::Nothing,
+        change: BlockChange::Nothing,
     }
 }
 
@@ -47,11 +47,11 @@ pub(crate) fn read<B: Blocks>(
     unit: UnitConfig,
     lba: u64,
     count: u32,
-) -> Result<Plan, OutOfMemory>
+) -> Result<BlockPlan, OutOfMemory>
     requires count { B.blocks blocks.now ≡ unit.blocks }
     requires size { B.block_length blocks.now ≡ unit.block_length }
     ensures answer { IfOk result (λ p. p.answer ≡ answer_read unit (B.holds blocks.now) lba count) }
-    ensures change { IfOk result (λ p. p.change ≡ Change.Nothing) }
+    ensures change { IfOk result (λ p. p.change ≡ BlockChange.Nothing) }
 {
     if lba > unit.blocks || u64::from(count) > unit.blocks - lba {
         return Ok(answered(refusals::address_out_of_range()));
@@ -68,7 +68,7 @@ pub(crate) fn write<B: Blocks>(
     unit: UnitConfig,
     lba: u64,
     list: &BlockList,
-) -> Result<Plan, OutOfMemory>
+) -> Result<BlockPlan, OutOfMemory>
     requires count { B.blocks blocks.now ≡ unit.blocks }
     requires size { list.now.block_length ≡ unit.block_length }
     requires few { length list.now.items < 2 ^ 32 }
@@ -85,9 +85,9 @@ pub(crate) fn write<B: Blocks>(
         return Ok(answered(refusals::space_allocation_failed()));
     }
     let list = list.copy(alloc)?;
-    Ok(Plan {
+    Ok(BlockPlan {
         answer: Answer::Done,
-        change: Change::Put { ranges, list },
+        change: BlockChange::Put { ranges, list },
     })
 }
 
@@ -96,7 +96,7 @@ pub(crate) fn unmap(
     alloc: Global,
     unit: UnitConfig,
     ranges: &RangeList,
-) -> Result<Plan, OutOfMemory>
+) -> Result<BlockPlan, OutOfMemory>
     ensures answer { IfOk result (λ p. p.answer ≡ answer_unmap unit ranges.now) }
     ensures change { IfOk result (λ p. writings_of p.change ≡ wrote_of p.answer (unmapped (blocks_of ranges.now))) }
     ensures may { IfOk result (λ p. MayChange unit.blocks unit.block_length p.change) }
@@ -105,9 +105,9 @@ pub(crate) fn unmap(
         return Ok(answered(refusals::address_out_of_range()));
     }
     let ranges = ranges.copy(alloc)?;
-    Ok(Plan {
+    Ok(BlockPlan {
         answer: Answer::Done,
-        change: Change::Clear { ranges },
+        change: BlockChange::Clear { ranges },
     })
 }
 
@@ -117,10 +117,10 @@ pub(crate) fn status<B: Blocks>(
     blocks: &B,
     unit: UnitConfig,
     lba: u64,
-) -> Result<Plan, OutOfMemory>
+) -> Result<BlockPlan, OutOfMemory>
     requires { B.blocks blocks.now ≡ unit.blocks }
     ensures answer { IfOk result (λ p. p.answer ≡ answer_status unit (B.holds blocks.now) lba) }
-    ensures change { IfOk result (λ p. p.change ≡ Change.Nothing) }
+    ensures change { IfOk result (λ p. p.change ≡ BlockChange.Nothing) }
 {
     if lba >= unit.blocks {
         return Ok(answered(refusals::address_out_of_range()));

@@ -1,5 +1,5 @@
 ghost use Rattle.std.specs.Prelude.{◌≡◌};
-ghost use Rattle.cm_history.specs.Senses.{out_of_range, over_quota, no_such_operation, not_made};
+ghost use Rattle.cm_history.specs.Senses.{out_of_range, over_quota, in_use, too_many, no_such_operation};
 
 use cm_history::Answer;
 use scsi_sense::Sense;
@@ -14,10 +14,31 @@ pub(crate) fn address_out_of_range() -> Answer
 }
 
 /// SPACE ALLOCATION FAILED WRITE PROTECT: more blocks would be mapped than the quota.
+pub(crate) fn over_quota() -> Sense
+    ensures { result ≡ over_quota }
+{
+    Sense::new(0x07, 0x27, 0x07)
+}
+
+/// The same as an answer.
 pub(crate) fn space_allocation_failed() -> Answer
     ensures { result ≡ Answer.Refused over_quota }
 {
-    Answer::Refused(Sense::new(0x07, 0x27, 0x07))
+    Answer::Refused(over_quota())
+}
+
+/// OPERATION IN PROGRESS: an operation of the key runs.
+pub(crate) fn operation_in_progress() -> Answer
+    ensures { result ≡ Answer.Refused in_use }
+{
+    Answer::Refused(Sense::new(0x05, 0x00, 0x16))
+}
+
+/// INSUFFICIENT RESOURCES: too many operations run, or no serial is left.
+pub(crate) fn insufficient_resources() -> Answer
+    ensures { result ≡ Answer.Refused too_many }
+{
+    Answer::Refused(Sense::new(0x05, 0x55, 0x03))
 }
 
 /// INVALID FIELD IN CDB: there is no such operation.
@@ -25,11 +46,4 @@ pub(crate) fn no_such_operation() -> Answer
     ensures { result ≡ Answer.Refused no_such_operation }
 {
     Answer::Refused(Sense::new(0x05, 0x24, 0x00))
-}
-
-/// INVALID TOKEN OPERATION, TOKEN UNKNOWN: the unit made no token of this serial.
-pub(crate) fn token_unknown() -> Answer
-    ensures { result ≡ Answer.Refused not_made }
-{
-    Answer::Refused(Sense::new(0x05, 0x23, 0x04))
 }

@@ -8,7 +8,7 @@ use Rattle.cm_history.specs.Deeds.{last_stamp}
 use Rattle.cm_history.specs.Answers.{writings, wrote_of}
 use Rattle.cm_history.specs.Room.{is_full}
 use Rattle.cm_history.specs.History.{past_of}
-use Rattle.unit_core.specs.Changes.{writings_of}
+use Rattle.unit_core.specs.BlockChanges.{writings_of}
 use Rattle.unit_core.proofs.Rooms.{room-of}
 use Rattle.unit_core.proofs.Steps.{agrees-step}
 use Rattle.unit_core.proofs.unit.UnitOver.act.Goals as goal

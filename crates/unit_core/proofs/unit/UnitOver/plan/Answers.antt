@@ -5,7 +5,7 @@ use Rattle.cm_history.specs.declared.act.Act.{Act}
 use Rattle.cm_history.specs.declared.act.Actor.{Actor}
 use Rattle.cm_history.specs.Answers.{answer_read, answer_write, answer_status}
 use Rattle.cm_history.specs.History.{answer}
-use Rattle.unit_core.specs.declared.block_plans.Plan.{Plan}
+use Rattle.unit_core.specs.declared.block_plans.BlockPlan.{BlockPlan}
 use Rattle.unit_core.proofs.Blocks.{read-agrees, write-agrees, status-agrees}
 use Rattle.unit_core.proofs.unit.UnitOver.plan.Goals as goal
 

@@ -1,13 +1,13 @@
 -- What is to be written to blocks
-use Rattle.std.specs.Prelude.{◌≡◌, ℕ, List, [], length, true, false, ⊤}
+use Rattle.std.specs.Prelude.{◌≡◌, ℕ, List, [], length, Bool, true, false, ⊤}
 use Rattle.lba_ranges.specs.declared.ranges.Range.{Range}
 use Rattle.lba_ranges.specs.HeldBlocks.{HeldBlocks}
 use Rattle.lba_ranges.specs.Denoted.{blocks_of, total, is_within, is_overlapping}
 use Rattle.lba_ranges.specs.Writings.{Writing, paired, unmapped}
-use Rattle.unit_core.specs.declared.change.Change.{Change}
-use Rattle.unit_core.specs.declared.change.Change.TheVariants.{Nothing, Put, Clear}
+use Rattle.unit_core.specs.declared.block_change.BlockChange.{BlockChange}
+use Rattle.unit_core.specs.declared.block_change.BlockChange.TheVariants.{Nothing, Put, Clear}
 
-abbrev pub writings_of : Change → List Writing
+abbrev pub writings_of : BlockChange → List Writing
 writings_of Nothing = []
 writings_of (Put ranges list) = paired (blocks_of ranges) list.items
 writings_of (Clear ranges) = unmapped (blocks_of ranges)
@@ -19,7 +19,11 @@ pub record MayPut (blocks size : ℕ) (ranges : List Range) (list : HeldBlocks) 
   pub total : total ranges ≡ length list.items
   pub alike : list.block_length ≡ size
 
-abbrev pub MayChange : ℕ → ℕ → Change → Type 0
+abbrev pub MayChange : ℕ → ℕ → BlockChange → Type 0
 MayChange blocks size Nothing = ⊤
 MayChange blocks size (Put ranges list) = MayPut blocks size ranges list
 MayChange blocks size (Clear ranges) = is_within blocks ranges ≡ true
+
+abbrev pub is_nothing : BlockChange → Bool
+is_nothing Nothing = true
+is_nothing _ = false

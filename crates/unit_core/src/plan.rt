@@ -1,0 +1,67 @@
+ghost use Rattle.std.specs.Prelude.{◌≡◌};
+ghost use Rattle.unit_core.specs.Planning.{quiet, of_blocks};
+
+use crate::block_change::BlockChange;
+use crate::block_plans::BlockPlan;
+use crate::job_change::JobChange;
+use crate::token_change::TokenChange;
+use cm_history::Answer;
+
+/// What an act is answered, and what it is to change.
+#[derive(Drop)]
+pub(crate) struct Plan {
+    pub answer: Answer,
+    pub blocks: BlockChange,
+    pub jobs: JobChange,
+    pub tokens: TokenChange,
+}
+
+impl Plan {
+    /// An act that changes nothing.
+    pub(crate) fn answered(answer: Answer) -> Plan
+        ensures { result ≡ quiet answer }
+    {
+        Plan {
+            answer,
+            blocks: BlockChange::Nothing,
+            jobs: JobChange::Nothing,
+            tokens: TokenChange::Nothing,
+        }
+    }
+
+    /// An act that changes an operation alone.
+    pub(crate) fn of_jobs(answer: Answer, jobs: JobChange) -> Plan
+        ensures { result ≡ record (quiet answer) { jobs = jobs } }
+    {
+        Plan {
+            answer,
+            blocks: BlockChange::Nothing,
+            jobs,
+            tokens: TokenChange::Nothing,
+        }
+    }
+
+    /// An act that changes a token alone.
+    pub(crate) fn of_tokens(answer: Answer, tokens: TokenChange) -> Plan
+        ensures { result ≡ record (quiet answer) { tokens = tokens } }
+    {
+        Plan {
+            answer,
+            blocks: BlockChange::Nothing,
+            jobs: JobChange::Nothing,
+            tokens,
+        }
+    }
+
+    /// An act that changes blocks alone.
+    pub(crate) fn of_blocks(plan: BlockPlan) -> Plan
+        ensures { result ≡ of_blocks plan }
+    {
+        Plan {
+            answer: plan.answer,
+            blocks: plan.change,
+            jobs: JobChange::Nothing,
+            tokens: TokenChange::Nothing,
+        }
+    }
+}

@@ -1,0 +1,78 @@
+ghost use Rattle.std.specs.Prelude.{◌≡◌, ℕ, ◌≤◌, ◌<◌, [], length, None, IfOk, OnOk, OnErr, true, false};
+ghost use Rattle.cm_base.specs.Units.{unit_of};
+ghost use Rattle.lba_ranges.specs.Writings.{after};
+ghost use Rattle.unit_core.specs.BlockChanges.{writings_of, MayChange, is_nothing};
+ghost use Rattle.unit_core.specs.JobChanges.{jobs_after, MayJob, grows};
+ghost use Rattle.unit_core.specs.TokenChanges.{tokens_after, MayToken, is_make};
+ghost use Rattle.unit_core.specs.Planning.{takes_none};
+
+use crate::plan::Plan;
+use cm_base::{Config, OutOfMemory};
+use cm_history::Answer;
+use copy_jobs::JobTable;
+use lba_ranges::{BlockList, Blocks};
+use rod_store::RodStore;
+use std::alloc::Global;
+
+/// What a unit answers from: its blocks, its tokens and its operations.
+#[derive(Drop)]
+pub(crate) struct Tables<B: Blocks + Drop> {
+    pub blocks: B,
+    pub tokens: RodStore<BlockList>,
+    pub jobs: JobTable,
+}
+
+impl<B: Blocks + Drop> Tables<B> {
+    /// The tables of a unit that nothing was asked of yet.
+    pub fn new(alloc: Global, config: &Config, unit: u16) -> Result<Tables<B>, OutOfMemory>
+        requires { unit < length config.now.units }
+        ensures blocks { IfOk result (λ t. B.blocks t.blocks ≡ (unit_of config.now unit).blocks) }
+        ensures length { IfOk result (λ t. B.block_length t.blocks ≡ (unit_of config.now unit).block_length) }
+        ensures unmapped { IfOk result (λ t. (block : ℕ) → B.holds t.blocks block ≡ None) }
+        ensures unit { IfOk result (λ t. t.tokens.unit ≡ unit) }
+        ensures tokens { IfOk result (λ t. t.tokens.tokens ≡ []) }
+        ensures jobs { IfOk result (λ t. t.jobs ≡ []) }
+    {
+        let told = config.unit(unit);
+        let tokens = RodStore::new(alloc, config, unit)?;
+        let blocks = B::new(alloc, told.blocks, told.block_length)?;
+        Ok(Tables {
+            blocks,
+            tokens,
+            jobs: JobTable::new(alloc),
+        })
+    }
+
+    /// Does what is planned, at a moment, and gives the planned answer. At `OutOfMemory` all stands as before.
+    pub fn change(&mut self, config: &Config, now: u64, plan: Plan) -> Result<Answer, OutOfMemory>
+        requires blocks { MayChange (B.blocks self.old.blocks) (B.block_length self.old.blocks) plan.blocks }
+        requires jobs { MayJob plan.jobs self.old.jobs }
+        requires tokens { (spare : ℕ) → (is_make plan.tokens ≡ true → 1 ≤ spare)
+            → MayToken config.now (record self.old.tokens { spare = spare }) now plan.tokens }
+        requires apart { grows plan.jobs ≡ true → is_nothing plan.blocks ≡ true }
+        ensures answer { IfOk result (λ a. a ≡ plan.answer) }
+        ensures wrote { OnOk result ((block : ℕ) → B.holds self.new.blocks block
+            ≡ after (writings_of plan.blocks) block (B.holds self.old.blocks block)) }
+        ensures jobs { OnOk result (self.new.jobs ≡ jobs_after plan.jobs self.old.jobs) }
+        ensures tokens { OnOk result (self.new.tokens.tokens ≡ tokens_after plan.tokens now self.old.tokens.tokens) }
+        ensures unit { self.new.tokens.unit ≡ self.old.tokens.unit }
+        ensures blocks { B.blocks self.new.blocks ≡ B.blocks self.old.blocks }
+        ensures length { B.block_length self.new.blocks ≡ B.block_length self.old.blocks }
+        ensures same_blocks { OnErr result ((block : ℕ) → B.holds self.new.blocks block ≡ B.holds self.old.blocks block) }
+        ensures same_jobs { OnErr result (self.new.jobs ≡ self.old.jobs) }
+        ensures same_tokens { OnErr result (self.new.tokens.tokens ≡ self.old.tokens.tokens) }
+        ensures memory { OnErr result (takes_none plan ≡ false) }
+    {
+        let Plan {
+            answer,
+            blocks,
+            jobs,
+            tokens,
+        } = plan;
+        tokens.reserve(&mut self.tokens)?;
+        blocks.apply(&mut self.blocks)?;
+        jobs.apply(&mut self.jobs)?;
+        tokens.apply(config, now, &mut self.tokens);
+        Ok(answer)
+    }
+}
