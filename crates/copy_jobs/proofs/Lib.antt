@@ -1,0 +1,11 @@
+pub mod Tests
+pub mod Cuts
+pub mod SameKeys
+pub mod Trims
+pub mod Counts
+pub mod Keeps
+pub mod Found
+pub mod Places
+pub mod Changed
+pub mod Stepping
+pub mod Next

@@ -18,11 +18,14 @@ abbrev pub with_work : (Work → Work) → Job → Job
 with_work f job = record job { work = f job.work }
 
 -- so many more blocks are written
-abbrev pub moved_by : ℕ → Work → Work
-moved_by blocks (Writing write) = Writing (record write {
+abbrev pub moved_write : ℕ → WriteJob → WriteJob
+moved_write blocks write = record write {
   written = write.written + blocks;
   state = if write.written + blocks == length write.rod.items then OpState.Done else OpState.Running;
-})
+}
+
+abbrev pub moved_by : ℕ → Work → Work
+moved_by blocks (Writing write) = Writing (moved_write blocks write)
 moved_by blocks work = work
 
 -- a piece was refused

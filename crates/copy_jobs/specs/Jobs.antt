@@ -11,12 +11,17 @@ use Rattle.cm_history.specs.Operations.{is_running_state, is_running_copy}
 use Rattle.cm_history.specs.Room.{pieces}
 use Rattle.copy_jobs.specs.declared.key.Key.{Key}
 use Rattle.copy_jobs.specs.declared.job.Job.{Job}
+use Rattle.copy_jobs.specs.declared.job.WriteJob.{WriteJob}
 use Rattle.copy_jobs.specs.declared.job.Work.{Work}
 use Rattle.copy_jobs.specs.declared.job.Work.TheVariants.{Populated, Writing, Copying}
 use Rattle.copy_jobs.specs.Keys.{same_key}
 
 abbrev pub has_key : Key → Job → Bool
 has_key key job = same_key key job.key
+
+abbrev pub is_copying : Work → Bool
+is_copying (Copying result) = true
+is_copying work = false
 
 -- ---- jobs that run
 
@@ -49,10 +54,13 @@ is_crowded jobs = nat_le running_operations (length (running jobs))
 -- ---- entries of the record that are kept free for jobs
 
 -- one for each piece that is left, and one for an early end
+abbrev pub reserved_to_write : WriteJob → ℕ
+reserved_to_write write =
+    if is_running_state write.state then pieces (length write.rod.items) + 1 - pieces write.written else 0
+
 abbrev pub reserved_for : Work → ℕ
 reserved_for (Populated serial blocks) = 0
-reserved_for (Writing write) =
-    if is_running_state write.state then pieces (length write.rod.items) + 1 - pieces write.written else 0
+reserved_for (Writing write) = reserved_to_write write
 reserved_for (Copying result) = if is_running_copy result.state then 1 else 0
 
 abbrev pub reserved : List Job → ℕ

@@ -12,6 +12,10 @@ use Rattle.copy_jobs.specs.declared.job.Work.TheVariants.{Populated, Writing, Co
 use Rattle.copy_jobs.specs.declared.piece.NextPiece.{NextPiece}
 use Rattle.copy_jobs.specs.Jobs.{is_running, runs_as}
 
+abbrev pub is_writing : Work → Bool
+is_writing (Writing write) = true
+is_writing work = false
+
 abbrev pub is_foreground : Work → Bool
 is_foreground (Writing write) = not write.background
 is_foreground work = false
@@ -43,6 +47,13 @@ pub record IsPiece (write : WriteJob) (piece : NextPiece) : Type 0 where
   pub total : total piece.ranges ≡ length piece.list.items
   pub some : 0 < length piece.list.items
   pub few : length piece.list.items ≤ piece_blocks
+
+-- the next piece of a job that writes
+pub record IsPieceOf (job : Job) (piece : NextPiece) : Type 0 where
+  pub write : WriteJob
+  pub work : job.work ≡ Writing write
+  pub named : piece.key ≡ job.key
+  pub next : IsPiece write piece
 
 -- the piece is of the first job that is next, and no other job runs as its key
 pub record IsNextPiece (key : Option Key) (jobs : List Job) (piece : NextPiece) : Type 0 where

@@ -1,11 +1,33 @@
-ghost use Rattle.std.specs.Prelude.{◌≡◌};
-ghost use Rattle.copy_jobs.specs.Jobs.{has_key, is_running_work, is_running, runs_as, has_ended, reserved_for};
+ghost use Rattle.std.specs.Prelude.{◌≡◌, ◌+◌, ◌<◌, ◌≤◌, length, IfOk, IfSome, None, true, false};
+ghost use Rattle.cm_history.specs.Operations.{is_running_state};
+ghost use Rattle.cm_history.specs.Room.{pieces};
+ghost use Rattle.copy_jobs.specs.Jobs.{has_key, is_running_work, is_running, runs_as, has_ended, reserved_to_write, reserved_for};
+ghost use Rattle.copy_jobs.specs.Keeping.{is_other};
+ghost use Rattle.copy_jobs.specs.Changes.{moved_write};
+ghost use Rattle.copy_jobs.specs.Pieces.{is_next, is_foreground, is_background, is_writing, IsPiece, IsPieceOf};
 ghost use Rattle.copy_jobs.specs.Reports.{report_of, result_of};
-ghost use Rattle.copy_jobs.specs.Tables.{IsWork};
+ghost use Rattle.copy_jobs.specs.Steps.{stepped, MayTake};
+ghost use Rattle.copy_jobs.specs.Tables.{IsWriteJob, IsWork};
 
 use crate::key::Key;
+use crate::piece::NextPiece;
+use crate::step::Step;
+use cm_base::OutOfMemory;
 use cm_history::{CopyEnd, CopyState, OpReport, OpState};
 use lba_ranges::{BlockList, RangeList};
+use std::alloc::Global;
+
+/// Blocks of one piece.
+const PIECE_BLOCKS: u64 = 1024;
+
+/// How many pieces so many blocks are written in.
+fn pieces(blocks: u64) -> u64
+    requires { blocks ≤ 1_048_576 }
+    ensures pieces { result ≡ pieces blocks }
+    ensures few { result ≤ 1024 }
+{
+    (blocks + (PIECE_BLOCKS - 1)) / PIECE_BLOCKS
+}
 
 /// Blocks that are written piece by piece: the next piece begins behind the first `written` blocks.
 #[derive(Drop)]
@@ -18,6 +40,54 @@ pub struct WriteJob {
     pub state: OpState,
 }
 
+impl WriteJob {
+    fn is_running(&self) -> bool
+        ensures { result ≡ is_running_state self.now.state }
+    {
+        matches!(&self.state, OpState::Running)
+    }
+
+    /// The entries that it may still need: one for each piece that is left, and one for an early end.
+    fn reserved(&self) -> u64
+        requires { IsWriteJob self.now }
+        ensures reserved { result ≡ reserved_to_write self.now }
+        ensures few { result ≤ 1025 }
+    {
+        if self.is_running() {
+            pieces(self.rod.blocks()) + 1 - pieces(u64::from(self.written))
+        } else {
+            0
+        }
+    }
+
+    /// So many more blocks were written.
+    fn advance(&mut self, blocks: u32)
+        requires { self.old.written + blocks ≤ 1_048_576 }
+        ensures { self.new ≡ moved_write blocks self.old }
+    {
+        self.written += blocks;
+        self.state = if u64::from(self.written) == self.rod.blocks() {
+            OpState::Done
+        } else {
+            OpState::Running
+        };
+    }
+
+    /// The next piece, which shares the payload.
+    pub(crate) fn next(&self, alloc: Global, key: Key) -> Result<NextPiece, OutOfMemory>
+        requires job { IsWriteJob self.now }
+        requires left { self.now.written < length self.now.rod.items }
+        ensures named { IfOk result (λ piece. piece.key ≡ key) }
+        ensures piece { IfOk result (λ piece. IsPiece self.now piece) }
+    {
+        let from = u64::from(self.written);
+        let count = (self.rod.blocks() - from).min(PIECE_BLOCKS);
+        let ranges = self.ranges.slice(alloc, from, count)?;
+        let list = self.rod.slice(alloc, from, count)?;
+        Ok(NextPiece { key, ranges, list })
+    }
+}
+
 /// What is kept of an operation.
 #[derive(Drop)]
 pub enum Work {
@@ -28,9 +98,167 @@ pub enum Work {
     Copying(CopyEnd),
 }
 
+impl Work {
+    pub(crate) fn is_running(&self) -> bool
+        ensures { result ≡ is_running_work self.now }
+    {
+        match self {
+            Work::Populated { .. } => false,
+            Work::Writing(write) => write.is_running(),
+            Work::Copying(end) => matches!(&end.state, CopyState::Running),
+        }
+    }
+
+    /// The entries of the record that are kept free for it.
+    pub(crate) fn reserved(&self) -> u64
+        requires { IsWork self.now }
+        ensures reserved { result ≡ reserved_for self.now }
+        ensures few { result ≤ 1025 }
+    {
+        match self {
+            Work::Populated { .. } => 0,
+            Work::Writing(write) => write.reserved(),
+            Work::Copying(end) => u64::from(matches!(&end.state, CopyState::Running)),
+        }
+    }
+
+    /// The pump writes it.
+    fn is_background(&self) -> bool
+        ensures { result ≡ is_background self.now }
+    {
+        match self {
+            Work::Writing(write) => write.background,
+            _ => false,
+        }
+    }
+
+    /// The initiator has it written.
+    fn is_foreground(&self) -> bool
+        ensures { result ≡ is_foreground self.now }
+    {
+        match self {
+            Work::Writing(write) => !write.background,
+            _ => false,
+        }
+    }
+
+    pub(crate) fn take(&mut self, step: Step)
+        requires work { IsWork self.old }
+        requires step { MayTake step self.old }
+        ensures { self.new ≡ stepped step self.old }
+    {
+        match self {
+            Work::Populated { .. } => {}
+            Work::Writing(write) => match step {
+                Step::Moved(blocks) => write.advance(blocks),
+                Step::Stopped(sense) => write.state = OpState::Failed(sense),
+                Step::Terminated => write.state = OpState::Terminated,
+                Step::Closed(_) => {}
+            },
+            Work::Copying(was) => {
+                if let Step::Closed(end) = step {
+                    *was = end;
+                }
+            }
+        }
+    }
+
+    pub(crate) fn report(&self) -> OpReport
+        ensures { result ≡ report_of self.now }
+    {
+        match self {
+            Work::Populated { serial, blocks } => OpReport {
+                populate: true,
+                background: false,
+                state: OpState::Done,
+                count: *blocks,
+                serial: Some(*serial),
+            },
+            Work::Writing(write) => OpReport {
+                populate: false,
+                background: write.background,
+                state: write.state,
+                count: write.written,
+                serial: None,
+            },
+            Work::Copying(_) => OpReport {
+                populate: false,
+                background: false,
+                state: OpState::Done,
+                count: 0,
+                serial: None,
+            },
+        }
+    }
+
+    pub(crate) fn result(&self) -> CopyEnd
+        ensures { result ≡ result_of self.now }
+    {
+        match self {
+            Work::Copying(end) => *end,
+            _ => CopyEnd {
+                state: CopyState::Running,
+                segments: 0,
+                bytes: 0,
+            },
+        }
+    }
+}
+
 /// An operation that is kept.
 #[derive(Drop)]
 pub struct Job {
     pub key: Key,
     pub work: Work,
+}
+
+impl Job {
+    pub(crate) fn has_key(&self, key: Key) -> bool
+        ensures { result ≡ has_key key self.now }
+    {
+        key.is(self.key)
+    }
+
+    pub(crate) fn has_ended(&self) -> bool
+        ensures { result ≡ has_ended self.now }
+    {
+        !self.work.is_running()
+    }
+
+    /// It runs, and the key is its own.
+    pub(crate) fn runs_as(&self, key: Key) -> bool
+        ensures { result ≡ runs_as key self.now }
+    {
+        self.work.is_running() && self.has_key(key)
+    }
+
+    /// It has not ended, or has another key.
+    pub(crate) fn is_other(&self, key: Key) -> bool
+        ensures { result ≡ is_other key self.now }
+    {
+        !(self.has_ended() && self.has_key(key))
+    }
+
+    /// It is to write: in the foreground as the key, or without a key in the background.
+    pub(crate) fn is_next(&self, key: Option<Key>) -> bool
+        ensures { result ≡ is_next key self.now }
+    {
+        match key {
+            Some(key) => self.runs_as(key) && self.work.is_foreground(),
+            None => self.work.is_running() && self.work.is_background(),
+        }
+    }
+
+    /// The next piece, if it writes; `None` of other work.
+    pub(crate) fn next_piece(&self, alloc: Global) -> Result<Option<NextPiece>, OutOfMemory>
+        requires work { IsWork self.now.work }
+        requires runs { is_running self.now ≡ true }
+        ensures writes { IfOk result (λ piece. piece ≡ None → is_writing self.now.work ≡ false) }
+        ensures piece { IfOk result (λ piece. IfSome piece (λ piece. IsPieceOf self.now piece)) }
+    {
+        match &self.work {
+            Work::Writing(write) => Ok(Some(write.next(alloc, self.key)?)),
+            _ => Ok(None),
+        }
+    }
 }

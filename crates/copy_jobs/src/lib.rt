@@ -4,7 +4,9 @@
 mod job;
 mod key;
 mod piece;
+mod records;
 mod refused;
+mod step;
 mod table;
 
 pub use job::{Job, Work, WriteJob};

@@ -1,26 +1,32 @@
-ghost use Rattle.std.specs.Prelude.{◌≡◌, ◌≢◌, ℕ, ◌^◌, ◌≤◌, [], length, find, Some, None, true, false, IfOk, IfErr, OnOk, OnErr, IfSome, IfNone};
+ghost use Rattle.std.specs.Prelude.{◌≡◌, ◌≢◌, ℕ, ◌+◌, ◌^◌, ◌≤◌, [], length, find, Some, None, true, false, IfOk, IfErr, OnOk, OnErr, IfSome, IfNone};
 ghost use Rattle.std.specs.Option.{option_map};
 ghost use Rattle.lba_ranges.specs.Denoted.{total, is_within, is_overlapping};
 ghost use Rattle.cm_history.specs.Bounds.{running_operations};
 ghost use Rattle.cm_history.specs.Operations.{is_running_copy};
 ghost use Rattle.copy_jobs.specs.declared.job.Job.{Job};
-ghost use Rattle.copy_jobs.specs.Jobs.{has_key, runs_as, is_busy, is_crowded, running, reserved, started, opened, made};
+ghost use Rattle.copy_jobs.specs.Jobs.{has_key, is_running, runs_as, is_busy, is_crowded, running, reserved, started, opened, made};
 ghost use Rattle.copy_jobs.specs.Keeping.{keep};
 ghost use Rattle.copy_jobs.specs.Changes.{change, with_work, moved_by, stopped_by, terminated, closed_by};
 ghost use Rattle.copy_jobs.specs.Pieces.{is_next, next_length, IsNextPiece};
 ghost use Rattle.copy_jobs.specs.Reports.{report_of, result_of};
-ghost use Rattle.copy_jobs.specs.Tables.{KeysApart};
+ghost use Rattle.copy_jobs.specs.Steps.{stepped, MayStep};
+ghost use Rattle.copy_jobs.specs.Tables.{KeysApart, IsJob};
 
 use crate::job::{Job, Work, WriteJob};
 use crate::key::Key;
 use crate::piece::NextPiece;
+use crate::records;
 use crate::refused::JobRefused;
+use crate::step::Step;
 use cm_base::OutOfMemory;
 use cm_history::{CopyEnd, CopyState, OpReport, OpState};
 use lba_ranges::{BlockList, RangeList};
 use scsi_sense::Sense;
 use std::alloc::Global;
 use std::marker::Model;
+
+/// Operations that run.
+const RUNNING_OPERATIONS: u32 = 64;
 
 /// The operations that a unit keeps: at most 256, of which at most 64 run. Contracts see them in the order in
 /// which they were kept.
@@ -62,7 +68,7 @@ impl JobTable {
         ensures busy { result ≡ is_busy key self.now }
         ensures apart { KeysApart self.now }
     {
-        unreachable!()
+        self.jobs.iter().any(|job| job.runs_as(key))
     }
 
     /// How many operations run, at most 64. It takes no memory.
@@ -79,6 +85,54 @@ impl JobTable {
         ensures few { result ≤ 65_600 }
     {
         self.reserved
+    }
+
+    /// One more operation may run as the key.
+    fn admit(&self, key: Key) -> Result<(), JobRefused>
+        ensures idle { OnOk result (is_busy key self.now ≡ false) }
+        ensures room { OnOk result (is_crowded self.now ≡ false) }
+        ensures busy { IfErr result (λ e. e ≡ JobRefused.InUse → is_busy key self.now ≡ true) }
+        ensures judged { IfErr result (λ e. e ≡ JobRefused.TooMany → is_busy key self.now ≡ false) }
+        ensures crowded { IfErr result (λ e. e ≡ JobRefused.TooMany → is_crowded self.now ≡ true) }
+    {
+        if self.runs(key) {
+            return Err(JobRefused::InUse);
+        }
+        if self.running >= RUNNING_OPERATIONS {
+            return Err(JobRefused::TooMany);
+        }
+        Ok(())
+    }
+
+    /// Keeps a job for which there is room. At `OutOfMemory` the table is as before.
+    fn add(&mut self, job: Job) -> Result<(), OutOfMemory>
+        requires job { IsJob job }
+        requires idle { is_busy job.key self.old ≡ false }
+        requires room { is_running job ≡ true → is_crowded self.old ≡ false }
+        ensures kept { OnOk result (self.new ≡ keep self.old job) }
+        ensures refused { OnErr result (self.new ≡ self.old) }
+    {
+        let runs = u32::from(job.work.is_running());
+        let reserved = job.work.reserved();
+        records::keep(&mut self.jobs, job)?;
+        self.running += runs;
+        self.reserved += reserved;
+        Ok(())
+    }
+
+    /// Takes a step of the job that runs as the key.
+    fn change(&mut self, key: Key, step: Step)
+        requires busy { is_busy key self.old ≡ true }
+        requires step { MayStep step key self.old }
+        ensures changed { self.new ≡ change (runs_as key) (with_work (stepped step)) self.old }
+        ensures frees { reserved self.new + 1 ≤ reserved self.old }
+    {
+        let place = records::place_of(&self.jobs, key);
+        let work = &mut self.jobs[place].work;
+        let before = work.reserved();
+        work.take(step);
+        self.reserved = self.reserved + work.reserved() - before;
+        self.running -= u32::from(!work.is_running());
     }
 
     /// Keeps an operation that is to write the blocks of `rod`, at most 1,048,576, to `ranges` (SPC-4, WRITE USING
@@ -105,7 +159,21 @@ impl JobTable {
         ensures crowded { IfErr result (λ e. e ≡ JobRefused.TooMany → is_crowded self.old ≡ true) }
         ensures refused { OnErr result (self.new ≡ self.old) }
     {
-        unreachable!()
+        self.admit(key)?;
+        let state = if rod.blocks() == 0 {
+            OpState::Done
+        } else {
+            OpState::Running
+        };
+        let work = Work::Writing(WriteJob {
+            background,
+            ranges,
+            rod,
+            written: 0,
+            state,
+        });
+        self.add(Job { key, work })?;
+        Ok(())
     }
 
     /// Keeps a copy that its nexus is to carry out (SPC-4, EXTENDED COPY). Room is made, and refused, as by `start`.
@@ -119,7 +187,14 @@ impl JobTable {
         ensures crowded { IfErr result (λ e. e ≡ JobRefused.TooMany → is_crowded self.old ≡ true) }
         ensures refused { OnErr result (self.new ≡ self.old) }
     {
-        unreachable!()
+        self.admit(key)?;
+        let work = Work::Copying(CopyEnd {
+            state: CopyState::Running,
+            segments: 0,
+            bytes: 0,
+        });
+        self.add(Job { key, work })?;
+        Ok(())
     }
 
     /// Keeps that the token of this serial was made of so many blocks (SPC-4, POPULATE TOKEN). Room is made as by
@@ -133,7 +208,12 @@ impl JobTable {
         ensures never { IfErr result (λ e. e ≢ JobRefused.TooMany) }
         ensures refused { OnErr result (self.new ≡ self.old) }
     {
-        unreachable!()
+        if self.runs(key) {
+            return Err(JobRefused::InUse);
+        }
+        let work = Work::Populated { serial, blocks };
+        self.add(Job { key, work })?;
+        Ok(())
     }
 
     /// What is to be written next, at most 1024 blocks: by the foreground operation of a key, or without a key by the
@@ -142,7 +222,10 @@ impl JobTable {
         ensures none { IfOk result (λ found. found ≡ None → find (is_next key) self.now ≡ None) }
         ensures piece { IfOk result (λ found. IfSome found (λ piece. IsNextPiece key self.now piece)) }
     {
-        unreachable!()
+        match self.jobs.iter().find(|job| job.is_next(key)) {
+            Some(job) => job.next_piece(self.alloc),
+            None => Ok(None),
+        }
     }
 
     /// The next piece of the operation, of so many blocks, was written. With the last one it is done. It takes no
@@ -150,27 +233,30 @@ impl JobTable {
     pub fn moved(&mut self, key: Key, blocks: u32)
         requires token { key.copy ≡ false }
         requires piece { next_length key self.old ≡ Some blocks }
-        ensures { self.new ≡ change (runs_as key) (with_work (moved_by blocks)) self.old }
+        ensures changed { self.new ≡ change (runs_as key) (with_work (moved_by blocks)) self.old }
+        ensures frees { reserved self.new + 1 ≤ reserved self.old }
     {
-        unreachable!()
+        self.change(key, Step::Moved(blocks));
     }
 
     /// The next piece of the operation was refused, and it goes on no more. It takes no memory.
     pub fn fail(&mut self, key: Key, sense: Sense)
         requires token { key.copy ≡ false }
         requires busy { is_busy key self.old ≡ true }
-        ensures { self.new ≡ change (runs_as key) (with_work (stopped_by sense)) self.old }
+        ensures changed { self.new ≡ change (runs_as key) (with_work (stopped_by sense)) self.old }
+        ensures frees { reserved self.new + 1 ≤ reserved self.old }
     {
-        unreachable!()
+        self.change(key, Step::Stopped(sense));
     }
 
     /// The operation was ended before it was done. It takes no memory.
     pub fn terminate(&mut self, key: Key)
         requires token { key.copy ≡ false }
         requires busy { is_busy key self.old ≡ true }
-        ensures { self.new ≡ change (runs_as key) (with_work terminated) self.old }
+        ensures changed { self.new ≡ change (runs_as key) (with_work terminated) self.old }
+        ensures frees { reserved self.new + 1 ≤ reserved self.old }
     {
-        unreachable!()
+        self.change(key, Step::Terminated);
     }
 
     /// The copy has come to its end. It takes no memory.
@@ -178,9 +264,10 @@ impl JobTable {
         requires copy { key.copy ≡ true }
         requires busy { is_busy key self.old ≡ true }
         requires ended { is_running_copy end.state ≡ false }
-        ensures { self.new ≡ change (runs_as key) (with_work (closed_by end)) self.old }
+        ensures changed { self.new ≡ change (runs_as key) (with_work (closed_by end)) self.old }
+        ensures frees { reserved self.new + 1 ≤ reserved self.old }
     {
-        unreachable!()
+        self.change(key, Step::Closed(end));
     }
 
     /// What is kept of a token operation (SPC-4, RECEIVE ROD TOKEN INFORMATION); `None` where nothing is. It takes no
@@ -189,7 +276,10 @@ impl JobTable {
         requires { key.copy ≡ false }
         ensures { result ≡ option_map (λ (job : Job). report_of job.work) (find (has_key key) self.now) }
     {
-        unreachable!()
+        match self.jobs.iter().find(|job| job.has_key(key)) {
+            Some(job) => Some(job.work.report()),
+            None => None,
+        }
     }
 
     /// How a copy stands (SPC-4, RECEIVE COPY STATUS); `None` where nothing is kept of it. It takes no memory.
@@ -197,6 +287,9 @@ impl JobTable {
         requires { key.copy ≡ true }
         ensures { result ≡ option_map (λ (job : Job). result_of job.work) (find (has_key key) self.now) }
     {
-        unreachable!()
+        match self.jobs.iter().find(|job| job.has_key(key)) {
+            Some(job) => Some(job.work.result()),
+            None => None,
+        }
     }
 }

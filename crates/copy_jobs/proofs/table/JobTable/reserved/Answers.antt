@@ -1,0 +1,8 @@
+use Rattle.std.proofs.Common.{arith}
+use Rattle.copy_jobs.proofs.Counts.{reserved-few}
+use Rattle.copy_jobs.proofs.table.JobTable.reserved.Goals as goal
+
+pub returns-clause-few : goal.returns-clause-few
+returns-clause-few c =
+    let is = c.self.invariant in
+    omega (arith, is.counts_reserved, is.few_running, reserved-few c.self.inside.jobs.items is.jobs)
