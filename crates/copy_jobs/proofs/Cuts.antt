@@ -43,8 +43,9 @@ pub piece-is : (write : WriteJob) (piece : NextPiece) (count : ℕ) → IsWriteJ
     → blocks_of piece.ranges ≡ slice_range (blocks_of write.ranges) write.written (write.written + count)
     → piece.list ≡ record write.rod { items = slice_range write.rod.items write.written (write.written + count) }
     → ((n : ℕ) → is_within n write.ranges ≡ true → is_within n piece.ranges ≡ true)
+    → piece.written ≡ write.written → piece.is_last ≡ (write.written + count == length write.rod.items)
     → IsPiece write piece
-piece-is write piece count is left size blocks list within =
+piece-is write piece count is left size blocks list within from-is last-is =
     let from = write.written in
     let long : length (blocks_of write.ranges) ≡ length write.rod.items = length-blocks_of write.ranges ∙ is.total in
     let size-too : count ≡ min (length (blocks_of write.ranges) - from) piece_blocks = rw long size in
@@ -68,4 +69,8 @@ piece-is write piece count is left size blocks list within =
       total = total-of ∙ sym count-of;
       some = omega (arith, count-of);
       few = omega (arith, count-of);
+      written = from-is;
+      last =
+          let same : count ≡ length piece.list.items = omega (arith, size, count-of) in
+          last-is ∙ ap (λ n. write.written + n == length write.rod.items) same;
     }

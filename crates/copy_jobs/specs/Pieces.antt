@@ -1,5 +1,5 @@
 -- The piece that is written next
-use Rattle.std.specs.Prelude.{◌≡◌, ℕ, ◌-◌, ◌<◌, ◌≤◌, List, length, take, drop, find, min, Option, Some, None, Bool, true, false, ◌&&◌, not}
+use Rattle.std.specs.Prelude.{◌≡◌, ◌==◌, ℕ, ◌+◌, ◌-◌, ◌<◌, ◌≤◌, List, length, take, drop, find, min, Option, Some, None, Bool, true, false, ◌&&◌, not}
 use Rattle.std.specs.Option.{option_map}
 use Rattle.lba_ranges.specs.Denoted.{blocks_of, total, is_within, is_overlapping}
 use Rattle.lba_ranges.specs.HeldBlocks.{HeldBlocks}
@@ -29,6 +29,10 @@ abbrev pub is_next : Option Key → Job → Bool
 is_next (Some key) job = runs_as key job && is_foreground job.work
 is_next None job = is_running job && is_background job.work
 
+-- the job of the key is written by the pump
+abbrev pub runs_behind : Key → Job → Bool
+runs_behind key job = runs_as key job && is_background job.work
+
 -- how many blocks the next piece has: 1024, or all that are left
 abbrev pub piece_length : Work → ℕ
 piece_length (Writing write) = min piece_blocks (length write.rod.items - write.written)
@@ -47,6 +51,8 @@ pub record IsPiece (write : WriteJob) (piece : NextPiece) : Type 0 where
   pub total : total piece.ranges ≡ length piece.list.items
   pub some : 0 < length piece.list.items
   pub few : length piece.list.items ≤ piece_blocks
+  pub written : piece.written ≡ write.written
+  pub last : piece.is_last ≡ (write.written + length piece.list.items == length write.rod.items)
 
 -- the next piece of a job that writes
 pub record IsPieceOf (job : Job) (piece : NextPiece) : Type 0 where

@@ -4,7 +4,7 @@ ghost use Rattle.cm_history.specs.Room.{pieces};
 ghost use Rattle.copy_jobs.specs.Jobs.{has_key, is_running_work, is_running, runs_as, has_ended, reserved_to_write, reserved_for};
 ghost use Rattle.copy_jobs.specs.Keeping.{is_other};
 ghost use Rattle.copy_jobs.specs.Changes.{moved_write};
-ghost use Rattle.copy_jobs.specs.Pieces.{is_next, is_foreground, is_background, is_writing, IsPiece, IsPieceOf};
+ghost use Rattle.copy_jobs.specs.Pieces.{is_next, runs_behind, is_foreground, is_background, is_writing, IsPiece, IsPieceOf};
 ghost use Rattle.copy_jobs.specs.Reports.{report_of, result_of};
 ghost use Rattle.copy_jobs.specs.Steps.{stepped, MayTake};
 ghost use Rattle.copy_jobs.specs.Tables.{IsWriteJob, IsWork};
@@ -84,7 +84,13 @@ impl WriteJob {
         let count = (self.rod.blocks() - from).min(PIECE_BLOCKS);
         let ranges = self.ranges.slice(alloc, from, count)?;
         let list = self.rod.slice(alloc, from, count)?;
-        Ok(NextPiece { key, ranges, list })
+        Ok(NextPiece {
+            key,
+            written: self.written,
+            is_last: from + count == self.rod.blocks(),
+            ranges,
+            list,
+        })
     }
 }
 
@@ -247,6 +253,13 @@ impl Job {
             Some(key) => self.runs_as(key) && self.work.is_foreground(),
             None => self.work.is_running() && self.work.is_background(),
         }
+    }
+
+    /// It runs in the background as the key.
+    pub(crate) fn runs_behind(&self, key: Key) -> bool
+        ensures { result ≡ runs_behind key self.now }
+    {
+        self.runs_as(key) && self.work.is_background()
     }
 
     /// The next piece, if it writes; `None` of other work.

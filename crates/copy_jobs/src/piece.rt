@@ -6,6 +6,10 @@ use lba_ranges::{BlockList, RangeList};
 #[derive(Drop)]
 pub struct NextPiece {
     pub key: Key,
+    /// How many blocks were written before.
+    pub written: u32,
+    /// With this piece all is written.
+    pub is_last: bool,
     pub ranges: RangeList,
     pub list: BlockList,
 }

@@ -1,5 +1,6 @@
 ghost use Rattle.std.specs.Prelude.{◌≡◌, ◌≢◌, ℕ, ◌+◌, ◌^◌, ◌≤◌, [], length, find, Some, None, true, false, IfOk, IfErr, OnOk, OnErr, IfSome, IfNone};
 ghost use Rattle.std.specs.Option.{option_map};
+ghost use Rattle.std.specs.List.{list_any};
 ghost use Rattle.lba_ranges.specs.Denoted.{total, is_within, is_overlapping};
 ghost use Rattle.cm_history.specs.Bounds.{running_operations};
 ghost use Rattle.cm_history.specs.Operations.{is_running_copy};
@@ -7,7 +8,7 @@ ghost use Rattle.copy_jobs.specs.declared.job.Job.{Job};
 ghost use Rattle.copy_jobs.specs.Jobs.{has_key, is_running, runs_as, is_busy, is_crowded, running, reserved, started, opened, made};
 ghost use Rattle.copy_jobs.specs.Keeping.{keep};
 ghost use Rattle.copy_jobs.specs.Changes.{change, with_work, moved_by, stopped_by, terminated, closed_by};
-ghost use Rattle.copy_jobs.specs.Pieces.{is_next, next_length, IsNextPiece};
+ghost use Rattle.copy_jobs.specs.Pieces.{is_next, runs_behind, next_length, IsNextPiece};
 ghost use Rattle.copy_jobs.specs.Reports.{report_of, result_of};
 ghost use Rattle.copy_jobs.specs.Steps.{stepped, MayStep};
 ghost use Rattle.copy_jobs.specs.Tables.{KeysApart, IsJob};
@@ -69,6 +70,21 @@ impl JobTable {
         ensures apart { KeysApart self.now }
     {
         self.jobs.iter().any(|job| job.runs_as(key))
+    }
+
+    /// The operation of the key runs in the background: the unit's pump writes its pieces. It takes no memory.
+    pub fn runs_behind(&self, key: Key) -> bool
+        ensures { result ≡ list_any (runs_behind key) self.now }
+    {
+        self.jobs.iter().any(|job| job.runs_behind(key))
+    }
+
+    /// A piece is to be written next: by the foreground operation of a key, or without a key by an operation in the
+    /// background. It takes no memory.
+    pub fn waits(&self, key: Option<Key>) -> bool
+        ensures { result ≡ list_any (is_next key) self.now }
+    {
+        self.jobs.iter().any(|job| job.is_next(key))
     }
 
     /// How many operations run, at most 64. It takes no memory.
