@@ -25,7 +25,8 @@ use Rattle.copy_jobs.specs.Keeping as keeping
 use Rattle.copy_jobs.specs.Pieces as next
 use Rattle.unit_core.specs.Tables.{number_of, is_copy, key_of, work_of, job_of, jobs_of}
 use Rattle.unit_core.proofs.Finding.{find-filter, find-map, find-same, any-filter, any-map, any-same, filter-map, filter-same, map-append}
-use Rattle.unit_core.proofs.Operating.{IsAsked, IsMadeBy, all-made_by}
+use Rattle.unit_core.proofs.Operating.{IsMadeBy, all-made_by}
+use Rattle.unit_core.specs.Agreeing.{IsAsked, AllAsked}
 
 -- ---- a nexus makes operations
 
@@ -47,7 +48,7 @@ IsOwn config unit o = IsMadeBy config unit o.made
 pub own-nexus : (config : Configuration) (unit : ℕ) (o : Operation) → IsOwn config unit o → IsNexus o.made.entry.actor
 own-nexus config unit o own = maker-nexus unit o.made.entry.actor o.made.entry.act own.asked.asked own.makes
 
-pub all-own : (config : Configuration) (unit : ℕ) (past : List Deed) → IsPast config unit past → Each (IsAsked config unit) past → Each (IsOwn config unit) (kept past)
+pub all-own : (config : Configuration) (unit : ℕ) (past : List Deed) → IsPast config unit past → AllAsked config unit past → Each (IsOwn config unit) (kept past)
 all-own config unit past is asked =
     Each-by (IsOwn config unit) (kept past) (λ o i. Each-in (IsOwn config unit) (operations past) o (all-made_by config unit past is asked) (kept_in config unit past o is i))
 

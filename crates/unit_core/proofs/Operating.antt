@@ -12,27 +12,27 @@ use Rattle.cm_history.specs.declared.answer.OpState.{OpState}
 use Rattle.cm_history.specs.Bounds.{piece_blocks}
 use Rattle.cm_history.specs.Deeds.{Deed, is_refusal, is_answered}
 use Rattle.cm_history.specs.Blocks.{held, mapped_with}
-use Rattle.cm_history.specs.Limits.{within_limits}
-use Rattle.cm_history.specs.Legal.{may_ask}
+use Rattle.unit_core.specs.Agreeing.{IsAsked, AllAsked}
 use Rattle.lba_ranges.specs.Denoted.{is_within}
 use Rattle.cm_history.specs.Senses.{in_use, out_of_range, too_many}
 use Rattle.cm_history.specs.Tokens.{is_populate, tokens}
 use Rattle.cm_history.specs.Operations.{Operation, OfToken, operations, operation_after, made_operation, makes_operation, is_making, serves, would_serve, running, is_running, is_running_state, is_foreground, is_background, fits, kept, written, list_of, next_piece, state_of, was_stopped, was_ended, is_failure}
-use Rattle.cm_history.specs.Answers.{deed, answer_after, writings, wrote_of, serial_made, is_busy}
+use Rattle.cm_history.specs.Answers.{deed, answer_after, writings, wrote_of, serial_made, is_busy, is_crowded}
 use Rattle.cm_history.proofs.Lists.{In, Each, Each-in, Each-by, Each-map, Each-append, In-filter, find-in, find-none, find-some, filter-passes}
 use Rattle.cm_history.proofs.Counts.{IsPast, made-after, apart, same_place}
 use Rattle.cm_history.proofs.Records.{and_first, kept_in}
 
--- a deed that the unit may have been asked
-pub record IsAsked (config : Configuration) (unit : ℕ) (d : Deed) : Type 0 where
-  pub limits : within_limits config unit d.entry.act ≡ true
-  pub asked : may_ask unit d.entry.actor d.entry.act ≡ true
+-- the blocks that a Start writes lie in the unit
+abbrev pub starts_within : ℕ → Act → Bool
+starts_within blocks (Act.Start id background ranges rod) = is_within blocks ranges
+starts_within blocks _ = true
 
 -- an operation that such a deed made
 pub record IsMadeBy (config : Configuration) (unit : ℕ) (d : Deed) : Type 0 where
   pub asked : IsAsked config unit d
   pub makes : is_making d.entry.act ≡ true
   pub serial : is_populate d.entry.act ≡ true → is_some (serial_made d.answer) ≡ true
+  pub within : starts_within (unit_of config unit).blocks d.entry.act ≡ true
 
 and_second : (a b : Bool) → (a && b) ≡ true → b ≡ true
 and_second true b e = e
@@ -52,8 +52,22 @@ populate-made config unit past actor now (Act.Populate id timeout ranges) e answ
     go false false false h = refl
 populate-made config unit past actor now _ e answered = cc
 
+start-within : (config : Configuration) (unit : ℕ) (past : List Deed) (actor : Actor) (now : ℕ) (act : Act)
+    → not (is_refusal (answer_after config unit past actor now act)) ≡ true → starts_within (unit_of config unit).blocks act ≡ true
+start-within config unit past actor now (Act.Start id background ranges rod) answered =
+    go (is_busy past actor OfToken id) (is_within (unit_of config unit).blocks ranges) answered
+  where
+    last : Answer
+    last = if is_crowded past then Answer.Refused too_many else Answer.Progress (if length rod.items == 0 then OpState.Done else OpState.Running) 0
+
+    go : (a b : Bool) → not (is_refusal (if a then Answer.Refused in_use else if not b then Answer.Refused out_of_range else last)) ≡ true → b ≡ true
+    go true b h = cc
+    go false true h = refl
+    go false false h = cc
+start-within config unit past actor now _ answered = refl
+
 -- each operation was made by such a deed
-pub all-made_by : (config : Configuration) (unit : ℕ) (past : List Deed) → IsPast config unit past → Each (IsAsked config unit) past
+pub all-made_by : (config : Configuration) (unit : ℕ) (past : List Deed) → IsPast config unit past → AllAsked config unit past
     → Each (λ (o : Operation). IsMadeBy config unit o.made) (operations past)
 all-made_by config unit [] is asked = tt
 all-made_by config unit (d ∷ past) is asked =
@@ -70,5 +84,6 @@ all-made_by config unit (d ∷ past) is asked =
       asked = asked.0;
       makes = and_first (is_making d.entry.act) (is_answered d) e;
       serial = λ p. ap (λ (x : Deed). is_some (serial_made x.answer)) is.0 ∙ populate-made config unit past d.entry.actor d.entry.moment d.entry.act p (answer (and_second (is_making d.entry.act) (is_answered d) e));
+      within = start-within config unit past d.entry.actor d.entry.moment d.entry.act (answer (and_second (is_making d.entry.act) (is_answered d) e));
     }, tt)
     new false e = tt

@@ -1,12 +1,14 @@
 -- One more act of a unit
-use Rattle.std.specs.Prelude.{ℕ, ◌+◌, List, max, is_some, Bool, false}
+use Rattle.std.specs.Prelude.{ℕ, ◌+◌, List, length, filter, max, is_some, Bool, true, false}
 use Rattle.cm_base.specs.Units.{unit_of}
 use Rattle.cm_history.specs.declared.act.Act.{Act}
 use Rattle.cm_history.specs.declared.act.Actor.{Actor}
 use Rattle.cm_history.specs.declared.act.Entry.{Entry}
 use Rattle.cm_history.specs.Deeds.{Deed, last_stamp}
 use Rattle.cm_history.specs.History.{past_of}
-use Rattle.cm_history.specs.Operations.{would_serve}
+use Rattle.cm_history.specs.Operations.{OfToken, OfCopy, would_serve}
+use Rattle.cm_history.specs.Answers.{is_busy}
+use Rattle.cm_history.specs.Tokens.{Token, tokens, is_live}
 use Rattle.cm_history.specs.Room.{is_full}
 use Rattle.unit_core.specs.Standing.{Standing}
 
@@ -34,3 +36,12 @@ ends past actor _ = false
 
 abbrev pub ends_operation : Standing → Actor → Act → Bool
 ends_operation s actor act = ends (past s) actor act
+
+-- an operation of the actor and the identifier runs
+abbrev pub is_busy_at : Standing → Actor → Bool → ℕ → Bool
+is_busy_at s actor true id = is_busy (past s) actor OfCopy id
+is_busy_at s actor false id = is_busy (past s) actor OfToken id
+
+-- how many tokens are live
+abbrev pub live_at : Standing → ℕ
+live_at s = length (filter (λ (t : Token). is_live t.fate) (tokens (past s)))

@@ -28,11 +28,6 @@ grows (Start key background ranges rod) = true
 grows (Open key) = true
 grows _ = false
 
--- an operation of the key runs
-pub record Runs (copy : Bool) (own : Bool) (busy : Bool) : Type 0 where
-  pub kind : own ≡ copy
-  pub busy : busy ≡ true
-
 -- the change may be made
 abbrev pub MayJob : JobChange → List Job → Type 0
 MayJob Nothing jobs = ⊤

@@ -1,5 +1,16 @@
 -- What is planned for an act: its answer, and what it is to change
-use Rattle.std.specs.Prelude.{◌≡◌, ℕ, ◌≤◌, List, ◌∷◌, max, Bool, true, false, ◌&&◌, not}
+use Rattle.std.specs.Prelude.{◌≡◌, ◌⊎◌, ℕ, ◌+◌, ◌≤◌, List, ◌∷◌, length, max, Option, Some, None, Bool, true, false, ◌&&◌, not, nat_lt, if◌then◌else◌}
+use Rattle.cm_base.specs.declared.config.UnitConfig.{UnitConfig}
+use Rattle.lba_ranges.specs.Denoted.{blocks_of}
+use Rattle.lba_ranges.specs.HeldBlocks.{HeldBlocks}
+use Rattle.lba_ranges.specs.Writings.{Held, paired}
+use Rattle.cm_history.specs.declared.answer.OpState.{OpState}
+use Rattle.cm_history.specs.Senses.{over_quota, no_such_operation}
+use Rattle.cm_history.specs.Blocks.{mapped_with}
+use Rattle.cm_history.specs.Legal.{may_ask}
+use Rattle.cm_history.specs.Operations.{OfToken}
+use Rattle.copy_jobs.specs.declared.key.Key.{Key}
+use Rattle.copy_jobs.specs.declared.piece.NextPiece.{NextPiece}
 use Rattle.cm_base.specs.Configuration.{Configuration}
 use Rattle.cm_base.specs.Units.{unit_of}
 use Rattle.cm_history.specs.declared.act.Act.{Act}
@@ -15,7 +26,7 @@ use Rattle.unit_core.specs.declared.plan.Plan.{Plan}
 use Rattle.unit_core.specs.BlockChanges.{writings_of, MayChange, is_nothing}
 use Rattle.unit_core.specs.JobChanges.{jobs_after, MayJob, grows}
 use Rattle.unit_core.specs.TokenChanges.{tokens_after, MayToken, is_make}
-use Rattle.unit_core.specs.Tables.{tokens_of, jobs_of}
+use Rattle.unit_core.specs.Tables.{key_of, tokens_of, jobs_of}
 use Rattle.unit_core.specs.Acting.{ends}
 
 -- nothing is to change
@@ -51,3 +62,44 @@ pub record IsPlan (config : Configuration) (unit : ℕ) (past : List Deed) (acto
   -- what may fail in one table leaves the others
   pub apart : grows plan.jobs ≡ true → is_nothing plan.blocks ≡ true
   pub ends : ends past actor act ≡ true → takes_none plan ≡ true
+
+-- ---- the acts that are planned alike
+
+abbrev pub Reads : ℕ → ℕ → Act → Type 0
+Reads lba count act = (act ≡ Act.Read lba count) ⊎ (act ≡ Act.Capture lba count)
+
+abbrev pub Writes : ℕ → HeldBlocks → Act → Type 0
+Writes lba list act = (act ≡ Act.Write lba list) ⊎ (act ≡ Act.Put lba list)
+
+-- an Advance of the operation of the key
+pub record Advances (actor : Actor) (asked : Act) (key : Option Key) (otherwise : Answer) : Type 0 where
+  pub id : ℕ
+  pub act : asked ≡ Act.Advance id
+  pub key_is : key ≡ Some (key_of actor OfToken id)
+  pub none : otherwise ≡ Answer.Refused no_such_operation
+
+pub record Pumps (asked : Act) (key : Option Key) (otherwise : Answer) : Type 0 where
+  pub act : asked ≡ Act.Pump
+  pub key_is : key ≡ None
+  pub none : otherwise ≡ Answer.Idle
+
+-- an act that writes the next piece of an operation
+abbrev pub WritesPiece : ℕ → Actor → Act → Option Key → Answer → Type 0
+WritesPiece unit actor act key otherwise = (may_ask unit actor act ≡ true) × (Advances actor act key otherwise ⊎ Pumps act key otherwise)
+
+-- the piece is written, or stopped by the quota
+abbrev pub piece_plan : UnitConfig → (ℕ → Held) → NextPiece → Plan
+piece_plan unit now piece =
+    if nat_lt unit.quota (mapped_with unit now (paired (blocks_of piece.ranges) piece.list.items))
+    then record {
+      answer = Answer.Progress (OpState.Failed over_quota) piece.written;
+      blocks = BlockChange.Nothing;
+      jobs = JobChange.Stop piece.key;
+      tokens = TokenChange.Nothing;
+    }
+    else record {
+      answer = Answer.Progress (if piece.is_last then OpState.Done else OpState.Running) (piece.written + length piece.list.items);
+      blocks = BlockChange.Put piece.ranges piece.list;
+      jobs = JobChange.Move piece.key (length piece.list.items);
+      tokens = TokenChange.Nothing;
+    }

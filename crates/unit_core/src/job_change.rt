@@ -25,7 +25,7 @@ pub(crate) enum JobChange {
     /// The next piece goes over the quota.
     Stop { key: Key },
     End { key: Key },
-    Close { key: Key, result: CopyEnd },
+    Close { key: Key, end: CopyEnd },
 }
 
 impl JobChange {
@@ -48,7 +48,7 @@ impl JobChange {
             JobChange::Move { key, blocks } => jobs.moved(key, blocks),
             JobChange::Stop { key } => jobs.fail(key, refusals::over_quota()),
             JobChange::End { key } => jobs.terminate(key),
-            JobChange::Close { key, result } => jobs.close(key, result),
+            JobChange::Close { key, end } => jobs.close(key, end),
         }
         Ok(())
     }

@@ -1,11 +1,20 @@
-// One unit: its blocks, its record, and the answer to each act.
+// One unit: its blocks, its tokens, its operations, its record, and the answer to each act.
 #![tactic(auto)]
 
+mod block_change;
 mod block_plans;
-mod change;
+mod ends;
+mod job_change;
+mod job_plans;
+mod plan;
+mod plans;
 mod refusals;
+mod room;
+mod tables;
 #[cfg(test)]
 mod tests;
+mod token_change;
+mod token_plans;
 mod unit;
 
 pub use unit::{ActRefused, Unit, UnitOver};

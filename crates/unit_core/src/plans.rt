@@ -1,0 +1,97 @@
+// What each act is answered, and what it is to change.
+ghost use Rattle.std.specs.Prelude.{◌≡◌, ◌<◌, ◌≤◌, ℕ, length, max, IfOk, OnErr, true, false};
+ghost use Rattle.cm_base.specs.Units.{unit_of};
+ghost use Rattle.cm_history.specs.declared.act.Act.{Act};
+ghost use Rattle.cm_history.specs.declared.act.Actor.{Actor};
+ghost use Rattle.cm_history.specs.Limits.{within_limits};
+ghost use Rattle.cm_history.specs.Legal.{may_ask};
+ghost use Rattle.unit_core.specs.Acting.{past, ends_operation};
+ghost use Rattle.unit_core.specs.Planning.{IsPlan, Reads, Writes};
+
+use crate::block_plans as blocks;
+use crate::plan::Plan;
+use crate::refusals;
+use crate::room::token_key;
+use crate::token_change::TokenChange;
+use crate::unit::UnitOver;
+use cm_base::OutOfMemory;
+use cm_history::{Act, Actor, Answer};
+use lba_ranges::{BlockList, Blocks, RangeList};
+
+impl<B: Blocks + Drop> UnitOver<B> {
+    /// What an act is answered, and what it is to change. One that ends an operation takes no memory.
+    pub(crate) fn plan(&self, actor: Actor, moment: u64, act: &Act) -> Result<Plan, OutOfMemory>
+        requires limits { within_limits self.now.config self.now.unit act.now ≡ true }
+        requires asked { may_ask self.now.unit actor act.now ≡ true }
+        ensures planned { IfOk result (λ p. IsPlan self.now.config self.now.unit (past self.now) actor moment act.now p) }
+        ensures memory { OnErr result (ends_operation self.now actor act.now ≡ false) }
+    {
+        match act {
+            Act::Read { lba, count } | Act::Capture { lba, count } => self.plan_read(*lba, *count),
+            Act::Write { lba, list } | Act::Put { lba, list } => self.plan_write(*lba, list),
+            Act::Unmap { ranges } => self.plan_unmap(ranges),
+            Act::MapStatus { lba } => self.plan_status(*lba),
+            Act::Populate { id, timeout, ranges } => self.plan_populate(actor, *id, *timeout, ranges),
+            Act::Redeem { text, target } => self.plan_redeem(moment, text, *target),
+            Act::Delete { serial } => Ok(Plan::of_tokens(
+                Answer::Done,
+                TokenChange::Delete { serial: *serial },
+            )),
+            Act::Start { id, background, ranges, rod } => {
+                self.plan_start(actor, *id, *background, ranges, rod)
+            }
+            Act::Advance { id } => {
+                self.plan_piece(Some(token_key(actor, *id)), refusals::no_such_operation())
+            }
+            Act::Pump => self.plan_piece(None, Answer::Idle),
+            Act::End { id } => Ok(self.plan_end(actor, *id)),
+            Act::Abort { id } => Ok(self.plan_abort(actor, *id)),
+            Act::Report { id } => Ok(self.plan_report(actor, *id)),
+            Act::Open { id } => Ok(self.plan_open(actor, *id)),
+            Act::Close { id, result } => Ok(self.plan_close(actor, *id, *result)),
+            Act::Recall { id } => Ok(self.plan_recall(actor, *id)),
+        }
+    }
+
+    /// Reads blocks as they stand.
+    fn plan_read(&self, lba: u64, count: u32) -> Result<Plan, OutOfMemory>
+        ensures { IfOk result (λ p. (actor : Actor) (at : ℕ) (act : Act) → Reads lba count act
+            → IsPlan self.now.config self.now.unit (past self.now) actor at act p) }
+    {
+        let unit = self.config.unit(self.unit);
+        let plan = blocks::read(self.alloc, &self.tables.blocks, unit, lba, count)?;
+        Ok(Plan::of_blocks(plan))
+    }
+
+    /// Writes the list to the blocks from `lba` on, if the quota allows it.
+    fn plan_write(&self, lba: u64, list: &BlockList) -> Result<Plan, OutOfMemory>
+        requires length { list.now.block_length ≡ (unit_of self.now.config self.now.unit).block_length }
+        requires few { length list.now.items ≤ 2048 }
+        ensures { IfOk result (λ p. (actor : Actor) (at : ℕ) (act : Act) → Writes lba list.now act
+            → IsPlan self.now.config self.now.unit (past self.now) actor at act p) }
+    {
+        let unit = self.config.unit(self.unit);
+        let plan = blocks::write(self.alloc, &self.tables.blocks, unit, lba, list)?;
+        Ok(Plan::of_blocks(plan))
+    }
+
+    /// Unmaps the blocks of the ranges.
+    fn plan_unmap(&self, ranges: &RangeList) -> Result<Plan, OutOfMemory>
+        ensures { IfOk result (λ p. (actor : Actor) (at : ℕ)
+            → IsPlan self.now.config self.now.unit (past self.now) actor at (Act.Unmap ranges.now) p) }
+    {
+        let unit = self.config.unit(self.unit);
+        let plan = blocks::unmap(self.alloc, unit, ranges)?;
+        Ok(Plan::of_blocks(plan))
+    }
+
+    /// Which blocks are mapped from `lba` on.
+    fn plan_status(&self, lba: u64) -> Result<Plan, OutOfMemory>
+        ensures { IfOk result (λ p. (actor : Actor) (at : ℕ)
+            → IsPlan self.now.config self.now.unit (past self.now) actor at (Act.MapStatus lba) p) }
+    {
+        let unit = self.config.unit(self.unit);
+        let plan = blocks::status(self.alloc, &self.tables.blocks, unit, lba)?;
+        Ok(Plan::of_blocks(plan))
+    }
+}

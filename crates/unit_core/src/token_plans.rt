@@ -1,0 +1,79 @@
+// What the acts on tokens are answered, and what they are to change.
+ghost use Rattle.std.specs.Prelude.{◌≡◌, ◌<◌, ℕ, length, IfOk, true};
+ghost use Rattle.cm_history.specs.declared.act.Act.{Act};
+ghost use Rattle.cm_history.specs.declared.act.Actor.{Actor};
+ghost use Rattle.cm_history.specs.Limits.{within_limits};
+ghost use Rattle.cm_history.specs.Legal.{may_ask};
+ghost use Rattle.unit_core.specs.Acting.{past};
+ghost use Rattle.unit_core.specs.Planning.{IsPlan};
+
+use crate::block_change::BlockChange;
+use crate::job_change::JobChange;
+use crate::plan::Plan;
+use crate::refusals;
+use crate::room::token_key;
+use crate::token_change::TokenChange;
+use crate::unit::UnitOver;
+use cm_base::OutOfMemory;
+use cm_history::{Actor, Answer};
+use lba_ranges::{Blocks, RangeList};
+
+/// Serials that a unit makes.
+const SERIALS: u64 = 1 << 48;
+
+impl<B: Blocks + Drop> UnitOver<B> {
+    /// Makes a token of the blocks of the ranges, as they stand.
+    pub(crate) fn plan_populate(
+        &self,
+        actor: Actor,
+        id: u32,
+        timeout: u32,
+        ranges: &RangeList,
+    ) -> Result<Plan, OutOfMemory>
+        requires limits { within_limits self.now.config self.now.unit (Act.Populate id timeout ranges.now) ≡ true }
+        requires asked { may_ask self.now.unit actor (Act.Populate id timeout ranges.now) ≡ true }
+        ensures { IfOk result (λ p. (at : ℕ)
+            → IsPlan self.now.config self.now.unit (past self.now) actor at (Act.Populate id timeout ranges.now) p) }
+    {
+        let key = token_key(actor, id);
+        if self.tables.jobs.runs(key) {
+            return Ok(Plan::answered(refusals::operation_in_progress()));
+        }
+        if !ranges.within(self.config.unit(self.unit).blocks) {
+            return Ok(Plan::answered(refusals::address_out_of_range()));
+        }
+        let serial = self.tables.tokens.next_serial();
+        if serial >= SERIALS {
+            return Ok(Plan::answered(refusals::insufficient_resources()));
+        }
+        let list = self.tables.blocks.cut(self.alloc, ranges)?;
+        let blocks = ranges.total() as u32;
+        Ok(Plan {
+            answer: Answer::Made { serial },
+            blocks: BlockChange::Nothing,
+            jobs: JobChange::Make { key, serial, blocks },
+            tokens: TokenChange::Make { timeout, blocks, list },
+        })
+    }
+
+    /// Gives the blocks of the token that the text names, and notes the use.
+    pub(crate) fn plan_redeem(
+        &self,
+        moment: u64,
+        text: &[u8; 512],
+        target: u16,
+    ) -> Result<Plan, OutOfMemory>
+        requires { within_limits self.now.config self.now.unit (Act.Redeem text.now target) ≡ true }
+        ensures { IfOk result (λ p. (actor : Actor)
+            → IsPlan self.now.config self.now.unit (past self.now) actor moment (Act.Redeem text.now target) p) }
+    {
+        let now = moment.max(self.moment);
+        match self.tables.tokens.peek(&self.config, now, text, target) {
+            Ok(list) => {
+                let list = list.copy(self.alloc)?;
+                Ok(Plan::of_tokens(Answer::Rod(list), TokenChange::Use { text: *text, target }))
+            }
+            Err(sense) => Ok(Plan::answered(Answer::Refused(sense))),
+        }
+    }
+}
