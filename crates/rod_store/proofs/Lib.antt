@@ -1,0 +1,4 @@
+pub mod Places
+pub mod Endings
+pub mod LiveWalks
+pub mod Oldest
