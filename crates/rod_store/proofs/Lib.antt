@@ -2,3 +2,4 @@ pub mod Places
 pub mod Endings
 pub mod LiveWalks
 pub mod Oldest
+pub mod Stored

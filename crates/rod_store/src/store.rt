@@ -259,7 +259,7 @@ impl<K: Drop> RodStore<K> {
         ensures unit { self.new.unit ≡ self.old.unit }
         ensures spare { self.new.spare ≡ self.old.spare }
     {
-        self.living.retain(|other| *other != serial);
+        walks::forget(&mut self.living, serial);
         match mem::replace(&mut self.tokens[serial as usize].standing, ending) {
             Standing::Live { value, .. } => value,
             _ => unreachable!(),
