@@ -3,3 +3,4 @@ pub mod Endings
 pub mod LiveWalks
 pub mod Oldest
 pub mod Stored
+pub mod Expiring

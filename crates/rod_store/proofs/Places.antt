@@ -1,5 +1,6 @@
 -- Tokens that stand each at the place of its serial
-use Rattle.std.proofs.Common.{◌≡◌, ℕ, zero, suc, ◌+◌, ◌<◌, ◌≤◌, ◌≢◌, List, [], ◌∷◌, ◌++◌, map, length, set, drop, take, refl, ap, sym, ◌∙◌, subst, arith, true, false, Bool, cond, slice_get, Some, None, eqb, eq-eqb, ◌⊎◌, inl, inr}
+use Rattle.std.proofs.Common.{◌≡◌, ℕ, zero, suc, ◌+◌, ◌<◌, ◌≤◌, ◌^◌, ◌≢◌, List, [], ◌∷◌, ◌++◌, map, length, set, drop, take, refl, ap, sym, ◌∙◌, subst, arith, true, false, Bool, cond, slice_get, Some, None, eqb, eq-eqb, ◌⊎◌, inl, inr}
+use Rattle.std.proofs.lemmas.Option.{slice_get_within}
 use Rattle.std.proofs.lemmas.Bool.{cases_Bool, eqb-true}
 use Rattle.std.specs.Prelude.{Option, ◌||◌, ◌&&◌}
 use Rattle.std.specs.List.{list_any, list_all}
@@ -148,3 +149,9 @@ module _ {T : Type 0} where
 
   pub placed-front : (tokens : List (Kept T)) → IsPlaced 0 tokens → (k : ℕ) (t : Kept T) → slice_get tokens k ≡ Some t → t.serial ≡ k
   placed-front tokens placed k t found = let at : t.serial ≡ 0 + k = placed-at 0 tokens placed k t found in omega arith
+
+  pub small-serial : (tokens : List (Kept T)) → IsPlaced 0 tokens → length tokens ≤ 2 ^ 48 → (k : ℕ) (t : Kept T) → slice_get tokens k ≡ Some t → t.serial < 2 ^ 48
+  small-serial tokens placed many k t found =
+      let at = placed-front tokens placed k t found in
+      let low = slice_get_within tokens k t found in
+      omega arith

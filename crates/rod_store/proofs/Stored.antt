@@ -1,5 +1,5 @@
 -- What a store keeps stays so through each change
-use Rattle.std.proofs.Common.{◌≡◌, ℕ, zero, suc, ◌+◌, ◌-◌, ◌<◌, ◌≤◌, ◌^◌, List, [], ◌∷◌, ◌++◌, map, length, set, refl, ap, sym, ◌∙◌, subst, arith, true, false, Bool, cond, not, slice_get, Some, None, get_or, true≢false}
+use Rattle.std.proofs.Common.{◌≡◌, ℕ, zero, suc, ◌+◌, ◌-◌, ◌<◌, ◌≤◌, ◌^◌, List, [], ◌∷◌, ◌++◌, map, length, set, refl, ap, sym, ◌∙◌, subst, arith, true, false, Bool, cond, not, slice_get, Some, None, get_or, true≢false, ◌≢◌, ◌⊎◌, inl, inr}
 use Rattle.std.specs.Prelude.{◌==◌, ◌||◌, filter, Option, IsSome, is_some}
 use Rattle.std.proofs.lemmas.Option.{get_or_from_slice_get}
 use Rattle.std.specs.List.{list_any}
@@ -10,8 +10,8 @@ use Rattle.rod_store.specs.declared.kept.Kept.{Kept}
 use Rattle.rod_store.specs.declared.kept.Standing.{Standing}
 use Rattle.rod_store.specs.Kept.{IsPlaced, is_live, is_over, is_over_at, live, value_of, value_in, value_at, end_at, use_at, with_use, used}
 use Rattle.rod_store.specs.Store.{serials, IsStored}
-use Rattle.rod_store.proofs.Places.{placed-push, placed-map, placed-front, map-set_at, any-set, any-implies}
-use Rattle.rod_store.proofs.Endings.{live-value, ended-not_over, not_over-earlier, end_at-is, end_at-other, end_at-serial, serials-end, fewer-end, use_at-is, use_at-other, use_at-serial, serials-used, live-push, serials-push}
+use Rattle.rod_store.proofs.Places.{same_or_not, map-same, placed-push, placed-map, placed-front, map-set_at, any-set, any-implies}
+use Rattle.rod_store.proofs.Endings.{live-value, ended-not_over, not_over-earlier, end_at-is, end_at-ended, end_at-other, end_at-serial, serials-end, fewer-end, use_at-is, use_at-other, use_at-serial, serials-used, live-push, serials-push}
 
 module _ {T : Type 0} where
   none-earlier : (now earlier : ℕ) → earlier ≤ now → (tokens : List (Kept T)) → list_any (is_over_at now) tokens ≡ false → list_any (is_over_at earlier) tokens ≡ false
@@ -76,6 +76,18 @@ module _ {T : Type 0} where
         soonest = ap (list_any (is_over_at own_moment)) (sym (end-set tokens is.placed ending serial t found lives))
         ∙ any-set (is_over_at own_moment) tokens serial (record t { standing = ending }) is.soonest (ended-not_over own_moment ending ends);
       }
+
+  -- nothing ends where the serial has no live token
+  pub end-none : (tokens : List (Kept T)) → IsPlaced 0 tokens → (ending : Standing T) (serial : ℕ) → is_some (value_at serial tokens) ≡ false → map (end_at ending serial) tokens ≡ tokens
+  end-none tokens placed ending serial none = map-same (end_at ending serial) tokens (λ k x found. go k x found (same_or_not k serial))
+    where
+      go : (k : ℕ) (x : Kept T) → slice_get tokens k ≡ Some x → (k ≡ serial) ⊎ (k ≢ serial) → end_at ending serial x ≡ x
+      go k x found (inl e) =
+          let read : value_at serial tokens ≡ value_of x.standing = ap value_in (subst (λ j. slice_get tokens j ≡ Some x) e found) in
+          end_at-ended ending serial x (sym (live-value x.standing) ∙ sym (ap is_some read) ∙ none)
+      go k x found (inr ne) =
+          let here : x.serial ≡ k = placed-front tokens placed k x found in
+          end_at-other ending serial x (λ e. ne (sym here ∙ e))
 
   -- ---- a token is used
 

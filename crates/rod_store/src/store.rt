@@ -1,4 +1,4 @@
-ghost use Rattle.std.specs.Prelude.{◌≡◌, ◌<◌, ◌≤◌, ◌+◌, ◌++◌, ◌∷◌, ◌^◌, ◌==◌, [], map, length, is_some, IfOk, IfErr, IfSome, IfNone, OnSome, OnOk, OnErr, Ok, Err, Some, IsOk, IsSome, true, false};
+ghost use Rattle.std.specs.Prelude.{◌≡◌, ◌<◌, ◌≤◌, ◌+◌, ◌++◌, ◌∷◌, ◌^◌, ◌==◌, [], map, length, slice_get, option_copied, is_some, IfOk, IfErr, IfSome, IfNone, OnSome, OnOk, OnErr, Ok, Err, Some, IsOk, IsSome, true, false};
 ghost use Rattle.cm_history.specs.Bounds.{live_tokens};
 ghost use Rattle.rod_token.specs.TokenText.{is_named, serial_of};
 ghost use Rattle.rod_store.specs.Kept.{is_live, live, IsPlaced, value_at, first_value, is_over_at, expired, expire_first, evict_if, evicted_value, populated, end_at, deleted, used};
@@ -179,7 +179,7 @@ impl<K: Drop> RodStore<K> {
         ensures ok { IfOk result (λ value. judged config.now self.now.unit moment text.now target self.now.tokens ≡ Ok value.now) }
         ensures err { IfErr result (λ sense. judged config.now self.now.unit moment text.now target self.now.tokens ≡ Err sense) }
     {
-        match self.tokens.get(judge::serial_of(text) as usize) {
+        match self.token(judge::serial_of(text)) {
             Some(token) => judge::judge(config, self.unit, moment, text, target, token),
             None => Err(refusals::token_unknown()),
         }
@@ -227,11 +227,20 @@ impl<K: Drop> RodStore<K> {
         }
     }
 
+    /// The token of the serial.
+    fn token(&self, serial: u64) -> Option<&Kept<K>>
+        ensures { option_copied result ≡ slice_get self.now.tokens serial }
+    {
+        self.tokens.get(serial as usize)
+    }
+
     /// A live token has the serial.
     fn is_live(&self, serial: u64) -> bool
-        ensures { result ≡ is_some (value_at serial self.now.tokens) }
+        ensures live { result ≡ is_some (value_at serial self.now.tokens) }
+        ensures placed { IsPlaced 0 self.now.tokens }
     {
-        match self.tokens.get(serial as usize) {
+        let _ = &self.unit;
+        match self.token(serial) {
             Some(token) => matches!(token.standing, Standing::Live { .. }),
             None => false,
         }
