@@ -25,7 +25,6 @@ module _ {T : Type 0} where
   at-live n [] placed i t found = absurd (grind arith)
   at-live n (x ∷ xs) placed i t found = go (is_live x.standing) refl i found (λ j f. let later = at-live (suc n) xs placed.1 j t f in (suc later.0, (let at : t.serial ≡ suc n + later.0 = later.1 in omega arith), later.2, later.3))
     where
-
       go : (b : Bool) → is_live x.standing ≡ b → (i : ℕ) → slice_get (cond b (x ∷ live xs) (live xs)) i ≡ Some t
           → ((j : ℕ) → slice_get (live xs) j ≡ Some t → (k : ℕ) × (t.serial ≡ n + k) × (slice_get (x ∷ xs) k ≡ Some t) × (is_live t.standing ≡ true))
           → (k : ℕ) × (t.serial ≡ n + k) × (slice_get (x ∷ xs) k ≡ Some t) × (is_live t.standing ≡ true)

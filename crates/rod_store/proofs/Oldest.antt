@@ -135,8 +135,8 @@ module _ {T : Type 0} where
         found = at.found;
         lives = at.lives;
         oldest = all-more (is_older at.token) (live tokens) passed at.token at.nth
-        (all-implies (is_older o.token) (is_older at.token) (λ x later. is_older-next at.token o.token x before later) (take passed (live tokens)) o.oldest)
-        (is_older-self at.token);
+            (all-implies (is_older o.token) (is_older at.token) (λ x later. is_older-next at.token o.token x before later) (take passed (live tokens)) o.oldest)
+            (is_older-self at.token);
       }
 
   -- and one that is not

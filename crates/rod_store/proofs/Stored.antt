@@ -74,7 +74,7 @@ module _ {T : Type 0} where
         living = ap (filter (λ other. not (other == serial))) is.living ∙ serials-end ending ends serial tokens;
         few = omega arith;
         soonest = ap (list_any (is_over_at own_moment)) (sym (end-set tokens is.placed ending serial t found lives))
-        ∙ any-set (is_over_at own_moment) tokens serial (record t { standing = ending }) is.soonest (ended-not_over own_moment ending ends);
+            ∙ any-set (is_over_at own_moment) tokens serial (record t { standing = ending }) is.soonest (ended-not_over own_moment ending ends);
       }
 
   -- nothing ends where the serial has no live token
@@ -111,5 +111,5 @@ module _ {T : Type 0} where
         living = is.living ∙ sym same;
         few = subst (λ n. n ≤ live_tokens) (sym many) is.few;
         soonest = ap (list_any (is_over_at less)) (sym (use-set tokens is.placed serial moment t found lives))
-        ∙ any-set (is_over_at less) tokens serial (record t { standing = with_use moment t.standing }) (none-earlier own_moment less low tokens is.soonest) within;
+            ∙ any-set (is_over_at less) tokens serial (record t { standing = with_use moment t.standing }) (none-earlier own_moment less low tokens is.soonest) within;
       }

@@ -72,6 +72,7 @@ impl<K: Drop> RodStore<K> {
     pub fn expire(&mut self, moment: u64) -> Option<K>
         ensures value { result ≡ first_value (is_over_at moment) self.old.tokens }
         ensures tokens { self.new.tokens ≡ expire_first moment self.old.tokens }
+        ensures count { length self.new.tokens ≡ length self.old.tokens }
         ensures same { expired moment self.new.tokens ≡ expired moment self.old.tokens }
         ensures fewer { OnSome result (length (live self.new.tokens) + 1 ≡ length (live self.old.tokens)) }
         ensures none { IfNone result (expired moment self.new.tokens ≡ self.new.tokens) }
@@ -91,13 +92,15 @@ impl<K: Drop> RodStore<K> {
         }
     }
 
-    /// Makes room for one more token. At `OutOfMemory` the store is as before.
+    /// Makes room for one more token. At `OutOfMemory`, which comes only where there is none, the
+    /// store is as before.
     pub fn reserve(&mut self) -> Result<(), OutOfMemory>
         ensures unit { self.new.unit ≡ self.old.unit }
         ensures tokens { self.new.tokens ≡ self.old.tokens }
         ensures room { OnOk result (1 ≤ self.new.spare) }
         ensures kept { self.old.spare ≤ self.new.spare }
         ensures err { OnErr result (self.new ≡ self.old) }
+        ensures full { OnErr result (self.old.spare ≡ 0) }
     {
         if self.spare > 0 {
             return Ok(());
@@ -179,7 +182,7 @@ impl<K: Drop> RodStore<K> {
         ensures ok { IfOk result (λ value. judged config.now self.now.unit moment text.now target self.now.tokens ≡ Ok value.now) }
         ensures err { IfErr result (λ sense. judged config.now self.now.unit moment text.now target self.now.tokens ≡ Err sense) }
     {
-        match self.token(judge::serial_of(text)) {
+        match self.token(judge::serial_of(self.unit, text)) {
             Some(token) => judge::judge(config, self.unit, moment, text, target, token),
             None => Err(refusals::token_unknown()),
         }
@@ -207,7 +210,7 @@ impl<K: Drop> RodStore<K> {
         ensures spare { self.new.spare ≡ self.old.spare }
     {
         self.peek(config, moment, text, target)?;
-        self.note_use(judge::serial_of(text), moment);
+        self.note_use(judge::serial_of(self.unit, text), moment);
         Ok(())
     }
 

@@ -32,10 +32,10 @@ pub loop-serial-preserved : goal.loop-serial-preserved
 loop-serial-preserved g c =
     let at = live_at c.args.tokens.now c.args.living.now c.requires.placed c.requires.living c.loop-serial.serial-index c.loop-serial-test.true in
     elim c.if-is_older.branch [
-      then-is_older w ↦ subst (λ place. OldestSoFar c.args.tokens.now (c.loop-serial.serial-index + 1) place) (sym w.oldest-is)
-      (oldest-new c.args.tokens.now c.loop-serial.serial-index c.loop-serial.oldest (get_or c.args.living.now c.loop-serial.serial-index 0)
-      c.index-tokens-serial.result c.index-tokens-oldest.result c.index-tokens-serial.is c.index-tokens-oldest.is c.loop-serial.invariant at (sym c.is_older.ensures ∙ w.if-is_older.true))
+      | then-is_older w ↦ subst (λ place. OldestSoFar c.args.tokens.now (c.loop-serial.serial-index + 1) place) (sym w.oldest-is)
+          (oldest-new c.args.tokens.now c.loop-serial.serial-index c.loop-serial.oldest (get_or c.args.living.now c.loop-serial.serial-index 0)
+          c.index-tokens-serial.result c.index-tokens-oldest.result c.index-tokens-serial.is c.index-tokens-oldest.is c.loop-serial.invariant at (sym c.is_older.ensures ∙ w.if-is_older.true))
       | else-is_older w ↦ subst (λ place. OldestSoFar c.args.tokens.now (c.loop-serial.serial-index + 1) place) (sym w.oldest-is)
-      (oldest-old c.args.tokens.now c.loop-serial.serial-index c.loop-serial.oldest (get_or c.args.living.now c.loop-serial.serial-index 0)
-      c.index-tokens-serial.result c.index-tokens-oldest.result c.index-tokens-serial.is c.index-tokens-oldest.is c.loop-serial.invariant at (sym c.is_older.ensures ∙ w.if-is_older.false))
+          (oldest-old c.args.tokens.now c.loop-serial.serial-index c.loop-serial.oldest (get_or c.args.living.now c.loop-serial.serial-index 0)
+          c.index-tokens-serial.result c.index-tokens-oldest.result c.index-tokens-serial.is c.index-tokens-oldest.is c.loop-serial.invariant at (sym c.is_older.ensures ∙ w.if-is_older.false))
     ]
