@@ -1,16 +1,16 @@
 -- What the live tokens are once one of them has ended, was used, or was added
-use Rattle.std.proofs.Common.{◌≡◌, ℕ, zero, suc, ◌+◌, ◌<◌, ◌≤◌, ◌≢◌, List, [], ◌∷◌, ◌++◌, map, length, set, refl, ap, sym, ◌∙◌, subst, arith, true, false, Bool, cond, not, slice_get, Some, None, eqb}
-use Rattle.std.specs.Prelude.{Option, ◌||◌, ◌&&◌, ◌==◌, filter, is_some}
-use Rattle.std.specs.List.{list_any, list_all}
+use Rattle.std.proofs.Common.{◌≡◌, ℕ, zero, suc, ◌+◌, ◌≤◌, ◌≢◌, List, [], ◌∷◌, ◌++◌, map, length, refl, ap, ◌∙◌, arith, true, false, Bool, cond, not, slice_get, Some, None}
+use Rattle.std.specs.Prelude.{◌||◌, ◌&&◌, ◌==◌, filter, is_some}
+use Rattle.std.specs.List.{list_any}
 use Rattle.std.proofs.lemmas.Bool.Decides.{nat_tests}
 use Rattle.std.proofs.lemmas.List.Elements.{filter-append}
 use Rattle.std.proofs.lemmas.List.{map-append}
 use Rattle.rod_store.specs.declared.kept.Kept.{Kept}
 use Rattle.rod_store.specs.declared.kept.Standing.{Standing}
 use Rattle.rod_store.specs.declared.kept.Standing.TheVariants.{Live, Expired, Evicted, Deleted}
-use Rattle.rod_store.specs.Kept.{IsPlaced, is_live, is_over, is_over_at, live, value_of, value_in, value_at, end_at, use_at, with_use, used, deleted, first, first_value, expire_at, expired, expire_first}
+use Rattle.rod_store.specs.Kept.{IsPlaced, is_live, is_over, is_over_at, live, value_of, end_at, use_at, with_use, used, first, expire_at, expired, expire_first}
 use Rattle.rod_store.specs.Store.{serials}
-use Rattle.rod_store.proofs.Places.{placed-at, map-behind, map-set_at, map-same, first-at}
+use Rattle.rod_store.proofs.Places.{map-behind, first-at}
 
 module _ {T : Type 0} where
   -- ---- a standing

@@ -1,5 +1,5 @@
 -- The first token that is over, and a store where none is
-use Rattle.std.proofs.Common.{◌≡◌, ℕ, ◌+◌, ◌≤◌, List, map, refl, ap, sym, ◌∙◌, subst, arith, true, false, Bool, slice_get, Some, None}
+use Rattle.std.proofs.Common.{◌≡◌, ℕ, ◌+◌, ◌≤◌, List, map, refl, ap, sym, ◌∙◌, subst, arith, false, slice_get, Some, None}
 use Rattle.std.specs.Prelude.{Option, IsSome, is_some}
 use Rattle.std.specs.List.{list_any}
 use Rattle.rod_store.specs.declared.kept.Kept.{Kept}

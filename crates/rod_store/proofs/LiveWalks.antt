@@ -1,15 +1,14 @@
 -- A walk by the serials of the live tokens is a walk over the live tokens
-use Rattle.std.proofs.Common.{◌≡◌, ℕ, zero, suc, ◌+◌, ◌<◌, ◌≤◌, drop, take, List, [], ◌∷◌, map, length, get_or, refl, ap, sym, ◌∙◌, subst, arith, true, false, Bool, cond, slice_get, Some, None}
-use Rattle.std.specs.Prelude.{Option, ◌||◌, ◌&&◌, filter}
+use Rattle.std.proofs.Common.{◌≡◌, ℕ, zero, suc, ◌+◌, ◌<◌, ◌≤◌, drop, take, List, [], ◌∷◌, length, get_or, refl, ap, sym, ◌∙◌, subst, arith, true, false, Bool, cond, slice_get, Some, None}
+use Rattle.std.specs.Prelude.{◌||◌, ◌&&◌}
 use Rattle.std.specs.List.{list_any, list_all}
 use Rattle.rod_store.specs.declared.kept.Kept.{Kept}
-use Rattle.rod_store.specs.declared.kept.Standing.{Standing}
 use Rattle.rod_store.specs.Kept.{IsPlaced, is_live, is_over, is_over_at, live, first}
 use Rattle.std.proofs.lemmas.List.{length-map, drop_all, take_all}
 use Rattle.std.proofs.lemmas.Option.{get_or_from_slice_get}
 use Rattle.rod_store.specs.Store.{serials, serial_in}
 use Rattle.rod_store.proofs.Places.{next, placed-front, first-step, any-more, any-implies}
-use Rattle.rod_store.proofs.Endings.{over-live, ended-not_over, not_over-earlier}
+use Rattle.rod_store.proofs.Endings.{ended-not_over, not_over-earlier}
 
 and-left : (a b : Bool) → (a && b) ≡ true → a ≡ true
 and-left true b e = refl

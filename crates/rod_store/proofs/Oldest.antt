@@ -1,17 +1,16 @@
 -- The token that was used least lately
-use Rattle.std.proofs.Common.{◌≡◌, ℕ, zero, suc, ◌+◌, ◌<◌, ◌≤◌, ◌≢◌, take, get_or, List, [], ◌∷◌, map, length, refl, ap, sym, ◌∙◌, subst, arith, true, false, Bool, cond, slice_get, Some, None, ◌⊎◌, inl, inr}
+use Rattle.std.proofs.Common.{◌≡◌, ℕ, ◌+◌, ◌<◌, ◌≤◌, ◌≢◌, take, get_or, List, map, length, refl, sym, ◌∙◌, subst, arith, true, false, Bool, slice_get, Some, None, ◌⊎◌, inl, inr}
 use Rattle.rod_store.proofs.Places.{same_or_not}
-use Rattle.std.specs.Prelude.{Option, ◌||◌, ◌&&◌, ◌==◌, nat_lt, nat_le}
-use Rattle.std.specs.List.{list_any, list_all}
+use Rattle.std.specs.Prelude.{◌||◌, ◌&&◌, ◌==◌, nat_lt, nat_le}
+use Rattle.std.specs.List.{list_all}
 use Rattle.std.proofs.lemmas.Bool.Decides.{nat_tests}
 use Rattle.cm_history.specs.Bounds.{live_tokens}
 use Rattle.rod_store.specs.declared.kept.Kept.{Kept}
-use Rattle.rod_store.specs.declared.kept.Standing.{Standing}
-use Rattle.rod_store.specs.declared.kept.Standing.TheVariants.{Live, Expired, Evicted, Deleted}
+use Rattle.rod_store.specs.declared.kept.Standing.TheVariants.{Evicted}
 use Rattle.rod_store.specs.Kept.{IsPlaced, is_live, live, used_last, is_older, makes_room, evict_if, evicted_value, end_at, value_at, first}
 use Rattle.rod_store.specs.Store.{IsOldest}
 use Rattle.rod_store.proofs.Places.{next, placed-front, map-agree, map-same, first-is, first-none, all-more, all-implies}
-use Rattle.rod_store.proofs.Endings.{end_at-is, end_at-other, end_at-ended}
+use Rattle.rod_store.proofs.Endings.{end_at-is, end_at-other}
 use Rattle.std.proofs.lemmas.List.{take_all}
 use Rattle.rod_store.proofs.LiveWalks.{LiveAt, all-live-at, token-read, token-found}
 

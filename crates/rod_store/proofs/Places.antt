@@ -1,11 +1,10 @@
 -- Tokens that stand each at the place of its serial
-use Rattle.std.proofs.Common.{◌≡◌, ℕ, zero, suc, ◌+◌, ◌<◌, ◌≤◌, ◌^◌, ◌≢◌, List, [], ◌∷◌, ◌++◌, map, length, set, drop, take, refl, ap, sym, ◌∙◌, subst, arith, true, false, Bool, cond, slice_get, Some, None, eqb, eq-eqb, ◌⊎◌, inl, inr}
+use Rattle.std.proofs.Common.{◌≡◌, ℕ, zero, suc, ◌+◌, ◌<◌, ◌≤◌, ◌^◌, ◌≢◌, List, [], ◌∷◌, ◌++◌, map, length, set, drop, take, refl, ap, ◌∙◌, arith, true, false, Bool, cond, slice_get, Some, None, eqb, eq-eqb, ◌⊎◌, inl, inr}
 use Rattle.std.proofs.lemmas.Option.{slice_get_within}
 use Rattle.std.proofs.lemmas.Bool.{cases_Bool, eqb-true}
-use Rattle.std.specs.Prelude.{Option, ◌||◌, ◌&&◌}
+use Rattle.std.specs.Prelude.{◌||◌, ◌&&◌}
 use Rattle.std.specs.List.{list_any, list_all}
 use Rattle.rod_store.specs.declared.kept.Kept.{Kept}
-use Rattle.rod_store.specs.declared.kept.Standing.{Standing}
 use Rattle.rod_store.specs.Kept.{IsPlaced, first}
 
 pub next : (i : ℕ) → suc i ≡ i + 1

@@ -1,6 +1,6 @@
-use Rattle.std.proofs.Common.{◌≡◌, ◌≤◌, ◌<◌, length, get_or, arith, sym, ◌∙◌, false, true}
+use Rattle.std.proofs.Common.{◌≡◌, ◌≤◌, ◌<◌, length, get_or, arith, sym, ◌∙◌}
 use Rattle.std.proofs.lemmas.Option.{slice_get_within}
-use Rattle.rod_store.specs.Kept.{live, is_over, is_older}
+use Rattle.rod_store.specs.Kept.{live}
 use Rattle.rod_store.proofs.LiveWalks.{live_at, serials-many, first-found, first-passed, first-end}
 use Rattle.rod_store.proofs.walks.first_over.Goals as goal
 

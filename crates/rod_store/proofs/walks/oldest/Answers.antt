@@ -1,8 +1,7 @@
-use Rattle.std.proofs.Common.{◌≡◌, ◌≤◌, ◌<◌, length, get_or, ◌+◌, arith, sym, ◌∙◌, false, true, subst}
+use Rattle.std.proofs.Common.{◌<◌, length, get_or, ◌+◌, arith, sym, ◌∙◌, subst}
 use Rattle.std.proofs.lemmas.Option.{slice_get_within}
-use Rattle.rod_store.specs.Kept.{live}
-use Rattle.rod_store.proofs.LiveWalks.{live_at, serials-many}
-use Rattle.rod_store.proofs.Oldest.{OldestSoFar, oldest-first, oldest-new, oldest-old, oldest-all}
+use Rattle.rod_store.proofs.LiveWalks.{live_at}
+use Rattle.rod_store.proofs.Oldest.{OldestSoFar, oldest-first, oldest-new, oldest-old}
 use Rattle.rod_store.proofs.walks.oldest.Goals as goal
 use Rattle.rod_store.proofs.walks.oldest.Goals.{then-is_older, else-is_older}
 

@@ -1,10 +1,9 @@
-use Rattle.std.proofs.Common.{◌≡◌, ◌<◌, ◌≤◌, ◌+◌, ◌^◌, ◌++◌, ◌∷◌, [], length, ap, sym, ◌∙◌, subst, arith, rules}
+use Rattle.std.proofs.Common.{◌≡◌, ◌<◌, ◌≤◌, ◌+◌, ◌^◌, ◌++◌, ◌∷◌, [], length, ap, sym, ◌∙◌, subst, arith}
 use Rattle.std.specs.Prelude.{is_ok, true}
 use Rattle.std.specs.Vec.{vec_len}
 use Rattle.cm_history.specs.Bounds.{live_tokens}
-use Rattle.rod_store.specs.declared.kept.Kept.{Kept}
 use Rattle.rod_store.specs.Kept.{live}
-use Rattle.rod_store.specs.Store.{Store, IsStored, HasRoom}
+use Rattle.rod_store.specs.Store.{Store}
 use Rattle.rod_store.proofs.Stored.{stored-push}
 use Rattle.rod_store.proofs.store.RodStore.append.Goals as goal
 

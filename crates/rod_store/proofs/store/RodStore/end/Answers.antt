@@ -1,9 +1,7 @@
-use Rattle.std.proofs.Common.{◌≡◌, ℕ, ◌+◌, map, length, set, Some, IsSome, slice_get, ap, sym, ◌∙◌, subst, arith}
-use Rattle.std.specs.Prelude.{true, List}
-use Rattle.rod_store.specs.declared.kept.Kept.{Kept}
-use Rattle.rod_store.specs.declared.kept.Standing.{Standing}
-use Rattle.rod_store.specs.Kept.{live, is_live, value_of, value_at, end_at}
-use Rattle.rod_store.specs.Store.{Store, IsStored, HasRoom}
+use Rattle.std.proofs.Common.{◌≡◌, Some, IsSome, ap, sym, ◌∙◌, subst, arith}
+use Rattle.std.specs.Prelude.{true}
+use Rattle.rod_store.specs.Kept.{is_live, value_of, value_at}
+use Rattle.rod_store.specs.Store.{Store}
 use Rattle.rod_store.proofs.Endings.{fewer-end}
 use Rattle.rod_store.proofs.Stored.{lives_at, value-at, token-is, end-set, stored-end}
 use Rattle.rod_store.proofs.store.RodStore.end.Goals as goal

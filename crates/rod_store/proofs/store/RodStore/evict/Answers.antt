@@ -1,7 +1,5 @@
-use Rattle.std.proofs.Common.{◌≡◌, ◌<◌, ◌≤◌, length, ap, sym, ◌∙◌, subst, arith}
-use Rattle.std.specs.Prelude.{List}
+use Rattle.std.proofs.Common.{◌≡◌, ◌<◌, length, ap, sym, ◌∙◌, subst, arith}
 use Rattle.cm_history.specs.Bounds.{live_tokens}
-use Rattle.rod_store.specs.declared.kept.Kept.{Kept}
 use Rattle.rod_store.specs.Kept.{IsPlaced, live}
 use Rattle.rod_store.specs.Store.{Store, IsOldest}
 use Rattle.rod_store.proofs.LiveWalks.{serials-many}

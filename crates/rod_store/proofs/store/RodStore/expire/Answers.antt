@@ -1,7 +1,5 @@
 use Rattle.std.proofs.Common.{◌≡◌, Some, None, ap, sym, ◌∙◌, subst}
-use Rattle.std.specs.Prelude.{List}
-use Rattle.rod_store.specs.declared.kept.Kept.{Kept}
-use Rattle.rod_store.specs.Kept.{IsPlaced, is_over_at, first, expired, expire_first}
+use Rattle.rod_store.specs.Kept.{is_over_at, first, expired}
 use Rattle.rod_store.specs.Store.{Store, serial_in}
 use Rattle.rod_store.proofs.Expiring.{ExpiresAt, NoneExpires, expires_at, none_earlier, none_found}
 use Rattle.rod_store.proofs.store.RodStore.expire.Goals as goal

@@ -1,8 +1,7 @@
-use Rattle.std.proofs.Common.{◌≡◌, ℕ, Some, IsSome, ap, sym, ◌∙◌, subst, arith}
-use Rattle.std.specs.Prelude.{true, false, List}
-use Rattle.rod_store.specs.declared.kept.Kept.{Kept}
+use Rattle.std.proofs.Common.{◌≡◌, Some, IsSome, ap, sym, ◌∙◌, subst}
+use Rattle.std.specs.Prelude.{true, false}
 use Rattle.rod_store.specs.Kept.{is_live, is_over, with_use, value_at}
-use Rattle.rod_store.specs.Store.{Store, IsStored, HasRoom}
+use Rattle.rod_store.specs.Store.{Store}
 use Rattle.rod_store.proofs.Stored.{lives_at, token-is, use-set, stored-use}
 use Rattle.rod_store.proofs.store.RodStore.note_use.Goals as goal
 
