@@ -1,7 +1,6 @@
 -- A store of tokens, as contracts see it, and what it keeps
-use Rattle.std.specs.Prelude.{◌≡◌, ℕ, ◌+◌, ◌≤◌, ◌^◌, List, map, length, refl, true, false, Option, Some, None, slice_get}
+use Rattle.std.specs.Prelude.{◌≡◌, ℕ, ◌+◌, ◌≤◌, ◌^◌, List, map, length, true, false, Option, Some, None, slice_get}
 use Rattle.std.specs.List.{list_any, list_all}
-use Rattle.std.specs.Coded.{Coded, code_by, coded×, coded_ℕ, coded_list}
 use Rattle.cm_history.specs.Bounds.{live_tokens}
 use Rattle.rod_store.specs.declared.kept.Kept.{Kept}
 use Rattle.rod_store.specs.Kept.{is_live, is_over_at, is_older, live, IsPlaced}

@@ -7,15 +7,20 @@ ghost use Rattle.rod_store.specs.Judging.{judged_standing, judged_token};
 
 use crate::kept::{Kept, Standing};
 use crate::refusals;
-use cm_base::{Config, get_u16, get_u32};
+use cm_base::Config;
+use rod_token::TokenKind;
 use scsi_sense::Sense;
 
-/// The serial that a text names, in bytes 10 to 15 (own profile).
-pub(crate) fn serial_of(text: &[u8; 512]) -> u64
+/// The serial that a text names which has the form of the unit's tokens.
+pub(crate) fn serial_of(unit: u16, text: &[u8; 512]) -> u64
+    requires { is_named unit text.now ≡ true }
     ensures { result ≡ serial_of text.now }
 {
-    let high = u64::from(get_u16(text, 10));
-    (high << 32) + u64::from(get_u32(text, 12))
+    let _ = unit;
+    match rod_token::classify(text) {
+        TokenKind::Names { serial, .. } => serial,
+        _ => unreachable!(),
+    }
 }
 
 /// Tokens of the one unit may be used at the other.

@@ -1,4 +1,4 @@
-ghost use Rattle.std.specs.Prelude.{◌≡◌, ◌<◌, ◌≤◌, ◌+◌, ◌++◌, ◌∷◌, ◌^◌, ◌==◌, [], map, length, is_some, IfOk, IfErr, IfSome, IfNone, OnSome, OnOk, OnErr, Ok, Err, Some, IsOk, IsSome, true, false};
+ghost use Rattle.std.specs.Prelude.{◌≡◌, ◌<◌, ◌≤◌, ◌+◌, ◌++◌, ◌∷◌, ◌^◌, ◌==◌, [], map, length, slice_get, option_copied, is_some, IfOk, IfErr, IfSome, IfNone, OnSome, OnOk, OnErr, Ok, Err, Some, IsOk, IsSome, true, false};
 ghost use Rattle.cm_history.specs.Bounds.{live_tokens};
 ghost use Rattle.rod_token.specs.TokenText.{is_named, serial_of};
 ghost use Rattle.rod_store.specs.Kept.{is_live, live, IsPlaced, value_at, first_value, is_over_at, expired, expire_first, evict_if, evicted_value, populated, end_at, deleted, used};
@@ -72,6 +72,7 @@ impl<K: Drop> RodStore<K> {
     pub fn expire(&mut self, moment: u64) -> Option<K>
         ensures value { result ≡ first_value (is_over_at moment) self.old.tokens }
         ensures tokens { self.new.tokens ≡ expire_first moment self.old.tokens }
+        ensures count { length self.new.tokens ≡ length self.old.tokens }
         ensures same { expired moment self.new.tokens ≡ expired moment self.old.tokens }
         ensures fewer { OnSome result (length (live self.new.tokens) + 1 ≡ length (live self.old.tokens)) }
         ensures none { IfNone result (expired moment self.new.tokens ≡ self.new.tokens) }
@@ -91,13 +92,15 @@ impl<K: Drop> RodStore<K> {
         }
     }
 
-    /// Makes room for one more token. At `OutOfMemory` the store is as before.
+    /// Makes room for one more token. At `OutOfMemory`, which comes only where there is none, the
+    /// store is as before.
     pub fn reserve(&mut self) -> Result<(), OutOfMemory>
         ensures unit { self.new.unit ≡ self.old.unit }
         ensures tokens { self.new.tokens ≡ self.old.tokens }
         ensures room { OnOk result (1 ≤ self.new.spare) }
         ensures kept { self.old.spare ≤ self.new.spare }
         ensures err { OnErr result (self.new ≡ self.old) }
+        ensures full { OnErr result (self.old.spare ≡ 0) }
     {
         if self.spare > 0 {
             return Ok(());
@@ -179,7 +182,7 @@ impl<K: Drop> RodStore<K> {
         ensures ok { IfOk result (λ value. judged config.now self.now.unit moment text.now target self.now.tokens ≡ Ok value.now) }
         ensures err { IfErr result (λ sense. judged config.now self.now.unit moment text.now target self.now.tokens ≡ Err sense) }
     {
-        match self.tokens.get(judge::serial_of(text) as usize) {
+        match self.token(judge::serial_of(self.unit, text)) {
             Some(token) => judge::judge(config, self.unit, moment, text, target, token),
             None => Err(refusals::token_unknown()),
         }
@@ -207,7 +210,7 @@ impl<K: Drop> RodStore<K> {
         ensures spare { self.new.spare ≡ self.old.spare }
     {
         self.peek(config, moment, text, target)?;
-        self.note_use(judge::serial_of(text), moment);
+        self.note_use(judge::serial_of(self.unit, text), moment);
         Ok(())
     }
 
@@ -227,11 +230,20 @@ impl<K: Drop> RodStore<K> {
         }
     }
 
+    /// The token of the serial.
+    fn token(&self, serial: u64) -> Option<&Kept<K>>
+        ensures { option_copied result ≡ slice_get self.now.tokens serial }
+    {
+        self.tokens.get(serial as usize)
+    }
+
     /// A live token has the serial.
     fn is_live(&self, serial: u64) -> bool
-        ensures { result ≡ is_some (value_at serial self.now.tokens) }
+        ensures live { result ≡ is_some (value_at serial self.now.tokens) }
+        ensures placed { IsPlaced 0 self.now.tokens }
     {
-        match self.tokens.get(serial as usize) {
+        let _ = &self.unit;
+        match self.token(serial) {
             Some(token) => matches!(token.standing, Standing::Live { .. }),
             None => false,
         }
@@ -259,7 +271,7 @@ impl<K: Drop> RodStore<K> {
         ensures unit { self.new.unit ≡ self.old.unit }
         ensures spare { self.new.spare ≡ self.old.spare }
     {
-        self.living.retain(|other| *other != serial);
+        walks::forget(&mut self.living, serial);
         match mem::replace(&mut self.tokens[serial as usize].standing, ending) {
             Standing::Live { value, .. } => value,
             _ => unreachable!(),

@@ -1,5 +1,5 @@
 // Walks over the live tokens, by their serials.
-ghost use Rattle.std.specs.Prelude.{◌≡◌, ◌≤◌, ℕ, length, false};
+ghost use Rattle.std.specs.Prelude.{◌≡◌, ◌≤◌, ◌==◌, ℕ, length, filter, not, false, vec_capacity};
 ghost use Rattle.std.specs.List.{list_any};
 ghost use Rattle.rod_store.specs.Kept.{IsPlaced, live, first, is_over_at};
 ghost use Rattle.rod_store.specs.Store.{serials, serial_in, IsOldest};
@@ -47,4 +47,12 @@ pub(crate) fn oldest<K>(tokens: &[Kept<K>], living: &[u64]) -> u64
         }
     }
     oldest
+}
+
+/// Takes a serial out. The room stays.
+pub(crate) fn forget(living: &mut Vec<u64>, serial: u64)
+    ensures serials { living.new.items ≡ filter (λ other. not (other == serial)) living.old.items }
+    ensures room { vec_capacity living.new ≡ vec_capacity living.old }
+{
+    living.retain(|other| *other != serial);
 }
