@@ -1,5 +1,5 @@
 -- The blocks of a piece
-use Rattle.std.proofs.Common.{◌≡◌, ℕ, zero, suc, ◌+◌, ◌-◌, ◌<◌, ◌≤◌, List, [], ◌∷◌, length, take, drop, min, refl, ap, sym, ◌∙◌, arith, length-drop, length-take, true, false, Bool}
+use Rattle.std.proofs.Common.{◌≡◌, ℕ, zero, suc, ◌+◌, ◌-◌, ◌^◌, ◌<◌, ◌≤◌, List, [], ◌∷◌, length, take, drop, min, refl, ap, sym, ◌∙◌, arith, length-drop, length-take, true, false, Bool}
 use Rattle.std.specs.Prelude.{◌||◌, ◌==◌, slice_range}
 use Rattle.std.specs.List.{list_any}
 use Rattle.std.proofs.lemmas.List.{take_min}
@@ -12,7 +12,7 @@ use Rattle.copy_jobs.specs.declared.job.WriteJob.{WriteJob}
 use Rattle.copy_jobs.specs.declared.piece.NextPiece.{NextPiece}
 use Rattle.copy_jobs.specs.Pieces.{IsPiece}
 use Rattle.copy_jobs.specs.Tables.{IsWriteJob}
-use Rattle.copy_jobs.proofs.Tests.{or_first, or_later, any-take}
+use Rattle.copy_jobs.proofs.Lists.{or_first, or_later, any-take}
 
 pub repeat-take : (n : ℕ) (xs : List ℕ) → has_repeat xs ≡ false → has_repeat (take n xs) ≡ false
 repeat-take zero xs e = refl
@@ -65,6 +65,7 @@ piece-is write piece count is left size blocks list within from-is last-is =
       blocks = numbers;
       list = held;
       within = within;
+      numbers = within (2 ^ 64) is.numbers;
       apart = apart;
       total = total-of ∙ sym count-of;
       some = omega (arith, count-of);

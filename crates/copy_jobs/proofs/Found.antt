@@ -8,7 +8,7 @@ use Rattle.copy_jobs.specs.declared.job.Work.{Work}
 use Rattle.copy_jobs.specs.Jobs.{has_key, is_running, is_running_work, runs_as, is_busy, running, reserved, reserved_for}
 use Rattle.copy_jobs.specs.Changes.{change, with_work}
 use Rattle.copy_jobs.specs.Tables.{KeysApart, IsJob, AllJobs}
-use Rattle.copy_jobs.proofs.Tests.{or_first, or_later}
+use Rattle.copy_jobs.proofs.Lists.{or_first, or_later}
 use Rattle.copy_jobs.proofs.Counts.{one_if, running-more}
 
 -- the job, and that the test holds of it

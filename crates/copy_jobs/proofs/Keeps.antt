@@ -11,7 +11,7 @@ use Rattle.copy_jobs.specs.declared.job.Job.{Job}
 use Rattle.copy_jobs.specs.Jobs.{has_key, is_running, has_ended, runs_as, is_busy, is_crowded, running, reserved, reserved_for}
 use Rattle.copy_jobs.specs.Keeping.{without_first, with_room, is_other, keep}
 use Rattle.copy_jobs.specs.Tables.{KeysApart, IsJob, AllJobs, IsTable}
-use Rattle.copy_jobs.proofs.Tests.{or_first, or_later, any-append}
+use Rattle.copy_jobs.proofs.Lists.{or_first, or_later, any-append}
 use Rattle.copy_jobs.proofs.SameKeys.{same_key-sym}
 use Rattle.copy_jobs.proofs.Counts.{one_if, running-more}
 use Rattle.copy_jobs.proofs.Trims.{Trims, trims-filter, trims-room, trims-running, trims-reserved, trims-length, trims-any, trims-apart, trims-jobs}

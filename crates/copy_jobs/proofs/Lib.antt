@@ -1,4 +1,4 @@
-pub mod Tests
+pub mod Lists
 pub mod Cuts
 pub mod SameKeys
 pub mod Trims

@@ -9,12 +9,12 @@ use Rattle.copy_jobs.specs.declared.key.Key.{Key}
 use Rattle.copy_jobs.specs.declared.job.Job.{Job}
 use Rattle.copy_jobs.specs.declared.piece.NextPiece.{NextPiece}
 use Rattle.copy_jobs.specs.Keys.{same_key}
-use Rattle.copy_jobs.specs.Jobs.{has_key, is_running, runs_as}
+use Rattle.copy_jobs.specs.Jobs.{has_key, is_copying, is_running, runs_as}
 use Rattle.copy_jobs.specs.Pieces.{is_foreground, is_background, is_next, piece_length, next_length, IsPieceOf, IsNextPiece}
-use Rattle.copy_jobs.specs.Tables.{KeysApart}
-use Rattle.copy_jobs.proofs.Tests.{or_first, or_later}
+use Rattle.copy_jobs.specs.Tables.{KeysApart, IsJob}
+use Rattle.copy_jobs.proofs.Lists.{or_first, or_later}
 use Rattle.copy_jobs.proofs.SameKeys.{and_first, same_key-sym, same_key-refl}
-use Rattle.copy_jobs.proofs.Found.{find-passes}
+use Rattle.copy_jobs.proofs.Found.{find-any, find-passes}
 use Rattle.copy_jobs.proofs.Cuts.{length-cut}
 
 pub next-runs : (key : Option Key) (job : Job) → is_next key job ≡ true → is_running job ≡ true
@@ -50,8 +50,9 @@ alone test (x ∷ xs) job a e runs = go (test x) e (alone test xs job a.1)
         and-none true b h = h
         and-none false b h = refl
 
-pub next-is : (key : Option Key) (jobs : List Job) (job : Job) (piece : NextPiece) → KeysApart jobs → find (is_next key) jobs ≡ Some job → IsPieceOf job piece → IsNextPiece key jobs piece
-next-is key jobs job piece a e is =
+pub next-is : (key : Option Key) (jobs : List Job) (job : Job) (piece : NextPiece) → KeysApart jobs → find (is_next key) jobs ≡ Some job → IsJob job
+    → IsPieceOf job piece → IsNextPiece key jobs piece
+next-is key jobs job piece a e kept is =
     let runs = next-runs key job (find-passes (is_next key) jobs job e) in
     let first : find (runs_as piece.key) jobs ≡ Some job = ap (λ k. find (runs_as k) jobs) is.named ∙ alone (is_next key) jobs job a e runs in
     let told : next_length piece.key jobs ≡ Some (piece_length job.work) = ap (option_map (λ (j : Job). piece_length j.work)) first in
@@ -63,7 +64,9 @@ next-is key jobs job piece a e is =
       write = is.write;
       found = e;
       runs = first;
+      busy = find-any (runs_as piece.key) jobs job first;
       named = is.named;
+      token = ap (λ (k : Key). k.copy) is.named ∙ kept.kind ∙ ap is_copying is.work;
       work = is.work;
       next = is.next;
       counted = told ∙ ap Some (size ∙ sym long);

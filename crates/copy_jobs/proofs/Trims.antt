@@ -12,7 +12,7 @@ use Rattle.copy_jobs.specs.Jobs.{has_key, is_running, is_running_work, has_ended
 use Rattle.copy_jobs.specs.Keeping.{without_first, with_room, is_other}
 use Rattle.copy_jobs.specs.Tables.{KeysApart, IsJob, AllJobs}
 use Rattle.copy_jobs.proofs.Counts.{reserved-more}
-use Rattle.copy_jobs.proofs.Tests.{or_first, or_later}
+use Rattle.copy_jobs.proofs.Lists.{or_first, or_later}
 
 -- the second list is the first without some jobs that have ended
 abbrev pub Trims : List Job → List Job → Type 0

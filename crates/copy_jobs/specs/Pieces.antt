@@ -1,5 +1,5 @@
 -- The piece that is written next
-use Rattle.std.specs.Prelude.{◌≡◌, ◌==◌, ℕ, ◌+◌, ◌-◌, ◌<◌, ◌≤◌, List, length, take, drop, find, min, Option, Some, None, Bool, true, false, ◌&&◌, not}
+use Rattle.std.specs.Prelude.{◌≡◌, ◌==◌, ℕ, ◌+◌, ◌-◌, ◌^◌, ◌<◌, ◌≤◌, List, length, take, drop, find, min, Option, Some, None, Bool, true, false, ◌&&◌, not}
 use Rattle.std.specs.Option.{option_map}
 use Rattle.lba_ranges.specs.Denoted.{blocks_of, total, is_within, is_overlapping}
 use Rattle.lba_ranges.specs.HeldBlocks.{HeldBlocks}
@@ -10,7 +10,7 @@ use Rattle.copy_jobs.specs.declared.job.WriteJob.{WriteJob}
 use Rattle.copy_jobs.specs.declared.job.Work.{Work}
 use Rattle.copy_jobs.specs.declared.job.Work.TheVariants.{Populated, Writing, Copying}
 use Rattle.copy_jobs.specs.declared.piece.NextPiece.{NextPiece}
-use Rattle.copy_jobs.specs.Jobs.{is_running, runs_as}
+use Rattle.copy_jobs.specs.Jobs.{is_running, runs_as, is_busy}
 
 abbrev pub is_writing : Work → Bool
 is_writing (Writing write) = true
@@ -47,6 +47,7 @@ pub record IsPiece (write : WriteJob) (piece : NextPiece) : Type 0 where
   pub blocks : blocks_of piece.ranges ≡ take piece_blocks (drop write.written (blocks_of write.ranges))
   pub list : piece.list ≡ record { block_length = write.rod.block_length; items = take piece_blocks (drop write.written write.rod.items) }
   pub within : (n : ℕ) → is_within n write.ranges ≡ true → is_within n piece.ranges ≡ true
+  pub numbers : is_within (2 ^ 64) piece.ranges ≡ true
   pub apart : is_overlapping piece.ranges ≡ false
   pub total : total piece.ranges ≡ length piece.list.items
   pub some : 0 < length piece.list.items
@@ -61,13 +62,15 @@ pub record IsPieceOf (job : Job) (piece : NextPiece) : Type 0 where
   pub named : piece.key ≡ job.key
   pub next : IsPiece write piece
 
--- the piece is of the first job that is next, and no other job runs as its key
+-- the piece is of the first job that is next, which is also the first that runs as its key
 pub record IsNextPiece (key : Option Key) (jobs : List Job) (piece : NextPiece) : Type 0 where
   pub job : Job
   pub write : WriteJob
   pub found : find (is_next key) jobs ≡ Some job
   pub runs : find (runs_as piece.key) jobs ≡ Some job
+  pub busy : is_busy piece.key jobs ≡ true
   pub named : piece.key ≡ job.key
+  pub token : piece.key.copy ≡ false
   pub work : job.work ≡ Writing write
   pub next : IsPiece write piece
   pub counted : next_length piece.key jobs ≡ Some (length piece.list.items)

@@ -14,3 +14,6 @@ pub use key::Key;
 pub use piece::NextPiece;
 pub use refused::JobRefused;
 pub use table::JobTable;
+
+#[cfg(test)]
+mod tests;

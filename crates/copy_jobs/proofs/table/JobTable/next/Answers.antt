@@ -8,7 +8,7 @@ use Rattle.copy_jobs.specs.declared.key.Key.{Key}
 use Rattle.copy_jobs.specs.declared.job.Job.{Job}
 use Rattle.copy_jobs.specs.declared.piece.NextPiece.{NextPiece}
 use Rattle.copy_jobs.specs.Pieces.{is_next, IsPieceOf, IsNextPiece}
-use Rattle.copy_jobs.specs.Tables.{KeysApart}
+use Rattle.copy_jobs.specs.Tables.{KeysApart, IsJob}
 use Rattle.copy_jobs.proofs.Found.{find-job}
 use Rattle.copy_jobs.proofs.Next.{next-is}
 use Rattle.copy_jobs.proofs.table.JobTable.next.Goals as goal
@@ -21,18 +21,19 @@ next_piece-requires-clause-work c =
     let job = find-job (is_next c.args.key) jobs c.in-Some.job.now c.self.invariant.jobs told in
     job.work
 
-each : (key : Option Key) (jobs : List Job) (job : Job) (r : Result (Option NextPiece) OutOfMemory) → KeysApart jobs → find (is_next key) jobs ≡ Some job
+each : (key : Option Key) (jobs : List Job) (job : Job) (r : Result (Option NextPiece) OutOfMemory) → KeysApart jobs → IsJob job → find (is_next key) jobs ≡ Some job
     → IfOk r (λ piece. IfSome piece (λ piece. IsPieceOf job piece)) → IfOk r (λ piece. IfSome piece (λ piece. IsNextPiece key jobs piece))
-each key jobs job (Err e) a f h = h
-each key jobs job (Ok None) a f h = h
-each key jobs job (Ok (Some piece)) a f h = next-is key jobs job piece a f h
+each key jobs job (Err e) a is f h = h
+each key jobs job (Ok None) a is f h = h
+each key jobs job (Ok (Some piece)) a is f h = next-is key jobs job piece a f is h
 
 pub returns-in-Some-clause-piece : goal.returns-in-Some-clause-piece
 returns-in-Some-clause-piece c =
     let jobs : List Job = c.self.inside.jobs.items in
     let is = find_from_yields_List (is_next c.args.key) _ _ c.find.result c.find.ensures.ran (YieldsList-from_slice jobs cc) (λ x b q k. search (rules, tests)) in
     let told : find (is_next c.args.key) jobs ≡ Some c.in-Some.job.now = sym is ∙ rw c.in-Some.is refl in
-    rw (← c.self.view_is) (each c.args.key jobs c.in-Some.job.now c.next_piece.result c.self.invariant.apart told c.next_piece.ensures.piece)
+    let job = find-job (is_next c.args.key) jobs c.in-Some.job.now c.self.invariant.jobs told in
+    rw (← c.self.view_is) (each c.args.key jobs c.in-Some.job.now c.next_piece.result c.self.invariant.apart job told c.next_piece.ensures.piece)
 
 pub returns-in-None-clause-none : goal.returns-in-None-clause-none
 returns-in-None-clause-none c =
