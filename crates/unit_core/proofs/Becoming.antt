@@ -23,7 +23,7 @@ use Rattle.copy_jobs.specs.declared.job.Job.{Job}
 use Rattle.copy_jobs.specs.declared.job.Work.{Work}
 use Rattle.copy_jobs.specs.declared.job.Work.TheVariants.{Populated, Writing, Copying}
 use Rattle.copy_jobs.specs.Jobs.{started, opened, made}
-use Rattle.copy_jobs.specs.BlockChanges.{with_work, moved_by, stopped_by, terminated, closed_by}
+use Rattle.copy_jobs.specs.Changes.{with_work, moved_by, stopped_by, terminated, closed_by}
 use Rattle.unit_core.specs.Tables.{key_of, work_of, job_of, serial_or_none}
 use Rattle.unit_core.proofs.Serving.{Moves, Stops, Ends, Closes, left-running, token-runs, start-token}
 

@@ -1,7 +1,7 @@
 -- Finding, filtering and changing the elements of lists
 use Rattle.std.proofs.Common.{◌≡◌, ℕ, List, [], ◌∷◌, ◌++◌, length, refl, ap, sym, ◌∙◌, true, false, Bool, inl, inr}
 use Rattle.std.specs.List.{list_any, list_all}
-use Rattle.std.specs.Prelude.{Option, Some, None, ◌&&◌, ◌||◌, map, filter, find, cond, ⊤, option_map}
+use Rattle.std.specs.Prelude.{Option, Some, None, is_some, ◌&&◌, ◌||◌, map, filter, find, cond, ⊤, option_map}
 use Rattle.cm_history.proofs.Lists.{In}
 
 pub find-filter : {X : Type 0} (q p : X → Bool) (xs : List X) → find p (filter q xs) ≡ find (λ x. q x && p x) xs
@@ -86,3 +86,20 @@ find-passes p (y ∷ ys) x e = go (p y) refl e (find-passes p ys x)
     go : (t : Bool) → p y ≡ t → cond t (Some y) (find p ys) ≡ Some x → (find p ys ≡ Some x → p x ≡ true) → p x ≡ true
     go true on f later = let same : y ≡ x = cc in ap p (sym same) ∙ on
     go false off f later = later f
+
+-- what is found is there
+pub any-found : {X : Type 0} (p : X → Bool) (xs : List X) (x : X) → find p xs ≡ Some x → list_any p xs ≡ true
+any-found p [] x e = cc
+any-found p (y ∷ ys) x e = go (p y) e (any-found p ys x)
+  where
+    go : (t : Bool) → cond t (Some y) (find p ys) ≡ Some x → (find p ys ≡ Some x → list_any p ys ≡ true) → (t || list_any p ys) ≡ true
+    go true f later = refl
+    go false f later = later f
+
+pub any-some : {X : Type 0} (p : X → Bool) (xs : List X) → is_some (find p xs) ≡ list_any p xs
+any-some p [] = refl
+any-some p (x ∷ xs) = go (p x) (any-some p xs)
+  where
+    go : (t : Bool) → is_some (find p xs) ≡ list_any p xs → is_some (cond t (Some x) (find p xs)) ≡ (t || list_any p xs)
+    go true ih = refl
+    go false ih = ih

@@ -34,7 +34,7 @@ abbrev pub IsNexus : Actor → Type 0
 IsNexus (Nexus n) = ⊤
 IsNexus (Pump u) = ⊥
 
-maker-nexus : (unit : ℕ) (actor : Actor) (act : Act) → may_ask unit actor act ≡ true → is_making act ≡ true → IsNexus actor
+pub maker-nexus : (unit : ℕ) (actor : Actor) (act : Act) → may_ask unit actor act ≡ true → is_making act ≡ true → IsNexus actor
 maker-nexus unit (Nexus n) act e m = tt
 maker-nexus unit (Pump u) (Act.Populate id timeout ranges) e m = cc
 maker-nexus unit (Pump u) (Act.Start id background ranges rod) e m = cc

@@ -13,7 +13,7 @@ use Rattle.cm_history.specs.Bounds.{kept_records}
 use Rattle.cm_history.specs.Deeds.{Deed, same_actor}
 use Rattle.cm_history.specs.Operations.{Operation, Form, OfToken, OfCopy, same_form, serves, form_of, id_of, has_key, operations, operation_after, made_operation, makes_operation, would_serve, running, is_running, fits, kept, keep, has_ended, same_key, with_room, without_first_ended}
 use Rattle.cm_history.specs.Answers.{deed}
-use Rattle.cm_history.proofs.Lists.{In, Each, Each-in, Each-by, In-filter, find-in, filter-passes}
+use Rattle.cm_history.proofs.Lists.{In, Each, Each-in, Each-by, In-filter, find-in, find-some, filter-passes}
 use Rattle.cm_history.proofs.Counts.{IsPast, apart, same_place}
 use Rattle.cm_history.proofs.Records.{running_kept, kept_in, served_none, makes_serves}
 use Rattle.cm_history.proofs.Keys.{KeysApart, keys-apart, one-key, same-record}
@@ -21,9 +21,9 @@ use Rattle.copy_jobs.specs.declared.key.Key.{Key}
 use Rattle.copy_jobs.specs.declared.job.Job.{Job}
 use Rattle.copy_jobs.specs.Jobs as jobs
 use Rattle.copy_jobs.specs.Keeping as keeping
-use Rattle.copy_jobs.specs.BlockChanges.{change}
+use Rattle.copy_jobs.specs.Changes.{change}
 use Rattle.unit_core.specs.Tables.{key_of, job_of, jobs_of}
-use Rattle.unit_core.proofs.Finding.{filter-map, filter-same, map-append, map-map, map-same}
+use Rattle.unit_core.proofs.Finding.{find-map, filter-map, filter-same, map-append, map-map, map-same}
 use Rattle.unit_core.proofs.Jobs.{IsNexus, IsOwn, own-nexus, job-runs, job-key}
 use Rattle.unit_core.proofs.Serving.{served-or-not}
 
@@ -156,6 +156,39 @@ has-own o its =
     let id : (id_of o.made.entry.act == id_of o.made.entry.act) ≡ true = grind (arith, nat_tests) in
     rw (same-own o.made.entry.actor, form-own (form_of o.made.entry.act), id) refl
 
+-- a running record is the one that runs as its key
+own-is : (config : Configuration) (unit : ℕ) (past : List Deed) (o x : Operation) → IsPast config unit past → Each (IsOwn config unit) (kept past) → In o (kept past) → In x (kept past)
+    → jobs.runs_as (own_key o) (job_of x) ≡ true → x ≡ o
+own-is config unit past o x is own there i e =
+    let mine = own-nexus config unit o (Each-in (IsOwn config unit) (kept past) o own there) in
+    let its = own-nexus config unit x (Each-in (IsOwn config unit) (kept past) x own i) in
+    same-record o.made.entry.actor (form_of o.made.entry.act) (id_of o.made.entry.act) (kept past) x o (keys-apart config unit past is) i there
+    (sym (job-key o.made.entry.actor (form_of o.made.entry.act) (id_of o.made.entry.act) x mine its) ∙ and_second (jobs.is_running (job_of x)) (jobs.has_key (own_key o) (job_of x)) e)
+    (has-own o mine)
+
+own-runs : (o : Operation) → IsNexus o.made.entry.actor → is_running o ≡ true → jobs.runs_as (own_key o) (job_of o) ≡ true
+own-runs o mine runs =
+    ap (λ t. t && jobs.has_key (own_key o) (job_of o)) (job-runs o ∙ runs)
+    ∙ job-key o.made.entry.actor (form_of o.made.entry.act) (id_of o.made.entry.act) o mine mine ∙ has-own o mine
+
+-- and it is found by its key
+pub found-own : (config : Configuration) (unit : ℕ) (past : List Deed) (o : Operation) → IsPast config unit past → Each (IsOwn config unit) (kept past) → In o (kept past) → is_running o ≡ true
+    → find (jobs.runs_as (own_key o)) (jobs_of past) ≡ Some (job_of o)
+found-own config unit past o is own there runs =
+    let mine = own-nexus config unit o (Each-in (IsOwn config unit) (kept past) o own there) in
+    let f = find-some (λ x. jobs.runs_as (own_key o) (job_of x)) (kept past) o there (own-runs o mine runs) in
+    let same : f.item ≡ o = own-is config unit past o f.item is own there f.there f.passes in
+    find-map job_of (jobs.runs_as (own_key o)) (kept past) ∙ ap (option_map job_of) (f.is ∙ ap Some same)
+
+-- what is served is kept, and runs
+pub served-there : (config : Configuration) (unit : ℕ) (past : List Deed) (actor : Actor) (act : Act) (o : Operation) → IsPast config unit past → would_serve past actor act ≡ Some o → In o (kept past)
+served-there config unit past actor act o is found =
+    In-filter is_running (kept past) o (subst (In o) (running_kept config unit past is) (find-in (fits actor act) (running past) o found))
+
+pub served-runs : (config : Configuration) (unit : ℕ) (past : List Deed) (actor : Actor) (act : Act) (o : Operation) → IsPast config unit past → would_serve past actor act ≡ Some o → is_running o ≡ true
+served-runs config unit past actor act o is found =
+    filter-passes is_running (kept past) o (subst (In o) (running_kept config unit past is) (find-in (fits actor act) (running past) o found))
+
 -- what a deed that serves does to the jobs: the one of the key becomes that of the operation with its new server
 pub serving-jobs : (config : Configuration) (unit : ℕ) (past : List Deed) (d : Deed) (o : Operation) (g : Job → Job) → IsPast config unit past → d ≡ deed config unit past d.entry
     → Each (IsOwn config unit) (kept past) → makes_operation d ≡ false → would_serve past d.entry.actor d.entry.act ≡ Some o
@@ -169,28 +202,11 @@ serving-jobs config unit past d o g is made own makes found becomes =
     nexus : (x : Operation) → In x (kept past) → IsNexus x.made.entry.actor
     nexus x i = own-nexus config unit x (Each-in (IsOwn config unit) (kept past) x own i)
 
-    ran : In o (filter is_running (kept past))
-    ran = subst (In o) (running_kept config unit past is) (find-in (fits d.entry.actor d.entry.act) (running past) o found)
-
     there : In o (kept past)
-    there = In-filter is_running (kept past) o ran
+    there = served-there config unit past d.entry.actor d.entry.act o is found
 
     runs : is_running o ≡ true
-    runs = filter-passes is_running (kept past) o ran
-
-    key : (x : Operation) → In x (kept past) → jobs.has_key (own_key o) (job_of x) ≡ has_key o.made.entry.actor (form_of o.made.entry.act) (id_of o.made.entry.act) x
-    key x i = job-key o.made.entry.actor (form_of o.made.entry.act) (id_of o.made.entry.act) x (nexus o there) (nexus x i)
-
-    own_has : has_key o.made.entry.actor (form_of o.made.entry.act) (id_of o.made.entry.act) o ≡ true
-    own_has = has-own o (nexus o there)
-
-    itself : (x : Operation) → In x (kept past) → jobs.runs_as (own_key o) (job_of x) ≡ true → x ≡ o
-    itself x i e =
-        same-record o.made.entry.actor (form_of o.made.entry.act) (id_of o.made.entry.act) (kept past) x o (keys-apart config unit past is) i there
-        (sym (key x i) ∙ and_second (jobs.is_running (job_of x)) (jobs.has_key (own_key o) (job_of x)) e) own_has
-
-    own_runs : jobs.runs_as (own_key o) (job_of o) ≡ true
-    own_runs = ap (λ t. t && jobs.has_key (own_key o) (job_of o)) (job-runs o ∙ runs) ∙ key o there ∙ own_has
+    runs = served-runs config unit past d.entry.actor d.entry.act o is found
 
     served : (x : Operation) → In x (kept past) → (operation_after d x ≡ x) ⊎ ((would_serve past d.entry.actor d.entry.act ≡ Some x) × (operation_after d x ≡ record x { servers = d ∷ x.servers }))
     served x i = served-or-not config unit past d x is made (kept_in config unit past x is i)
@@ -200,7 +216,7 @@ serving-jobs config unit past d o g is made own makes found becomes =
 
     on : (x : Operation) → In x (kept past) → jobs.runs_as (own_key o) (job_of x) ≡ true → job_of (operation_after d x) ≡ g (job_of x)
     on x i e =
-        let same = itself x i e in
+        let same = own-is config unit past o x is own there i e in
         let after : operation_after d o ≡ record o { servers = d ∷ o.servers } = serves-own d o place in
         ap (λ y. job_of (operation_after d y)) same ∙ ap job_of after ∙ becomes ∙ ap (λ y. g (job_of y)) (sym same)
 
@@ -211,5 +227,8 @@ serving-jobs config unit past d o g is made own makes found becomes =
         go (inl same) = ap job_of same
         go (inr (is_it, more)) =
             let same : o ≡ x = some-is o x (sym found ∙ is_it) in
-            let no = sym own_runs ∙ ap (λ y. jobs.runs_as (own_key o) (job_of y)) same ∙ e in
+            let no = sym (own-runs o (nexus o there) runs) ∙ ap (λ y. jobs.runs_as (own_key o) (job_of y)) same ∙ e in
             cc
+
+pub serves-none : (config : Configuration) (unit : ℕ) (past : List Deed) (d : Deed) → d ≡ deed config unit past d.entry → would_serve past d.entry.actor d.entry.act ≡ None → d.served ≡ None
+serves-none config unit past d made e = ap (λ (x : Deed). x.served) made ∙ ap (option_map (λ (x : Operation). x.made.place)) e

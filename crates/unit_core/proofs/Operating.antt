@@ -80,10 +80,13 @@ all-made_by config unit (d ∷ past) is asked =
     answer e = sym (ap is_answered is.0) ∙ e
 
     new : (t : Bool) → makes_operation d ≡ t → Each (λ (o : Operation). IsMadeBy config unit o.made) (if t then made_operation d ∷ [] else [])
-    new true e = (record {
-      asked = asked.0;
-      makes = and_first (is_making d.entry.act) (is_answered d) e;
-      serial = λ p. ap (λ (x : Deed). is_some (serial_made x.answer)) is.0 ∙ populate-made config unit past d.entry.actor d.entry.moment d.entry.act p (answer (and_second (is_making d.entry.act) (is_answered d) e));
-      within = start-within config unit past d.entry.actor d.entry.moment d.entry.act (answer (and_second (is_making d.entry.act) (is_answered d) e));
-    }, tt)
+    new true e = (
+      record {
+        asked = asked.0;
+        makes = and_first (is_making d.entry.act) (is_answered d) e;
+        serial = λ p. ap (λ (x : Deed). is_some (serial_made x.answer)) is.0 ∙ populate-made config unit past d.entry.actor d.entry.moment d.entry.act p (answer (and_second (is_making d.entry.act) (is_answered d) e));
+        within = start-within config unit past d.entry.actor d.entry.moment d.entry.act (answer (and_second (is_making d.entry.act) (is_answered d) e));
+      },
+      tt,
+    )
     new false e = tt

@@ -1,7 +1,7 @@
 -- No act maps more blocks than the quota
-use Rattle.std.proofs.Common.{◌≡◌, ℕ, ◌+◌, ◌≤◌, List, [], ◌∷◌, length, refl, ap, sym, ◌∙◌, subst, arith, true, false, Bool}
+use Rattle.std.proofs.Common.{◌≡◌, ℕ, ◌+◌, ◌≤◌, List, [], ◌∷◌, length, refl, ap, sym, ◌∙◌, subst, arith, true, false, Bool, inl, inr}
 use Rattle.std.proofs.lemmas.Bool.{ltb-false}
-use Rattle.std.specs.Prelude.{nat_lt, if◌then◌else◌}
+use Rattle.std.specs.Prelude.{Option, Some, None, nat_lt, if◌then◌else◌}
 use Rattle.lba_ranges.specs.declared.ranges.Range.{Range}
 use Rattle.lba_ranges.specs.Denoted.{blocks_of, is_within}
 use Rattle.lba_ranges.specs.Writings.{Held, Writing, after, mapped_below, unmapped}
@@ -15,11 +15,10 @@ use Rattle.cm_history.specs.declared.act.Entry.{Entry}
 use Rattle.cm_history.specs.declared.answer.Answer.{Answer}
 use Rattle.cm_history.specs.Senses.{out_of_range, over_quota}
 use Rattle.cm_history.specs.Deeds.{Deed, is_refusal}
-use Rattle.cm_history.specs.Operations.{is_failure}
+use Rattle.cm_history.specs.Operations.{Operation, is_failure, would_serve, next_piece}
 use Rattle.cm_history.specs.Blocks.{held, mapped, mapped_with}
 use Rattle.cm_history.specs.Answers.{answer_after, answer_write, answer_unmap, put_at, wrote_of, writings, piece_of, deed}
-use Rattle.unit_core.specs.Agreeing.{IsQuiet}
-use Rattle.unit_core.proofs.Rooms.{serves_none}
+use Rattle.unit_core.proofs.Serving.{Serves, how-serves}
 
 -- what would be mapped after the writings is within the quota
 abbrev Within : UnitConfig → (ℕ → Held) → List Writing → Type 0
@@ -60,19 +59,31 @@ wrote_none answer = go (is_refusal answer) (is_failure answer)
 none_within : (unit : UnitConfig) (now : ℕ → Held) (answer : Answer) (ws : List Writing) → ws ≡ [] → mapped_below unit.blocks now ≤ unit.quota → Within unit now (wrote_of answer ws)
 none_within unit now answer ws e low = subst (Within unit now) (sym (ap (wrote_of answer) e ∙ wrote_none answer)) low
 
-act_within : (config : Configuration) (unit : ℕ) (past : List Deed) (actor : Actor) (moment : ℕ) (act : Act) → IsQuiet past
+unserved_within : (config : Configuration) (unit : ℕ) (past : List Deed) (actor : Actor) (moment : ℕ) (act : Act) → would_serve past actor act ≡ None
     → mapped (unit_of config unit) past ≤ (unit_of config unit).quota
     → Within (unit_of config unit) (held past) (wrote_of (answer_after config unit past actor moment act) (writings past actor act))
-act_within config unit past actor moment (Act.Write lba list) quiet low = write_within (unit_of config unit) (held past) lba list.items low
-act_within config unit past actor moment (Act.Put lba list) quiet low = write_within (unit_of config unit) (held past) lba list.items low
-act_within config unit past actor moment (Act.Unmap ranges) quiet low = unmap_within (unit_of config unit) (held past) ranges low
-act_within config unit past actor moment (Act.Advance id) quiet low =
-    none_within (unit_of config unit) (held past) (answer_after config unit past actor moment (Act.Advance id)) (writings past actor (Act.Advance id)) (ap piece_of (serves_none past actor (Act.Advance id) quiet)) low
-act_within config unit past actor moment Act.Pump quiet low =
-    none_within (unit_of config unit) (held past) (answer_after config unit past actor moment Act.Pump) (writings past actor Act.Pump) (ap piece_of (serves_none past actor Act.Pump quiet)) low
-act_within config unit past actor moment act quiet low = none_within (unit_of config unit) (held past) (answer_after config unit past actor moment act) (writings past actor act) refl low
+unserved_within config unit past actor moment (Act.Write lba list) none low = write_within (unit_of config unit) (held past) lba list.items low
+unserved_within config unit past actor moment (Act.Put lba list) none low = write_within (unit_of config unit) (held past) lba list.items low
+unserved_within config unit past actor moment (Act.Unmap ranges) none low = unmap_within (unit_of config unit) (held past) ranges low
+unserved_within config unit past actor moment (Act.Advance id) none low =
+    none_within (unit_of config unit) (held past) (answer_after config unit past actor moment (Act.Advance id)) (writings past actor (Act.Advance id)) (ap piece_of none) low
+unserved_within config unit past actor moment Act.Pump none low =
+    none_within (unit_of config unit) (held past) (answer_after config unit past actor moment Act.Pump) (writings past actor Act.Pump) (ap piece_of none) low
+unserved_within config unit past actor moment act none low = none_within (unit_of config unit) (held past) (answer_after config unit past actor moment act) (writings past actor act) refl low
+
+-- a piece that is written stays within the quota
+served_within : (unit : UnitConfig) (past : List Deed) (o : Operation) (answer : Answer) (ws : List Writing) (act : Act) → Serves unit past o answer ws act
+    → mapped unit past ≤ unit.quota → Within unit (held past) ws
+served_within unit past o answer ws act (inl moves) low = subst (Within unit (held past)) (sym moves.wrote) (ltb-false unit.quota (mapped_with unit (held past) (next_piece o)) moves.within)
+served_within unit past o answer ws act (inr (inl stops)) low = subst (Within unit (held past)) (sym stops.wrote) low
+served_within unit past o answer ws act (inr (inr (inl ends))) low = subst (Within unit (held past)) (sym ends.wrote) low
+served_within unit past o answer ws act (inr (inr (inr closes))) low = subst (Within unit (held past)) (sym closes.wrote) low
 
 -- no act maps more blocks than the quota
-pub quota-step : (config : Configuration) (unit : ℕ) (past : List Deed) (e : Entry) → IsQuiet past → mapped (unit_of config unit) past ≤ (unit_of config unit).quota
+pub quota-step : (config : Configuration) (unit : ℕ) (past : List Deed) (e : Entry) → mapped (unit_of config unit) past ≤ (unit_of config unit).quota
     → mapped (unit_of config unit) (deed config unit past e ∷ past) ≤ (unit_of config unit).quota
-quota-step config unit past e quiet low = act_within config unit past e.actor e.moment e.act quiet low
+quota-step config unit past e low = go (would_serve past e.actor e.act) refl
+  where
+    go : (w : Option Operation) → would_serve past e.actor e.act ≡ w → mapped (unit_of config unit) (deed config unit past e ∷ past) ≤ (unit_of config unit).quota
+    go None none = unserved_within config unit past e.actor e.moment e.act none low
+    go (Some o) found = served_within (unit_of config unit) past o _ _ e.act (how-serves config unit past e.actor e.moment e.act o found) low

@@ -23,7 +23,7 @@ use Rattle.copy_jobs.specs.declared.job.Job.{Job}
 use Rattle.copy_jobs.specs.declared.job.Work.{Work}
 use Rattle.copy_jobs.specs.Jobs as jobs
 use Rattle.copy_jobs.specs.Keeping as keeping
-use Rattle.copy_jobs.specs.BlockChanges.{change}
+use Rattle.copy_jobs.specs.Changes.{change}
 use Rattle.unit_core.specs.Tables.{key_of, work_of, job_of, jobs_of}
 use Rattle.unit_core.specs.Agreeing.{IsAsked}
 use Rattle.unit_core.proofs.Serving.{IsPaced, all-paced, few-written, Serves, Moves, Stops, Ends, Closes, start-token, token-runs, paced-after, serving}

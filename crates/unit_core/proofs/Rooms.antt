@@ -1,110 +1,167 @@
--- Room in a unit's record, and acts that make no operation
-use Rattle.std.proofs.Common.{◌≡◌, ℕ, ◌+◌, ◌-◌, ◌^◌, ◌<◌, ◌≤◌, List, [], ◌∷◌, length, refl, ap, sym, ◌∙◌, arith, true, false, Bool}
-use Rattle.std.specs.Prelude.{◌||◌, ◌&&◌, ◌==◌, nat_le, nat_lt, max, is_some, filter, None, if◌then◌else◌, find}
+-- Room in a unit's record
+use Rattle.std.proofs.Common.{◌≡◌, ℕ, ◌+◌, ◌-◌, ◌^◌, ◌<◌, ◌≤◌, List, [], ◌∷◌, length, refl, ap, sym, ◌∙◌, subst, arith, true, false, Bool}
+use Rattle.std.specs.Prelude.{Option, Some, None, ◌||◌, ◌&&◌, ◌==◌, nat_le, nat_lt, max, is_some, if◌then◌else◌}
 use Rattle.std.proofs.lemmas.Bool.{or_parts, or_left, or_right, ltb-false, lt-ltb, le-ltb, eq-eqb, ne_eqb}
 use Rattle.std.proofs.lemmas.Bool.Decides.{nat_tests}
+use Rattle.cm_base.specs.Configuration.{Configuration}
 use Rattle.cm_base.specs.declared.config.UnitConfig.{UnitConfig}
+use Rattle.cm_base.specs.Units.{unit_of}
 use Rattle.cm_history.specs.declared.act.Act.{Act}
 use Rattle.cm_history.specs.declared.act.Actor.{Actor}
-use Rattle.cm_history.specs.Deeds.{Deed, last_stamp}
-use Rattle.cm_history.specs.Known.{is_known}
-use Rattle.cm_history.specs.Tokens.{tokens, made_token}
-use Rattle.cm_history.specs.Operations.{would_serve, is_making, is_running, fits}
-use Rattle.cm_history.specs.Room.{is_full, is_write, bytes_in, need, reserved, payload}
-use Rattle.unit_core.specs.Agreeing.{IsQuiet}
-
-makes_none : (act : Act) → is_known act ≡ true → is_making act ≡ false
-makes_none (Act.Populate id timeout ranges) e = cc
-makes_none (Act.Start id background ranges rod) e = cc
-makes_none (Act.Open id) e = cc
-makes_none _ e = refl
-
-no_token : (d : Deed) (past : List Deed) (serial : ℕ) (act : Act) → is_known act ≡ true → made_token d past serial act ≡ []
-no_token d past serial (Act.Populate id timeout ranges) e = cc
-no_token d past serial _ e = refl
-
-pub quiet-start : IsQuiet []
-quiet-start = record { operations = refl; kept = refl; tokens = refl }
-
-pub quiet-step : (past : List Deed) (d : Deed) → is_known d.entry.act ≡ true → IsQuiet past → IsQuiet (d ∷ past)
-quiet-step past d known quiet =
-    let none = makes_none d.entry.act known in
-    record {
-      operations = rw (none, quiet.operations) refl;
-      kept = rw (none, quiet.kept) refl;
-      tokens = rw (no_token d past (length (tokens past)) d.entry.act known, quiet.tokens) refl;
-    }
-
--- nothing runs, so nothing is served
-pub serves_none : (past : List Deed) (actor : Actor) (act : Act) → IsQuiet past → would_serve past actor act ≡ None
-serves_none past actor act quiet = ap (λ os. find (fits actor act) (filter is_running os)) quiet.operations
-
-pub reserves_none : (past : List Deed) → IsQuiet past → reserved past ≡ 0
-reserves_none past quiet = rw quiet.operations refl
-
-needs_one : (past : List Deed) (actor : Actor) (act : Act) → is_known act ≡ true → IsQuiet past → need past actor act ≡ 1
-needs_one past actor (Act.Start id background ranges rod) known quiet = cc
-needs_one past actor (Act.Open id) known quiet = cc
-needs_one past actor (Act.Advance id) known quiet = ap (λ o. if is_some o then 0 else 1) (serves_none past actor (Act.Advance id) quiet)
-needs_one past actor Act.Pump known quiet = ap (λ o. if is_some o then 0 else 1) (serves_none past actor Act.Pump quiet)
-needs_one past actor (Act.End id) known quiet = ap (λ o. if is_some o then 0 else 1) (serves_none past actor (Act.End id) quiet)
-needs_one past actor (Act.Abort id) known quiet = ap (λ o. if is_some o then 0 else 1) (serves_none past actor (Act.Abort id) quiet)
-needs_one past actor (Act.Close id result) known quiet = ap (λ o. if is_some o then 0 else 1) (serves_none past actor (Act.Close id result) quiet)
-needs_one past actor _ known quiet = refl
+use Rattle.cm_history.specs.Deeds.{Deed, last_stamp, is_answered}
+use Rattle.cm_history.specs.Operations.{Operation, is_making, is_running_state, makes_operation, made_operation, would_serve, running, kept, state, written, operations, is_running_copy, result_of}
+use Rattle.cm_history.specs.Answers.{deed}
+use Rattle.cm_history.specs.Room.{is_full, is_write, bytes_in, need, pieces, reserved, payload}
+use Rattle.cm_history.proofs.Lists.{Each, Each-in, find-none}
+use Rattle.cm_history.proofs.Counts.{IsPast, IsBegun, begun}
+use Rattle.cm_history.proofs.Records.{kept_in, making_serves, and_first}
+use Rattle.copy_jobs.specs.Jobs as jobs
+use Rattle.unit_core.specs.Agreeing.{IsAsked}
+use Rattle.unit_core.specs.Tables.{job_of, jobs_of, work_of}
+use Rattle.unit_core.proofs.Serving.{IsPaced, all-paced, serving}
+use Rattle.unit_core.proofs.Jobs.{IsOwn, IsNexus, own-nexus, maker-nexus}
+use Rattle.unit_core.proofs.Keeping.{made-jobs, same-jobs, serving-jobs, found-own, served-there, served-runs, own_key, serves-none}
+use Rattle.unit_core.proofs.Reserving.{reserved-is, keep-reserves, change-reserves, serving-reserves}
+use Rattle.unit_core.proofs.Planned.{IsKnown, own-of}
 
 no_bytes : (act : Act) → is_write act ≡ false → bytes_in act ≡ 0
 no_bytes (Act.Write lba list) e = cc
 no_bytes _ e = refl
 
--- where nothing runs an act needs one entry
-pub full-is : (unit : UnitConfig) (past : List Deed) (actor : Actor) (stamp : ℕ) (act : Act) → is_known act ≡ true → IsQuiet past → payload 0 past ≤ unit.payload
+-- an act has no room for one of three causes
+pub full-is : (unit : UnitConfig) (past : List Deed) (actor : Actor) (stamp : ℕ) (act : Act) → payload 0 past ≤ unit.payload
     → is_full unit 0 past actor stamp act
-    ≡ (((max stamp (last_stamp past) == 2 ^ 64 - 1) || nat_lt unit.entries (length past + 1)) || nat_lt unit.payload (payload 0 past + bytes_in act))
-full-is unit past actor stamp act known quiet within =
-    let one : length past - 0 + reserved past + need past actor act ≡ length past + 1 =
-    (let r = reserves_none past quiet in let n = needs_one past actor act known quiet in omega arith) in
+    ≡ (((max stamp (last_stamp past) == 2 ^ 64 - 1) || nat_lt unit.entries (length past + reserved past + need past actor act)) || nat_lt unit.payload (payload 0 past + bytes_in act))
+full-is unit past actor stamp act within =
+    let all : length past - 0 + reserved past + need past actor act ≡ length past + reserved past + need past actor act = omega arith in
     let bytes : (is_write act && nat_lt unit.payload (payload 0 past + bytes_in act)) ≡ nat_lt unit.payload (payload 0 past + bytes_in act) = go (is_write act) refl in
-    ap (λ n. ((max stamp (last_stamp past) == 2 ^ 64 - 1) || nat_lt unit.entries n) || (is_write act && nat_lt unit.payload (payload 0 past + bytes_in act))) one
-    ∙ ap (λ t. ((max stamp (last_stamp past) == 2 ^ 64 - 1) || nat_lt unit.entries (length past + 1)) || t) bytes
+    ap (λ n. ((max stamp (last_stamp past) == 2 ^ 64 - 1) || nat_lt unit.entries n) || (is_write act && nat_lt unit.payload (payload 0 past + bytes_in act))) all
+    ∙ ap (λ t. ((max stamp (last_stamp past) == 2 ^ 64 - 1) || nat_lt unit.entries (length past + reserved past + need past actor act)) || t) bytes
   where
     go : (t : Bool) → is_write act ≡ t → (t && nat_lt unit.payload (payload 0 past + bytes_in act)) ≡ nat_lt unit.payload (payload 0 past + bytes_in act)
     go true e = refl
     go false e = let none = no_bytes act e in grind (arith, nat_tests)
 
--- a record that is not full has an entry and the bytes left
-pub record HasRoom (unit : UnitConfig) (past : List Deed) (stamp : ℕ) (act : Act) : Type 0 where
+-- a record that is not full has the entries and the bytes left
+pub record HasRoom (unit : UnitConfig) (past : List Deed) (actor : Actor) (stamp : ℕ) (act : Act) : Type 0 where
   pub stamps : max stamp (last_stamp past) == 2 ^ 64 - 1 ≡ false
-  pub entries : length past + 1 ≤ unit.entries
+  pub entries : length past + reserved past + need past actor act ≤ unit.entries
   pub bytes : payload 0 past + bytes_in act ≤ unit.payload
 
-pub room-of : (unit : UnitConfig) (past : List Deed) (actor : Actor) (stamp : ℕ) (act : Act) → is_known act ≡ true → IsQuiet past → payload 0 past ≤ unit.payload
-    → is_full unit 0 past actor stamp act ≡ false → HasRoom unit past stamp act
-room-of unit past actor stamp act known quiet within e =
-    let parts = or_parts ((max stamp (last_stamp past) == 2 ^ 64 - 1) || nat_lt unit.entries (length past + 1)) (nat_lt unit.payload (payload 0 past + bytes_in act))
-    (sym (full-is unit past actor stamp act known quiet within) ∙ e) in
-    let first = or_parts (max stamp (last_stamp past) == 2 ^ 64 - 1) (nat_lt unit.entries (length past + 1)) parts.0 in
-    record { stamps = first.0; entries = ltb-false unit.entries (length past + 1) first.1; bytes = ltb-false unit.payload (payload 0 past + bytes_in act) parts.1 }
+pub room-of : (unit : UnitConfig) (past : List Deed) (actor : Actor) (stamp : ℕ) (act : Act) → payload 0 past ≤ unit.payload
+    → is_full unit 0 past actor stamp act ≡ false → HasRoom unit past actor stamp act
+room-of unit past actor stamp act within e =
+    let n = length past + reserved past + need past actor act in
+    let parts = or_parts ((max stamp (last_stamp past) == 2 ^ 64 - 1) || nat_lt unit.entries n) (nat_lt unit.payload (payload 0 past + bytes_in act))
+    (sym (full-is unit past actor stamp act within) ∙ e) in
+    let first = or_parts (max stamp (last_stamp past) == 2 ^ 64 - 1) (nat_lt unit.entries n) parts.0 in
+    record { stamps = first.0; entries = ltb-false unit.entries n first.1; bytes = ltb-false unit.payload (payload 0 past + bytes_in act) parts.1 }
 
 pub payload-step : (past : List Deed) (d : Deed) → payload 0 (d ∷ past) ≡ payload 0 past + bytes_in d.entry.act
 payload-step past d = let on : nat_le 0 d.place ≡ true = grind (arith, nat_tests) in rw on refl
 
 -- the three causes, each where those before it do not hold
-pub full-stamps : (unit : UnitConfig) (past : List Deed) (actor : Actor) (stamp : ℕ) (act : Act) → is_known act ≡ true → IsQuiet past → payload 0 past ≤ unit.payload
+pub full-stamps : (unit : UnitConfig) (past : List Deed) (actor : Actor) (stamp : ℕ) (act : Act) → payload 0 past ≤ unit.payload
     → max stamp (last_stamp past) ≡ 2 ^ 64 - 1 → is_full unit 0 past actor stamp act ≡ true
-full-stamps unit past actor stamp act known quiet within last =
-    full-is unit past actor stamp act known quiet within
+full-stamps unit past actor stamp act within last =
+    full-is unit past actor stamp act within
     ∙ (let on : (max stamp (last_stamp past) == 2 ^ 64 - 1) ≡ true = eq-eqb (max stamp (last_stamp past)) (2 ^ 64 - 1) last in rw on refl)
 
-pub full-entries : (unit : UnitConfig) (past : List Deed) (actor : Actor) (stamp : ℕ) (act : Act) → is_known act ≡ true → IsQuiet past → payload 0 past ≤ unit.payload
-    → unit.entries < length past + 1 → is_full unit 0 past actor stamp act ≡ true
-full-entries unit past actor stamp act known quiet within more =
-    full-is unit past actor stamp act known quiet within
-    ∙ or_left ((max stamp (last_stamp past) == 2 ^ 64 - 1) || nat_lt unit.entries (length past + 1)) (nat_lt unit.payload (payload 0 past + bytes_in act))
-    (or_right (max stamp (last_stamp past) == 2 ^ 64 - 1) (nat_lt unit.entries (length past + 1)) (lt-ltb unit.entries (length past + 1) more))
+pub full-entries : (unit : UnitConfig) (past : List Deed) (actor : Actor) (stamp : ℕ) (act : Act) → payload 0 past ≤ unit.payload
+    → unit.entries < length past + reserved past + need past actor act → is_full unit 0 past actor stamp act ≡ true
+full-entries unit past actor stamp act within more =
+    let n = length past + reserved past + need past actor act in
+    full-is unit past actor stamp act within
+    ∙ or_left ((max stamp (last_stamp past) == 2 ^ 64 - 1) || nat_lt unit.entries n) (nat_lt unit.payload (payload 0 past + bytes_in act))
+    (or_right (max stamp (last_stamp past) == 2 ^ 64 - 1) (nat_lt unit.entries n) (lt-ltb unit.entries n more))
 
-pub full-bytes : (unit : UnitConfig) (past : List Deed) (actor : Actor) (stamp : ℕ) (act : Act) → is_known act ≡ true → IsQuiet past → payload 0 past ≤ unit.payload
-    → (max stamp (last_stamp past) ≡ 2 ^ 64 - 1 → ⊥) → length past + 1 ≤ unit.entries → is_full unit 0 past actor stamp act ≡ nat_lt unit.payload (payload 0 past + bytes_in act)
-full-bytes unit past actor stamp act known quiet within more room =
+pub full-bytes : (unit : UnitConfig) (past : List Deed) (actor : Actor) (stamp : ℕ) (act : Act) → payload 0 past ≤ unit.payload
+    → (max stamp (last_stamp past) ≡ 2 ^ 64 - 1 → ⊥) → length past + reserved past + need past actor act ≤ unit.entries
+    → is_full unit 0 past actor stamp act ≡ nat_lt unit.payload (payload 0 past + bytes_in act)
+full-bytes unit past actor stamp act within more room =
+    let n = length past + reserved past + need past actor act in
     let stamps : (max stamp (last_stamp past) == 2 ^ 64 - 1) ≡ false = ne_eqb (max stamp (last_stamp past)) (2 ^ 64 - 1) more in
-    let entries : nat_lt unit.entries (length past + 1) ≡ false = le-ltb unit.entries (length past + 1) room in
-    full-is unit past actor stamp act known quiet within ∙ rw (stamps, entries) refl
+    let entries : nat_lt unit.entries n ≡ false = le-ltb unit.entries n room in
+    full-is unit past actor stamp act within ∙ rw (stamps, entries) refl
+
+-- ---- what an act needs
+
+pub need-served : (past : List Deed) (actor : Actor) (act : Act) (o : Operation) → would_serve past actor act ≡ Some o → need past actor act ≡ 0
+need-served past actor (Act.Advance id) o e = ap (λ w. if is_some w then 0 else 1) e
+need-served past actor Act.Pump o e = ap (λ w. if is_some w then 0 else 1) e
+need-served past actor (Act.End id) o e = ap (λ w. if is_some w then 0 else 1) e
+need-served past actor (Act.Abort id) o e = ap (λ w. if is_some w then 0 else 1) e
+need-served past actor (Act.Close id result) o e = ap (λ w. if is_some w then 0 else 1) e
+need-served past actor _ o e = let no = sym (find-none (running past)) ∙ e in cc
+
+need-unserved : (past : List Deed) (actor : Actor) (act : Act) → would_serve past actor act ≡ None → 1 ≤ need past actor act
+need-unserved past actor (Act.Start id background ranges rod) e = omega arith
+need-unserved past actor (Act.Open id) e = omega arith
+need-unserved past actor (Act.Advance id) e = let n : need past actor (Act.Advance id) ≡ 1 = ap (λ w. if is_some w then 0 else 1) e in omega (arith, n)
+need-unserved past actor Act.Pump e = let n : need past actor Act.Pump ≡ 1 = ap (λ w. if is_some w then 0 else 1) e in omega (arith, n)
+need-unserved past actor (Act.End id) e = let n : need past actor (Act.End id) ≡ 1 = ap (λ w. if is_some w then 0 else 1) e in omega (arith, n)
+need-unserved past actor (Act.Abort id) e = let n : need past actor (Act.Abort id) ≡ 1 = ap (λ w. if is_some w then 0 else 1) e in omega (arith, n)
+need-unserved past actor (Act.Close id result) e = let n : need past actor (Act.Close id result) ≡ 1 = ap (λ w. if is_some w then 0 else 1) e in omega (arith, n)
+need-unserved past actor _ e = omega arith
+
+-- a new operation needs one entry more than it keeps free
+need-made : (past : List Deed) (actor : Actor) (o : Operation) (act : Act) → is_making act ≡ true → length (written o) ≡ 0
+    → jobs.reserved_for (work_of o act) + 1 ≤ need past actor act
+need-made past actor o (Act.Start id background ranges rod) e none = go (is_running_state (state o))
+  where
+    zero-pieces : pieces (length (written o)) ≡ 0
+    zero-pieces = ap pieces none
+
+    go : (t : Bool) → (if t then pieces (length rod.items) + 1 - pieces (length (written o)) else 0) + 1 ≤ 2 + pieces (length rod.items)
+    go true = omega arith
+    go false = omega arith
+need-made past actor o (Act.Open id) e none = go (is_running_copy (result_of o.servers).state)
+  where
+    go : (t : Bool) → (if t then 1 else 0) + 1 ≤ 2
+    go true = omega arith
+    go false = omega arith
+need-made past actor o (Act.Populate id timeout ranges) e none = omega arith
+need-made past actor o _ e none = cc
+
+-- an act with room takes one entry, and keeps free what is needed from then on
+pub reserved-step : (config : Configuration) (unit : ℕ) (past : List Deed) (d : Deed) → IsKnown config unit past → IsAsked config unit d → d ≡ deed config unit past d.entry
+    → reserved (d ∷ past) + 1 ≤ reserved past + need past d.entry.actor d.entry.act
+reserved-step config unit past d known asked made = go (would_serve past d.entry.actor d.entry.act) refl (makes_operation d) refl
+  where
+    own : Each (IsOwn config unit) (kept past)
+    own = own-of config unit past known
+
+    before : jobs.reserved (jobs_of past) ≡ reserved past
+    before = reserved-is config unit past known.is
+
+    after : jobs.reserved (jobs_of (d ∷ past)) ≡ reserved (d ∷ past)
+    after = reserved-is config unit (d ∷ past) (made, known.is)
+
+    go : (w : Option Operation) → would_serve past d.entry.actor d.entry.act ≡ w → (m : Bool) → makes_operation d ≡ m
+        → reserved (d ∷ past) + 1 ≤ reserved past + need past d.entry.actor d.entry.act
+    go (Some o) e true m =
+        let no = sym e ∙ making_serves past d.entry.actor d.entry.act (and_first (is_making d.entry.act) (is_answered d) m) in
+        cc
+    go (Some o) e false m =
+        let there = served-there config unit past d.entry.actor d.entry.act o known.is e in
+        let runs = served-runs config unit past d.entry.actor d.entry.act o known.is e in
+        let less = serving-reserves config unit (unit_of config unit) past d o asked (serving config unit past d o made e) (Each-in (IsOwn config unit) (kept past) o own there) runs
+        (Each-in IsBegun (operations past) o (begun config unit past known.is) (kept_in config unit past o known.is there))
+        (Each-in IsPaced (operations past) o (all-paced config unit past known.is) (kept_in config unit past o known.is there)) in
+        let o' : Operation = record o { servers = d ∷ o.servers } in
+        let step = serving-jobs config unit past d o (λ j. job_of o') known.is made own m e refl in
+        let falls = change-reserves (jobs.runs_as (own_key o)) (λ j. job_of o') (jobs_of past) (job_of o) (found-own config unit past o known.is own there runs) less in
+        let now : jobs.reserved (jobs_of (d ∷ past)) + 1 ≤ jobs.reserved (jobs_of past) = subst (λ l. jobs.reserved l + 1 ≤ jobs.reserved (jobs_of past)) (sym step) falls in
+        omega (arith, before, after, now)
+    go None e true m =
+        let making = and_first (is_making d.entry.act) (is_answered d) m in
+        let step = made-jobs config unit past d own (maker-nexus unit d.entry.actor d.entry.act asked.asked making) m in
+        let more = keep-reserves (jobs_of past) (job_of (made_operation d)) in
+        let now : jobs.reserved (jobs_of (d ∷ past)) ≤ jobs.reserved (jobs_of past) + jobs.reserved_for (job_of (made_operation d)).work = subst (λ l. jobs.reserved l ≤ jobs.reserved (jobs_of past) + jobs.reserved_for (job_of (made_operation d)).work) (sym step) more in
+        let takes = need-made past d.entry.actor (made_operation d) d.entry.act making refl in
+        omega (arith, before, after, now, takes)
+    go None e false m =
+        let step = same-jobs past d m (serves-none config unit past d made e) in
+        let now : jobs.reserved (jobs_of (d ∷ past)) ≡ jobs.reserved (jobs_of past) = ap jobs.reserved step in
+        let one = need-unserved past d.entry.actor d.entry.act e in
+        omega (arith, before, after, now, one)

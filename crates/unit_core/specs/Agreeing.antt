@@ -32,9 +32,9 @@ pub record BlocksAgree (unit : UnitConfig) (past : List Deed) (own_blocks own_le
   pub same : (block : ℕ) → block < unit.blocks → holds block ≡ held past block
 
 -- the tokens are those that the past made
-pub record TokensAgree (unit : UnitConfig) (number : ℕ) (past : List Deed) (own : Store HeldBlocks) : Type 0 where
+pub record TokensAgree (told : UnitConfig) (number : ℕ) (past : List Deed) (own : Store HeldBlocks) : Type 0 where
   pub unit : own.unit ≡ number
-  pub tokens : own.tokens ≡ tokens_of unit past
+  pub tokens : own.tokens ≡ tokens_of told past
 
 -- the jobs are the operations that the past keeps, and the entries that they need are free
 pub record JobsAgree (past : List Deed) (own : List Job) (spare : ℕ) : Type 0 where

@@ -6,7 +6,7 @@ use Rattle.cm_history.specs.Operations.{is_running_copy}
 use Rattle.copy_jobs.specs.declared.job.Job.{Job}
 use Rattle.copy_jobs.specs.Jobs.{runs_as, is_busy, started, opened, made}
 use Rattle.copy_jobs.specs.Keeping.{keep}
-use Rattle.copy_jobs.specs.BlockChanges.{change, with_work, moved_by, stopped_by, terminated, closed_by}
+use Rattle.copy_jobs.specs.Changes.{change, with_work, moved_by, stopped_by, terminated, closed_by}
 use Rattle.copy_jobs.specs.Pieces.{next_length}
 use Rattle.unit_core.specs.declared.job_change.JobChange.{JobChange}
 use Rattle.unit_core.specs.declared.job_change.JobChange.TheVariants.{Nothing, Make, Start, Open, Move, Stop, End, Close}

@@ -23,11 +23,11 @@ is_make _ = false
 
 -- the text names a token that is redeemed at the moment
 pub record Redeems (config : Configuration) (store : Store HeldBlocks) (moment : ℕ) (text : List ℕ) (target : ℕ) : Type 0 where
-  pub unit : store.unit < length config.units
+  pub configured : store.unit < length config.units
   pub named : is_named store.unit text ≡ true
-  pub target : target < length config.units
+  pub known : target < length config.units
   pub list : HeldBlocks
-  pub judged : judged config store.unit moment text target store.tokens ≡ Ok list
+  pub answer : judged config store.unit moment text target store.tokens ≡ Ok list
 
 -- the change may be made
 abbrev pub MayToken : Configuration → Store HeldBlocks → ℕ → TokenChange → Type 0

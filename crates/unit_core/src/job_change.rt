@@ -12,20 +12,36 @@ use lba_ranges::{BlockList, RangeList};
 pub(crate) enum JobChange {
     Nothing,
     /// A token was made.
-    Make { key: Key, serial: u64, blocks: u32 },
+    Make {
+        key: Key,
+        serial: u64,
+        blocks: u32,
+    },
     Start {
         key: Key,
         background: bool,
         ranges: RangeList,
         rod: BlockList,
     },
-    Open { key: Key },
+    Open {
+        key: Key,
+    },
     /// The next piece is written.
-    Move { key: Key, blocks: u32 },
+    Move {
+        key: Key,
+        blocks: u32,
+    },
     /// The next piece goes over the quota.
-    Stop { key: Key },
-    End { key: Key },
-    Close { key: Key, end: CopyEnd },
+    Stop {
+        key: Key,
+    },
+    End {
+        key: Key,
+    },
+    Close {
+        key: Key,
+        end: CopyEnd,
+    },
 }
 
 impl JobChange {
@@ -38,11 +54,22 @@ impl JobChange {
     {
         match self {
             JobChange::Nothing => {}
-            JobChange::Make { key, serial, blocks } => {
+            JobChange::Make {
+                key,
+                serial,
+                blocks,
+            } => {
                 return jobs.made(key, serial, blocks).map_err(|_| OutOfMemory);
             }
-            JobChange::Start { key, background, ranges, rod } => {
-                return jobs.start(key, background, ranges, rod).map_err(|_| OutOfMemory);
+            JobChange::Start {
+                key,
+                background,
+                ranges,
+                rod,
+            } => {
+                return jobs
+                    .start(key, background, ranges, rod)
+                    .map_err(|_| OutOfMemory);
             }
             JobChange::Open { key } => return jobs.open(key).map_err(|_| OutOfMemory),
             JobChange::Move { key, blocks } => jobs.moved(key, blocks),

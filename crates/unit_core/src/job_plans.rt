@@ -68,12 +68,24 @@ impl<B: Blocks + Drop> UnitOver<B> {
         };
         let ranges = ranges.copy(self.alloc)?;
         let rod = rod.copy(self.alloc)?;
-        Ok(Plan::of_jobs(answer, JobChange::Start { key, background, ranges, rod }))
+        Ok(Plan::of_jobs(
+            answer,
+            JobChange::Start {
+                key,
+                background,
+                ranges,
+                rod,
+            },
+        ))
     }
 
     /// Writes the next piece of an operation, if the quota allows it: of a key, or without a key of the background
     /// operation that was begun first.
-    pub(crate) fn plan_piece(&self, key: Option<Key>, otherwise: Answer) -> Result<Plan, OutOfMemory>
+    pub(crate) fn plan_piece(
+        &self,
+        key: Option<Key>,
+        otherwise: Answer,
+    ) -> Result<Plan, OutOfMemory>
         ensures { IfOk result (λ p. (actor : Actor) (at : ℕ) (act : Act) → WritesPiece self.now.unit actor act key otherwise
             → IsPlan self.now.config self.now.unit (past self.now) actor at act p) }
     {
@@ -92,7 +104,13 @@ impl<B: Blocks + Drop> UnitOver<B> {
         ensures { result ≡ piece_plan (unit_of self.now.config self.now.unit) (held (past self.now)) piece }
     {
         let quota = self.config.unit(self.unit).quota;
-        let NextPiece { key, written, is_last, ranges, list } = piece;
+        let NextPiece {
+            key,
+            written,
+            is_last,
+            ranges,
+            list,
+        } = piece;
         if mapped_after(&self.tables.blocks, &ranges, &list) > quota {
             let answer = Answer::Progress {
                 state: OpState::Failed(refusals::over_quota()),

@@ -8,12 +8,11 @@ ghost use Rattle.cm_history.specs.Legal.{may_ask};
 ghost use Rattle.unit_core.specs.Acting.{past, ends_operation};
 ghost use Rattle.unit_core.specs.Planning.{IsPlan, Reads, Writes};
 
-use crate::block_plans as blocks;
 use crate::plan::Plan;
-use crate::refusals;
 use crate::room::token_key;
 use crate::token_change::TokenChange;
 use crate::unit::UnitOver;
+use crate::{block_plans as blocks, refusals};
 use cm_base::OutOfMemory;
 use cm_history::{Act, Actor, Answer};
 use lba_ranges::{BlockList, Blocks, RangeList};
@@ -31,15 +30,22 @@ impl<B: Blocks + Drop> UnitOver<B> {
             Act::Write { lba, list } | Act::Put { lba, list } => self.plan_write(*lba, list),
             Act::Unmap { ranges } => self.plan_unmap(ranges),
             Act::MapStatus { lba } => self.plan_status(*lba),
-            Act::Populate { id, timeout, ranges } => self.plan_populate(actor, *id, *timeout, ranges),
+            Act::Populate {
+                id,
+                timeout,
+                ranges,
+            } => self.plan_populate(actor, *id, *timeout, ranges),
             Act::Redeem { text, target } => self.plan_redeem(moment, text, *target),
             Act::Delete { serial } => Ok(Plan::of_tokens(
                 Answer::Done,
                 TokenChange::Delete { serial: *serial },
             )),
-            Act::Start { id, background, ranges, rod } => {
-                self.plan_start(actor, *id, *background, ranges, rod)
-            }
+            Act::Start {
+                id,
+                background,
+                ranges,
+                rod,
+            } => { self.plan_start(actor, *id, *background, ranges, rod) }
             Act::Advance { id } => {
                 self.plan_piece(Some(token_key(actor, *id)), refusals::no_such_operation())
             }

@@ -11,10 +11,19 @@ use rod_store::RodStore;
 pub(crate) enum TokenChange {
     Nothing,
     /// A token is made of the list.
-    Make { timeout: u32, blocks: u32, list: BlockList },
+    Make {
+        timeout: u32,
+        blocks: u32,
+        list: BlockList,
+    },
     /// The token of the text is used.
-    Use { text: [u8; 512], target: u16 },
-    Delete { serial: u64 },
+    Use {
+        text: [u8; 512],
+        target: u16,
+    },
+    Delete {
+        serial: u64,
+    },
 }
 
 /// Gives up what is over at the moment.
@@ -52,7 +61,11 @@ impl TokenChange {
         expire_all(tokens, moment);
         match self {
             TokenChange::Nothing => {}
-            TokenChange::Make { timeout, blocks, list } => {
+            TokenChange::Make {
+                timeout,
+                blocks,
+                list,
+            } => {
                 let _ = tokens.populate(moment, timeout, blocks, list);
             }
             TokenChange::Use { text, target } => {

@@ -51,8 +51,16 @@ impl<B: Blocks + Drop> UnitOver<B> {
         Ok(Plan {
             answer: Answer::Made { serial },
             blocks: BlockChange::Nothing,
-            jobs: JobChange::Make { key, serial, blocks },
-            tokens: TokenChange::Make { timeout, blocks, list },
+            jobs: JobChange::Make {
+                key,
+                serial,
+                blocks,
+            },
+            tokens: TokenChange::Make {
+                timeout,
+                blocks,
+                list,
+            },
         })
     }
 
@@ -71,7 +79,13 @@ impl<B: Blocks + Drop> UnitOver<B> {
         match self.tables.tokens.peek(&self.config, now, text, target) {
             Ok(list) => {
                 let list = list.copy(self.alloc)?;
-                Ok(Plan::of_tokens(Answer::Rod(list), TokenChange::Use { text: *text, target }))
+                Ok(Plan::of_tokens(
+                    Answer::Rod(list),
+                    TokenChange::Use {
+                        text: *text,
+                        target,
+                    },
+                ))
             }
             Err(sense) => Ok(Plan::answered(Answer::Refused(sense))),
         }
