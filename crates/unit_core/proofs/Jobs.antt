@@ -96,7 +96,7 @@ work-foreground o (Act.Open id) = refl
 work-foreground o (Act.Populate id timeout ranges) = refl
 work-foreground o _ = refl
 
-work-background : (o : Operation) (act : Act) → next.is_background (work_of o act) ≡ is_background act
+pub work-background : (o : Operation) (act : Act) → next.is_background (work_of o act) ≡ is_background act
 work-background o (Act.Start id background ranges rod) = refl
 work-background o (Act.Open id) = refl
 work-background o (Act.Populate id timeout ranges) = refl

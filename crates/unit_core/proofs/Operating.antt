@@ -16,7 +16,7 @@ use Rattle.unit_core.specs.Agreeing.{IsAsked, AllAsked}
 use Rattle.lba_ranges.specs.Denoted.{is_within}
 use Rattle.cm_history.specs.Senses.{in_use, out_of_range, too_many}
 use Rattle.cm_history.specs.Tokens.{is_populate, tokens}
-use Rattle.cm_history.specs.Operations.{Operation, OfToken, operations, operation_after, made_operation, makes_operation, is_making, serves, would_serve, running, is_running, is_running_state, is_foreground, is_background, fits, kept, written, list_of, next_piece, state_of, was_stopped, was_ended, is_failure}
+use Rattle.cm_history.specs.Operations.{Operation, OfToken, OfCopy, operations, operation_after, made_operation, makes_operation, is_making, serves, would_serve, running, is_running, is_running_state, is_foreground, is_background, fits, kept, written, list_of, next_piece, state_of, was_stopped, was_ended, is_failure}
 use Rattle.cm_history.specs.Answers.{deed, answer_after, writings, wrote_of, serial_made, is_busy, is_crowded}
 use Rattle.cm_history.proofs.Lists.{In, Each, Each-in, Each-by, Each-map, Each-append, In-filter, find-in, find-none, find-some, filter-passes}
 use Rattle.cm_history.proofs.Counts.{IsPast, made-after, apart, same_place}
@@ -31,16 +31,17 @@ starts_within blocks _ = true
 pub record IsMadeBy (config : Configuration) (unit : ℕ) (d : Deed) : Type 0 where
   pub asked : IsAsked config unit d
   pub makes : is_making d.entry.act ≡ true
-  pub serial : is_populate d.entry.act ≡ true → is_some (serial_made d.answer) ≡ true
+  pub serial : is_some (serial_made d.answer) ≡ is_populate d.entry.act
   pub within : starts_within (unit_of config unit).blocks d.entry.act ≡ true
 
 and_second : (a b : Bool) → (a && b) ≡ true → b ≡ true
 and_second true b e = e
 and_second false b e = cc
 
-populate-made : (config : Configuration) (unit : ℕ) (past : List Deed) (actor : Actor) (now : ℕ) (act : Act) → is_populate act ≡ true
-    → not (is_refusal (answer_after config unit past actor now act)) ≡ true → is_some (serial_made (answer_after config unit past actor now act)) ≡ true
-populate-made config unit past actor now (Act.Populate id timeout ranges) e answered =
+-- a token is made by a Populate alone
+serial-made : (config : Configuration) (unit : ℕ) (past : List Deed) (actor : Actor) (now : ℕ) (act : Act) → is_making act ≡ true
+    → not (is_refusal (answer_after config unit past actor now act)) ≡ true → is_some (serial_made (answer_after config unit past actor now act)) ≡ is_populate act
+serial-made config unit past actor now (Act.Populate id timeout ranges) e answered =
     go (is_busy past actor OfToken id) (not (is_within (unit_of config unit).blocks ranges)) (nat_le (2 ^ 48) (length (tokens past))) answered
   where
     go : (a b c : Bool)
@@ -50,7 +51,22 @@ populate-made config unit past actor now (Act.Populate id timeout ranges) e answ
     go false true c h = cc
     go false false true h = cc
     go false false false h = refl
-populate-made config unit past actor now _ e answered = cc
+serial-made config unit past actor now (Act.Start id background ranges rod) e answered =
+    go (is_busy past actor OfToken id) (not (is_within (unit_of config unit).blocks ranges)) (is_crowded past) (length rod.items == 0)
+  where
+    go : (a b c d : Bool)
+        → is_some (serial_made (if a then Answer.Refused in_use else if b then Answer.Refused out_of_range else if c then Answer.Refused too_many else Answer.Progress (if d then OpState.Done else OpState.Running) 0)) ≡ false
+    go true b c d = refl
+    go false true c d = refl
+    go false false true d = refl
+    go false false false d = refl
+serial-made config unit past actor now (Act.Open id) e answered = go (is_busy past actor OfCopy id) (is_crowded past)
+  where
+    go : (a b : Bool) → is_some (serial_made (if a then Answer.Refused in_use else if b then Answer.Refused too_many else Answer.Done)) ≡ false
+    go true b = refl
+    go false true = refl
+    go false false = refl
+serial-made config unit past actor now _ e answered = cc
 
 start-within : (config : Configuration) (unit : ℕ) (past : List Deed) (actor : Actor) (now : ℕ) (act : Act)
     → not (is_refusal (answer_after config unit past actor now act)) ≡ true → starts_within (unit_of config unit).blocks act ≡ true
@@ -84,7 +100,7 @@ all-made_by config unit (d ∷ past) is asked =
       record {
         asked = asked.0;
         makes = and_first (is_making d.entry.act) (is_answered d) e;
-        serial = λ p. ap (λ (x : Deed). is_some (serial_made x.answer)) is.0 ∙ populate-made config unit past d.entry.actor d.entry.moment d.entry.act p (answer (and_second (is_making d.entry.act) (is_answered d) e));
+        serial = ap (λ (x : Deed). is_some (serial_made x.answer)) is.0 ∙ serial-made config unit past d.entry.actor d.entry.moment d.entry.act (and_first (is_making d.entry.act) (is_answered d) e) (answer (and_second (is_making d.entry.act) (is_answered d) e));
         within = start-within config unit past d.entry.actor d.entry.moment d.entry.act (answer (and_second (is_making d.entry.act) (is_answered d) e));
       },
       tt,

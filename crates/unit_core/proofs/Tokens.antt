@@ -23,7 +23,7 @@ use Rattle.unit_core.proofs.Finding.{filter-map, filter-same, map-append, map-ma
 
 -- ---- one token
 
-live-standing : (r : HeldBlocks) (t : Token) (f : Fate) → store.is_live (standing_of r t f) ≡ is_live f
+pub live-standing : (r : HeldBlocks) (t : Token) (f : Fate) → store.is_live (standing_of r t f) ≡ is_live f
 live-standing r t Live = refl
 live-standing r t Expired = refl
 live-standing r t Evicted = refl

@@ -6,7 +6,7 @@ ghost use Rattle.cm_history.specs.Legal.{may_ask};
 ghost use Rattle.cm_history.specs.Operations.{Form, OfToken, OfCopy, would_serve};
 ghost use Rattle.cm_history.specs.Room.{bytes_in, pieces, need};
 ghost use Rattle.unit_core.specs.Acting.{past, is_full_at, serves_operation};
-ghost use Rattle.unit_core.specs.Tables.{key_of};
+ghost use Rattle.unit_core.specs.Tables.{number_of, key_of};
 
 use crate::unit::UnitOver;
 use cm_history::{Act, Actor};
@@ -36,7 +36,9 @@ fn pieces(blocks: u64) -> u64
 }
 
 /// The number of the one who asks.
-fn number_of(actor: Actor) -> u32 {
+fn number_of(actor: Actor) -> u32
+    ensures { result ≡ number_of actor }
+{
     match actor {
         Actor::Nexus(nexus) => nexus,
         Actor::Pump(unit) => u32::from(unit),

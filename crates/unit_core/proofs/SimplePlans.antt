@@ -1,0 +1,76 @@
+-- Plans of acts on blocks alone
+use Rattle.std.proofs.Common.{◌≡◌, ℕ, ◌+◌, ◌<◌, ◌≤◌, List, [], ◌∷◌, length, refl, ap, sym, ◌∙◌, subst, arith, true, false, Bool, inl, inr}
+use Rattle.std.specs.Prelude.{◌⊎◌, ◌&&◌, map, not, if◌then◌else◌}
+use Rattle.cm_base.specs.Configuration.{Configuration}
+use Rattle.cm_base.specs.declared.config.UnitConfig.{UnitConfig}
+use Rattle.cm_base.specs.Units.{unit_of}
+use Rattle.lba_ranges.specs.declared.ranges.Range.{Range}
+use Rattle.lba_ranges.specs.Denoted.{blocks_of, is_within}
+use Rattle.lba_ranges.specs.HeldBlocks.{HeldBlocks}
+use Rattle.lba_ranges.specs.Writings.{Held, Writing, unmapped}
+use Rattle.cm_history.specs.declared.act.Act.{Act}
+use Rattle.cm_history.specs.declared.act.Actor.{Actor}
+use Rattle.cm_history.specs.declared.answer.Answer.{Answer}
+use Rattle.cm_history.specs.Deeds.{Deed, is_refusal}
+use Rattle.cm_history.specs.Blocks.{held}
+use Rattle.cm_history.specs.Operations.{is_failure, running}
+use Rattle.cm_history.specs.Answers.{answer_after, answer_read, answer_write, answer_unmap, answer_status, put_at, writings, wrote_of}
+use Rattle.cm_history.proofs.Lists.{find-none}
+use Rattle.unit_core.specs.declared.block_change.BlockChange.{BlockChange}
+use Rattle.unit_core.specs.declared.block_plans.BlockPlan.{BlockPlan}
+use Rattle.unit_core.specs.BlockChanges.{writings_of, MayChange}
+use Rattle.unit_core.specs.Planning.{of_blocks, IsPlan, Reads, Writes}
+use Rattle.unit_core.proofs.Planned.{plain-plan, LeavesTokens}
+
+wrote_none : (answer : Answer) → wrote_of answer [] ≡ []
+wrote_none answer = go (is_refusal answer) (is_failure answer)
+  where
+    none : List Writing
+    none = []
+
+    go : (t u : Bool) → (if t then none else if u then none else none) ≡ none
+    go true u = refl
+    go false true = refl
+    go false false = refl
+
+pub read-plan : (config : Configuration) (unit : ℕ) (past : List Deed) (actor : Actor) (at : ℕ) (act : Act) (lba count : ℕ) (p : BlockPlan) → Reads lba count act
+    → p.answer ≡ answer_read (unit_of config unit) (held past) lba count → p.change ≡ BlockChange.Nothing → IsPlan config unit past actor at act (of_blocks p)
+read-plan config unit past actor at act lba count p reads told none = go reads
+  where
+    nothing : writings_of p.change ≡ []
+    nothing = ap writings_of none
+
+    may : MayChange (unit_of config unit).blocks (unit_of config unit).block_length p.change
+    may = subst (MayChange (unit_of config unit).blocks (unit_of config unit).block_length) (sym none) tt
+
+    go : Reads lba count act → IsPlan config unit past actor at act (of_blocks p)
+    go (inl e) = rw e (plain-plan config unit past actor at (Act.Read lba count) p.answer p.change told (nothing ∙ sym (wrote_none p.answer)) may
+    (record { making = refl; deletes = λ s. refl; redeems = λ s. refl }) (find-none (running past)))
+    go (inr e) = rw e (plain-plan config unit past actor at (Act.Capture lba count) p.answer p.change told (nothing ∙ sym (wrote_none p.answer)) may
+    (record { making = refl; deletes = λ s. refl; redeems = λ s. refl }) (find-none (running past)))
+
+pub write-plan : (config : Configuration) (unit : ℕ) (past : List Deed) (actor : Actor) (at : ℕ) (act : Act) (lba : ℕ) (list : HeldBlocks) (p : BlockPlan) → Writes lba list act
+    → p.answer ≡ answer_write (unit_of config unit) (held past) lba list.items → writings_of p.change ≡ wrote_of p.answer (put_at lba list.items)
+    → MayChange (unit_of config unit).blocks (unit_of config unit).block_length p.change → IsPlan config unit past actor at act (of_blocks p)
+write-plan config unit past actor at act lba list p writes told wrote may = go writes
+  where
+    go : Writes lba list act → IsPlan config unit past actor at act (of_blocks p)
+    go (inl e) = rw e (plain-plan config unit past actor at (Act.Write lba list) p.answer p.change told wrote may (record { making = refl; deletes = λ s. refl; redeems = λ s. refl }) (find-none (running past)))
+    go (inr e) = rw e (plain-plan config unit past actor at (Act.Put lba list) p.answer p.change told wrote may (record { making = refl; deletes = λ s. refl; redeems = λ s. refl }) (find-none (running past)))
+
+pub unmap-plan : (config : Configuration) (unit : ℕ) (past : List Deed) (actor : Actor) (at : ℕ) (ranges : List Range) (p : BlockPlan)
+    → p.answer ≡ answer_unmap (unit_of config unit) ranges → writings_of p.change ≡ wrote_of p.answer (unmapped (blocks_of ranges))
+    → MayChange (unit_of config unit).blocks (unit_of config unit).block_length p.change → IsPlan config unit past actor at (Act.Unmap ranges) (of_blocks p)
+unmap-plan config unit past actor at ranges p told wrote may =
+    plain-plan config unit past actor at (Act.Unmap ranges) p.answer p.change told wrote may (record { making = refl; deletes = λ s. refl; redeems = λ s. refl }) (find-none (running past))
+
+pub status-plan : (config : Configuration) (unit : ℕ) (past : List Deed) (actor : Actor) (at lba : ℕ) (p : BlockPlan)
+    → p.answer ≡ answer_status (unit_of config unit) (held past) lba → p.change ≡ BlockChange.Nothing → IsPlan config unit past actor at (Act.MapStatus lba) (of_blocks p)
+status-plan config unit past actor at lba p told none =
+    plain-plan config unit past actor at (Act.MapStatus lba) p.answer p.change told (ap writings_of none ∙ sym (wrote_none p.answer))
+    (subst (MayChange (unit_of config unit).blocks (unit_of config unit).block_length) (sym none) tt)
+    (record { making = refl; deletes = λ s. refl; redeems = λ s. refl }) (find-none (running past))
+
+-- blocks within the unit that agree are listed alike
+pub map-within : (n : ℕ) (ranges : List Range) (f g : ℕ → Held) → ((b : ℕ) → b < n → f b ≡ g b) → is_within n ranges ≡ true → map f (blocks_of ranges) ≡ map g (blocks_of ranges)
+map-within n ranges f g same within = ?

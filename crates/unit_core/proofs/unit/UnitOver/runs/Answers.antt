@@ -1,0 +1,31 @@
+use Rattle.std.proofs.Common.{◌≡◌, ℕ, List, Bool, true, false, ◌∙◌, ap, sym, refl}
+use Rattle.cm_base.specs.Configuration.{Configuration}
+use Rattle.cm_history.specs.declared.act.Act.{Act}
+use Rattle.cm_history.specs.declared.act.Actor.{Actor}
+use Rattle.cm_history.specs.Operations.{OfToken, OfCopy}
+use Rattle.cm_history.specs.History.{past_of}
+use Rattle.copy_jobs.specs.declared.key.Key.{Key}
+use Rattle.copy_jobs.specs.Jobs.{is_busy}
+use Rattle.unit_core.specs.Standing.{Standing}
+use Rattle.unit_core.specs.Acting.{past, is_busy_at}
+use Rattle.unit_core.specs.Tables.{key_of, jobs_of}
+use Rattle.unit_core.proofs.Jobs.{IsNexus, busy-is}
+use Rattle.unit_core.proofs.Asking.{asker}
+use Rattle.unit_core.proofs.Planned.{IsKnown, own-of}
+use Rattle.unit_core.proofs.Steps.{known-of}
+use Rattle.unit_core.proofs.unit.UnitOver.runs.Goals as goal
+
+busy : (s : Standing) (actor : Actor) (id : ℕ) → IsKnown s.config s.unit (past s) → IsNexus actor → (copy : Bool)
+    → is_busy (record (key_of actor OfToken id) { copy = copy }) (jobs_of (past s)) ≡ is_busy_at s actor copy id
+busy s actor id known mine true = busy-is s.config s.unit (past s) actor OfCopy id known.is (own-of s.config s.unit (past s) known) mine
+busy s actor id known mine false = busy-is s.config s.unit (past s) actor OfToken id known.is (own-of s.config s.unit (past s) known) mine
+
+pub returns : goal.returns
+returns g c =
+    let u = c.self.inside in
+    let s : Standing = record { config = u.config; unit = u.unit; entries = u.history.entries } in
+    let known = known-of u.config u.unit u.history.entries c.self.invariant.record_is in
+    let mine = asker c.args.self.now.unit c.args.actor (Act.Report c.args.id) c.requires refl in
+    rw (← c.self.view_is)
+    (c.runs.ensures.busy ∙ ap (λ (k : Key). is_busy (record k { copy = c.args.copy }) u.tables.jobs) c.token_key.ensures
+    ∙ ap (is_busy (record (key_of c.args.actor OfToken c.args.id) { copy = c.args.copy })) c.self.invariant.jobs.jobs ∙ busy s c.args.actor c.args.id known mine c.args.copy)
