@@ -217,7 +217,7 @@ impl JobTable {
     }
 
     /// What is to be written next, at most 1024 blocks: by the foreground operation of a key, or without a key by the
-    /// background operation that was kept first. `None` where no such operation runs.
+    /// background operation that was kept first. `None` where no such operation runs. The piece shares the payload.
     pub fn next(&self, key: Option<Key>) -> Result<Option<NextPiece>, OutOfMemory>
         ensures none { IfOk result (λ found. found ≡ None → find (is_next key) self.now ≡ None) }
         ensures piece { IfOk result (λ found. IfSome found (λ piece. IsNextPiece key self.now piece)) }
@@ -228,8 +228,8 @@ impl JobTable {
         }
     }
 
-    /// The next piece of the operation, of so many blocks, was written. With the last one it is done. It takes no
-    /// memory.
+    /// The next piece of the operation, of so many blocks, was written. With the last one it is done. Here and in the
+    /// three calls below one entry at least is no longer kept free. It takes no memory.
     pub fn moved(&mut self, key: Key, blocks: u32)
         requires token { key.copy ≡ false }
         requires piece { next_length key self.old ≡ Some blocks }
@@ -276,10 +276,8 @@ impl JobTable {
         requires { key.copy ≡ false }
         ensures { result ≡ option_map (λ (job : Job). report_of job.work) (find (has_key key) self.now) }
     {
-        match self.jobs.iter().find(|job| job.has_key(key)) {
-            Some(job) => Some(job.work.report()),
-            None => None,
-        }
+        let job = self.jobs.iter().find(|job| job.has_key(key))?;
+        Some(job.work.report())
     }
 
     /// How a copy stands (SPC-4, RECEIVE COPY STATUS); `None` where nothing is kept of it. It takes no memory.
@@ -287,9 +285,7 @@ impl JobTable {
         requires { key.copy ≡ true }
         ensures { result ≡ option_map (λ (job : Job). result_of job.work) (find (has_key key) self.now) }
     {
-        match self.jobs.iter().find(|job| job.has_key(key)) {
-            Some(job) => Some(job.work.result()),
-            None => None,
-        }
+        let job = self.jobs.iter().find(|job| job.has_key(key))?;
+        Some(job.work.result())
     }
 }
