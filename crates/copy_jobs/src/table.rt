@@ -4,7 +4,7 @@ ghost use Rattle.lba_ranges.specs.Denoted.{total, is_within, is_overlapping};
 ghost use Rattle.cm_history.specs.Bounds.{running_operations};
 ghost use Rattle.cm_history.specs.Operations.{is_running_copy};
 ghost use Rattle.copy_jobs.specs.declared.job.Job.{Job};
-ghost use Rattle.copy_jobs.specs.Jobs.{has_key, is_running, runs_as, is_busy, is_crowded, running, reserved, started, opened, made};
+ghost use Rattle.copy_jobs.specs.Jobs.{has_key, is_running, runs_as, is_busy, is_crowded, running, reserved, reserved_for, reserved_at_start, started, opened, made};
 ghost use Rattle.copy_jobs.specs.Keeping.{keep};
 ghost use Rattle.copy_jobs.specs.Changes.{change, with_work, moved_by, stopped_by, terminated, closed_by};
 ghost use Rattle.copy_jobs.specs.Pieces.{is_next, next_length, IsNextPiece};
@@ -110,6 +110,7 @@ impl JobTable {
         requires idle { is_busy job.key self.old ≡ false }
         requires room { is_running job ≡ true → is_crowded self.old ≡ false }
         ensures kept { OnOk result (self.new ≡ keep self.old job) }
+        ensures reserves { OnOk result (reserved self.new ≡ reserved self.old + reserved_for job.work) }
         ensures refused { OnErr result (self.new ≡ self.old) }
     {
         let runs = u32::from(job.work.is_running());
@@ -152,6 +153,7 @@ impl JobTable {
         requires total { total ranges ≡ length rod.items }
         requires few { length rod.items ≤ 1_048_576 }
         ensures kept { OnOk result (self.new ≡ keep self.old (started key background ranges rod)) }
+        ensures reserves { OnOk result (reserved self.new ≡ reserved self.old + reserved_at_start (length rod.items)) }
         ensures idle { OnOk result (is_busy key self.old ≡ false) }
         ensures room { OnOk result (is_crowded self.old ≡ false) }
         ensures busy { IfErr result (λ e. e ≡ JobRefused.InUse → is_busy key self.old ≡ true) }
@@ -180,6 +182,7 @@ impl JobTable {
     pub fn open(&mut self, key: Key) -> Result<(), JobRefused>
         requires { key.copy ≡ true }
         ensures kept { OnOk result (self.new ≡ keep self.old (opened key)) }
+        ensures reserves { OnOk result (reserved self.new ≡ reserved self.old + 1) }
         ensures idle { OnOk result (is_busy key self.old ≡ false) }
         ensures room { OnOk result (is_crowded self.old ≡ false) }
         ensures busy { IfErr result (λ e. e ≡ JobRefused.InUse → is_busy key self.old ≡ true) }
@@ -203,6 +206,7 @@ impl JobTable {
     pub fn made(&mut self, key: Key, serial: u64, blocks: u32) -> Result<(), JobRefused>
         requires { key.copy ≡ false }
         ensures kept { OnOk result (self.new ≡ keep self.old (made key serial blocks)) }
+        ensures reserves { OnOk result (reserved self.new ≡ reserved self.old) }
         ensures idle { OnOk result (is_busy key self.old ≡ false) }
         ensures busy { IfErr result (λ e. e ≡ JobRefused.InUse → is_busy key self.old ≡ true) }
         ensures never { IfErr result (λ e. e ≢ JobRefused.TooMany) }
