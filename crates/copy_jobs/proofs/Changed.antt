@@ -1,11 +1,11 @@
 -- A table in which one job is changed
-use Rattle.std.proofs.Common.{◌≡◌, ℕ, zero, suc, ◌+◌, ◌<◌, ◌≤◌, List, [], ◌∷◌, length, refl, ap, sym, ◌∙◌, arith, one-add, true, false, Bool}
-use Rattle.std.specs.Prelude.{◌||◌, ◌&&◌, Option, Some, None, find, filter, cond, get_or, set, if◌then◌else◌}
+use Rattle.std.proofs.Common.{◌≡◌, suc, ◌+◌, List, [], ◌∷◌, length, refl, ap, ◌∙◌, arith, one-add, true, false, Bool}
+use Rattle.std.specs.Prelude.{◌||◌, Some, find, cond, set, if◌then◌else◌}
 use Rattle.std.specs.List.{list_any, position_or_len}
 use Rattle.copy_jobs.specs.declared.key.Key.{Key}
 use Rattle.copy_jobs.specs.declared.job.Job.{Job}
 use Rattle.copy_jobs.specs.declared.job.Work.{Work}
-use Rattle.copy_jobs.specs.Jobs.{has_key, is_running, is_running_work, running, reserved, reserved_for}
+use Rattle.copy_jobs.specs.Jobs.{has_key, is_running, running, reserved, reserved_for}
 use Rattle.copy_jobs.specs.Changes.{change, with_work}
 use Rattle.copy_jobs.specs.Tables.{KeysApart, IsJob, AllJobs}
 use Rattle.copy_jobs.proofs.Counts.{one_if, running-more, reserved-more}

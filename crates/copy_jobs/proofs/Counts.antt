@@ -1,16 +1,15 @@
 -- How many entries are kept free
-use Rattle.std.proofs.Common.{◌≡◌, ℕ, ◌+◌, ◌-◌, ◌*◌, ◌/◌, ◌<◌, ◌≤◌, List, [], ◌∷◌, length, refl, arith, true, false, Bool}
+use Rattle.std.proofs.Common.{◌≡◌, ℕ, ◌+◌, ◌-◌, ◌*◌, ◌≤◌, List, [], ◌∷◌, length, refl, arith, true, false, Bool}
 use Rattle.std.specs.Prelude.{cond, if◌then◌else◌}
 use Rattle.std.proofs.lemmas.List.Sums.{sum_by-cons}
 use mir.Val.{bool_byte}
 use Rattle.cm_history.specs.Operations.{is_running_state, is_running_copy}
 use Rattle.cm_history.specs.Room.{pieces}
 use Rattle.copy_jobs.specs.declared.job.Job.{Job}
-use Rattle.copy_jobs.specs.declared.job.WriteJob.{WriteJob}
 use Rattle.copy_jobs.specs.declared.job.Work.{Work}
 use Rattle.copy_jobs.specs.declared.job.Work.TheVariants.{Populated, Writing, Copying}
 use Rattle.copy_jobs.specs.Jobs.{is_running, is_running_work, running, reserved, reserved_for}
-use Rattle.copy_jobs.specs.Tables.{IsWork, IsJob, AllJobs, IsWriteJob}
+use Rattle.copy_jobs.specs.Tables.{IsWork, AllJobs}
 
 -- 1 for a job that runs
 abbrev pub one_if : Bool → ℕ

@@ -1,6 +1,6 @@
 -- The blocks of a piece
-use Rattle.std.proofs.Common.{◌≡◌, ℕ, zero, suc, ◌+◌, ◌-◌, ◌^◌, ◌<◌, ◌≤◌, List, [], ◌∷◌, length, take, drop, min, refl, ap, sym, ◌∙◌, arith, length-drop, length-take, true, false, Bool}
-use Rattle.std.specs.Prelude.{◌||◌, ◌==◌, slice_range}
+use Rattle.std.proofs.Common.{◌≡◌, ℕ, zero, suc, ◌+◌, ◌-◌, ◌^◌, ◌<◌, List, [], ◌∷◌, length, take, drop, min, refl, ap, sym, ◌∙◌, arith, length-drop, length-take, true, false}
+use Rattle.std.specs.Prelude.{◌==◌, slice_range}
 use Rattle.std.specs.List.{list_any}
 use Rattle.std.proofs.lemmas.List.{take_min}
 use Rattle.lba_ranges.specs.Denoted.{blocks_of, total, has_repeat, is_within}

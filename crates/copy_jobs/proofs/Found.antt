@@ -1,15 +1,9 @@
 -- The first job that a test holds of
-use Rattle.std.proofs.Common.{◌≡◌, ℕ, zero, suc, ◌+◌, ◌<◌, ◌≤◌, List, [], ◌∷◌, length, refl, ap, sym, ◌∙◌, arith, one-add, true, false, Bool}
-use Rattle.std.specs.Prelude.{◌||◌, ◌&&◌, Option, Some, None, find, filter, cond, get_or, set, slice_get, if◌then◌else◌}
+use Rattle.std.proofs.Common.{◌≡◌, ◌<◌, List, [], ◌∷◌, length, refl, ap, sym, ◌∙◌, arith, one-add, true, false, Bool}
+use Rattle.std.specs.Prelude.{◌||◌, Some, find, cond, get_or}
 use Rattle.std.specs.List.{list_any, position_or_len}
-use Rattle.copy_jobs.specs.declared.key.Key.{Key}
 use Rattle.copy_jobs.specs.declared.job.Job.{Job}
-use Rattle.copy_jobs.specs.declared.job.Work.{Work}
-use Rattle.copy_jobs.specs.Jobs.{has_key, is_running, is_running_work, runs_as, is_busy, running, reserved, reserved_for}
-use Rattle.copy_jobs.specs.Changes.{change, with_work}
-use Rattle.copy_jobs.specs.Tables.{KeysApart, IsJob, AllJobs}
-use Rattle.copy_jobs.proofs.Lists.{or_first, or_later}
-use Rattle.copy_jobs.proofs.Counts.{one_if, running-more}
+use Rattle.copy_jobs.specs.Tables.{IsJob, AllJobs}
 
 -- the job, and that the test holds of it
 pub record Found (test : Job → Bool) (jobs : List Job) : Type 0 where

@@ -1,6 +1,6 @@
 -- A table with one more job is a table
-use Rattle.std.proofs.Common.{◌≡◌, ℕ, zero, suc, ◌+◌, ◌<◌, ◌≤◌, List, [], ◌∷◌, ◌++◌, length, length-append, refl, ap, sym, ◌∙◌, arith, true, false, Bool}
-use Rattle.std.specs.Prelude.{◌||◌, ◌&&◌, ◌==◌, not, nat_le, filter, cond, sum_by, if◌then◌else◌}
+use Rattle.std.proofs.Common.{◌≡◌, ℕ, suc, ◌+◌, ◌<◌, ◌≤◌, List, [], ◌∷◌, ◌++◌, length, length-append, refl, ap, ◌∙◌, arith, true, false, Bool}
+use Rattle.std.specs.Prelude.{◌&&◌, ◌==◌, not, nat_le, filter, cond, if◌then◌else◌}
 use Rattle.std.specs.List.{list_any}
 use Rattle.std.proofs.lemmas.Bool.Decides.{nat_tests}
 use Rattle.std.proofs.lemmas.List.Elements.{filter-append}
@@ -14,7 +14,7 @@ use Rattle.copy_jobs.specs.Tables.{KeysApart, IsJob, AllJobs, IsTable}
 use Rattle.copy_jobs.proofs.Lists.{or_first, or_later, any-append}
 use Rattle.copy_jobs.proofs.SameKeys.{same_key-sym}
 use Rattle.copy_jobs.proofs.Counts.{one_if, running-more}
-use Rattle.copy_jobs.proofs.Trims.{Trims, trims-filter, trims-room, trims-running, trims-reserved, trims-length, trims-any, trims-apart, trims-jobs}
+use Rattle.copy_jobs.proofs.Trims.{trims-filter, trims-room, trims-running, trims-reserved, trims-length, trims-any, trims-apart, trims-jobs}
 
 -- where not all run, one that has ended is left out
 without-length : (jobs : List Job) → length (running jobs) < length jobs → length (without_first has_ended jobs) + 1 ≡ length jobs

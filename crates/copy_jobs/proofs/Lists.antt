@@ -1,5 +1,5 @@
 -- Tests over lists
-use Rattle.std.proofs.Common.{◌≡◌, ℕ, zero, suc, List, [], ◌∷◌, ◌++◌, take, drop, refl, true, false, Bool}
+use Rattle.std.proofs.Common.{◌≡◌, ℕ, zero, suc, List, [], ◌∷◌, ◌++◌, take, refl, true, false, Bool}
 use Rattle.std.specs.Prelude.{◌||◌, filter, cond}
 use Rattle.std.specs.List.{list_any}
 

@@ -1,5 +1,5 @@
 -- The job that writes next
-use Rattle.std.proofs.Common.{◌≡◌, ℕ, List, [], ◌∷◌, length, min, take, drop, refl, ap, sym, ◌∙◌, true, false, Bool}
+use Rattle.std.proofs.Common.{◌≡◌, ℕ, List, [], ◌∷◌, length, min, refl, ap, sym, ◌∙◌, true, false, Bool}
 use Rattle.std.specs.Prelude.{◌||◌, ◌&&◌, Option, Some, None, find, cond, ◌-◌}
 use Rattle.std.specs.Option.{option_map}
 use Rattle.std.specs.List.{list_any}
@@ -8,7 +8,6 @@ use Rattle.cm_history.specs.Bounds.{piece_blocks}
 use Rattle.copy_jobs.specs.declared.key.Key.{Key}
 use Rattle.copy_jobs.specs.declared.job.Job.{Job}
 use Rattle.copy_jobs.specs.declared.piece.NextPiece.{NextPiece}
-use Rattle.copy_jobs.specs.Keys.{same_key}
 use Rattle.copy_jobs.specs.Jobs.{has_key, is_copying, is_running, runs_as}
 use Rattle.copy_jobs.specs.Pieces.{is_foreground, is_background, is_next, piece_length, next_length, IsPieceOf, IsNextPiece}
 use Rattle.copy_jobs.specs.Tables.{KeysApart, IsJob}

@@ -1,6 +1,6 @@
 -- The place of the first job that a test holds of
-use Rattle.std.proofs.Common.{◌≡◌, ℕ, zero, suc, ◌+◌, ◌<◌, ◌≤◌, List, [], ◌∷◌, length, refl, ap, sym, ◌∙◌, arith, one-add, true, false, Bool}
-use Rattle.std.specs.Prelude.{Option, Some, None, cond, not, nat_lt, remove, ◌==◌, if◌then◌else◌}
+use Rattle.std.proofs.Common.{◌≡◌, ℕ, ◌+◌, ◌<◌, ◌≤◌, List, [], ◌∷◌, length, refl, ap, arith, one-add, true, false, Bool}
+use Rattle.std.specs.Prelude.{Option, Some, None, cond, nat_lt, remove, ◌==◌, if◌then◌else◌}
 use Rattle.std.specs.List.{position_or_len}
 use Rattle.std.proofs.lemmas.Bool.Decides.{nat_tests}
 use Rattle.cm_history.specs.Bounds.{kept_records}

@@ -1,6 +1,6 @@
 -- Two keys that are the same
 use Rattle.std.proofs.Common.{◌≡◌, ℕ, refl, arith, true, false, Bool}
-use Rattle.std.specs.Prelude.{◌==◌, ◌&&◌, not}
+use Rattle.std.specs.Prelude.{◌==◌, ◌&&◌}
 use Rattle.std.proofs.lemmas.Bool.Decides.{nat_tests}
 use Rattle.copy_jobs.specs.declared.key.Key.{Key}
 use Rattle.copy_jobs.specs.Keys.{same_kind, same_key}

@@ -1,10 +1,10 @@
 -- What a step leaves of a job that runs
-use Rattle.std.proofs.Common.{◌≡◌, ℕ, zero, suc, ◌+◌, ◌-◌, ◌*◌, ◌/◌, ◌<◌, ◌≤◌, List, [], ◌∷◌, length, min, refl, ap, sym, ◌∙◌, arith, true, false, Bool}
-use Rattle.std.specs.Prelude.{◌==◌, ◌&&◌, Some, find, not, if◌then◌else◌}
+use Rattle.std.proofs.Common.{◌≡◌, ℕ, ◌+◌, ◌-◌, ◌<◌, ◌≤◌, List, length, min, refl, sym, ◌∙◌, arith, true, false, Bool}
+use Rattle.std.specs.Prelude.{◌==◌, Some, find, not, if◌then◌else◌}
 use Rattle.std.specs.Option.{option_map}
 use Rattle.std.proofs.lemmas.Bool.Decides.{nat_tests}
 use Rattle.cm_history.specs.Bounds.{piece_blocks}
-use Rattle.cm_history.specs.Operations.{is_running_state, is_running_copy}
+use Rattle.cm_history.specs.Operations.{is_running_state}
 use Rattle.cm_history.specs.Room.{pieces}
 use Rattle.cm_history.specs.declared.answer.OpState.{OpState}
 use Rattle.copy_jobs.specs.declared.key.Key.{Key}
@@ -15,7 +15,7 @@ use Rattle.copy_jobs.specs.declared.job.Work.TheVariants.{Populated, Writing, Co
 use Rattle.copy_jobs.specs.declared.step.Step.{Step}
 use Rattle.copy_jobs.specs.declared.step.Step.TheVariants.{Moved, Stopped, Terminated, Closed}
 use Rattle.copy_jobs.specs.Keys.{same_key}
-use Rattle.copy_jobs.specs.Jobs.{has_key, is_copying, is_running, is_running_work, runs_as, is_busy, running, reserved, reserved_for}
+use Rattle.copy_jobs.specs.Jobs.{has_key, is_copying, is_running, is_running_work, runs_as, is_busy, reserved, reserved_for}
 use Rattle.copy_jobs.specs.Changes.{change, with_work, moved_write}
 use Rattle.copy_jobs.specs.Pieces.{is_writing, piece_length}
 use Rattle.copy_jobs.specs.Steps.{stepped, MayTake, MayStep}

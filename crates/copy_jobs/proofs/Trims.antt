@@ -1,16 +1,15 @@
 -- A list of jobs that lacks some that have ended
-use Rattle.std.proofs.Common.{◌≡◌, ℕ, zero, suc, ◌+◌, ◌<◌, ◌≤◌, List, [], ◌∷◌, ◌++◌, length, refl, ap, sym, ◌∙◌, arith, subst, true, false, Bool, inl, inr}
-use Rattle.std.specs.Prelude.{◌||◌, ◌&&◌, ◌⊎◌, ◌==◌, not, filter, cond, if◌then◌else◌}
+use Rattle.std.proofs.Common.{◌≡◌, suc, ◌+◌, ◌≤◌, List, [], ◌∷◌, length, refl, ap, sym, ◌∙◌, arith, subst, true, false, Bool, inl, inr}
+use Rattle.std.specs.Prelude.{◌&&◌, ◌⊎◌, ◌==◌, not, filter, cond, if◌then◌else◌}
 use Rattle.std.specs.List.{list_any}
 use Rattle.cm_history.specs.Bounds.{kept_records}
-use Rattle.cm_history.specs.Operations.{is_running_state, is_running_copy}
 use Rattle.copy_jobs.specs.declared.key.Key.{Key}
 use Rattle.copy_jobs.specs.declared.job.Job.{Job}
 use Rattle.copy_jobs.specs.declared.job.Work.{Work}
 use Rattle.copy_jobs.specs.declared.job.Work.TheVariants.{Populated, Writing, Copying}
 use Rattle.copy_jobs.specs.Jobs.{has_key, is_running, is_running_work, has_ended, running, reserved, reserved_for}
 use Rattle.copy_jobs.specs.Keeping.{without_first, with_room, is_other}
-use Rattle.copy_jobs.specs.Tables.{KeysApart, IsJob, AllJobs}
+use Rattle.copy_jobs.specs.Tables.{KeysApart, AllJobs}
 use Rattle.copy_jobs.proofs.Counts.{reserved-more}
 use Rattle.copy_jobs.proofs.Lists.{or_first, or_later}
 

@@ -6,7 +6,7 @@ use Rattle.cm_history.specs.declared.answer.OpState.{OpState}
 use Rattle.copy_jobs.specs.declared.job.Job.{Job}
 use Rattle.copy_jobs.specs.declared.job.WriteJob.{WriteJob}
 use Rattle.copy_jobs.specs.declared.job.Work.{Work}
-use Rattle.copy_jobs.specs.declared.job.Work.TheVariants.{Populated, Writing, Copying}
+use Rattle.copy_jobs.specs.declared.job.Work.TheVariants.{Writing, Copying}
 
 -- the list with the first job that the test holds of changed
 abbrev pub change : (Job → Bool) → (Job → Job) → List Job → List Job

@@ -1,10 +1,9 @@
 -- The operations that a unit keeps, in the order in which they were made
-use Rattle.std.specs.Prelude.{ℕ, ◌+◌, ◌-◌, List, [], ◌∷◌, length, filter, sum_by, Option, Some, None, Bool, true, false, ◌==◌, ◌&&◌, not, nat_le, if◌then◌else◌}
+use Rattle.std.specs.Prelude.{ℕ, ◌+◌, ◌-◌, List, length, filter, sum_by, Bool, true, false, ◌==◌, ◌&&◌, not, nat_le, if◌then◌else◌}
 use Rattle.std.specs.List.{list_any}
 use Rattle.lba_ranges.specs.HeldBlocks.{HeldBlocks}
 use Rattle.lba_ranges.specs.declared.ranges.Range.{Range}
 use Rattle.cm_history.specs.Bounds.{running_operations}
-use Rattle.cm_history.specs.declared.act.CopyEnd.{CopyEnd}
 use Rattle.cm_history.specs.declared.act.CopyState.{CopyState}
 use Rattle.cm_history.specs.declared.answer.OpState.{OpState}
 use Rattle.cm_history.specs.Operations.{is_running_state, is_running_copy}
@@ -65,6 +64,10 @@ reserved_for (Copying result) = if is_running_copy result.state then 1 else 0
 
 abbrev pub reserved : List Job → ℕ
 reserved jobs = sum_by (λ (job : Job). reserved_for job.work) jobs
+
+-- what is kept free for a write of so many blocks that begins
+abbrev pub reserved_at_start : ℕ → ℕ
+reserved_at_start blocks = if blocks == 0 then 0 else pieces blocks + 1
 
 -- ---- new jobs
 

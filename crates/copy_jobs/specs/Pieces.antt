@@ -2,13 +2,12 @@
 use Rattle.std.specs.Prelude.{◌≡◌, ◌==◌, ℕ, ◌+◌, ◌-◌, ◌^◌, ◌<◌, ◌≤◌, List, length, take, drop, find, min, Option, Some, None, Bool, true, false, ◌&&◌, not}
 use Rattle.std.specs.Option.{option_map}
 use Rattle.lba_ranges.specs.Denoted.{blocks_of, total, is_within, is_overlapping}
-use Rattle.lba_ranges.specs.HeldBlocks.{HeldBlocks}
 use Rattle.cm_history.specs.Bounds.{piece_blocks}
 use Rattle.copy_jobs.specs.declared.key.Key.{Key}
 use Rattle.copy_jobs.specs.declared.job.Job.{Job}
 use Rattle.copy_jobs.specs.declared.job.WriteJob.{WriteJob}
 use Rattle.copy_jobs.specs.declared.job.Work.{Work}
-use Rattle.copy_jobs.specs.declared.job.Work.TheVariants.{Populated, Writing, Copying}
+use Rattle.copy_jobs.specs.declared.job.Work.TheVariants.{Writing}
 use Rattle.copy_jobs.specs.declared.piece.NextPiece.{NextPiece}
 use Rattle.copy_jobs.specs.Jobs.{is_running, runs_as, is_busy}
 

@@ -1,10 +1,9 @@
 -- What is told of a job
-use Rattle.std.specs.Prelude.{ℕ, Some, None, true, false}
+use Rattle.std.specs.Prelude.{Some, None, true, false}
 use Rattle.cm_history.specs.declared.act.CopyEnd.{CopyEnd}
 use Rattle.cm_history.specs.declared.act.CopyState.{CopyState}
 use Rattle.cm_history.specs.declared.answer.OpState.{OpState}
 use Rattle.cm_history.specs.declared.answer.OpReport.{OpReport}
-use Rattle.copy_jobs.specs.declared.job.Job.{Job}
 use Rattle.copy_jobs.specs.declared.job.Work.{Work}
 use Rattle.copy_jobs.specs.declared.job.Work.TheVariants.{Populated, Writing, Copying}
 

@@ -1,5 +1,5 @@
 -- What is true of each table of jobs
-use Rattle.std.specs.Prelude.{◌≡◌, ℕ, ◌^◌, ◌<◌, ◌≤◌, List, [], ◌∷◌, length, Bool, true, false, ⊤}
+use Rattle.std.specs.Prelude.{◌≡◌, ℕ, ◌^◌, ◌<◌, ◌≤◌, List, [], ◌∷◌, length, true, false, ⊤}
 use Rattle.std.specs.List.{list_any}
 use Rattle.lba_ranges.specs.Denoted.{total, is_within, is_overlapping}
 use Rattle.cm_history.specs.Bounds.{kept_records, running_operations}

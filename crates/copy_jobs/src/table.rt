@@ -5,7 +5,7 @@ ghost use Rattle.lba_ranges.specs.Denoted.{total, is_within, is_overlapping};
 ghost use Rattle.cm_history.specs.Bounds.{running_operations};
 ghost use Rattle.cm_history.specs.Operations.{is_running_copy};
 ghost use Rattle.copy_jobs.specs.declared.job.Job.{Job};
-ghost use Rattle.copy_jobs.specs.Jobs.{has_key, is_running, runs_as, is_busy, is_crowded, running, reserved, started, opened, made};
+ghost use Rattle.copy_jobs.specs.Jobs.{has_key, is_running, runs_as, is_busy, is_crowded, running, reserved, reserved_for, reserved_at_start, started, opened, made};
 ghost use Rattle.copy_jobs.specs.Keeping.{keep};
 ghost use Rattle.copy_jobs.specs.Changes.{change, with_work, moved_by, stopped_by, terminated, closed_by};
 ghost use Rattle.copy_jobs.specs.Pieces.{is_next, runs_behind, next_length, IsNextPiece};
@@ -126,6 +126,7 @@ impl JobTable {
         requires idle { is_busy job.key self.old ≡ false }
         requires room { is_running job ≡ true → is_crowded self.old ≡ false }
         ensures kept { OnOk result (self.new ≡ keep self.old job) }
+        ensures reserves { OnOk result (reserved self.new ≡ reserved self.old + reserved_for job.work) }
         ensures refused { OnErr result (self.new ≡ self.old) }
     {
         let runs = u32::from(job.work.is_running());
@@ -168,6 +169,7 @@ impl JobTable {
         requires total { total ranges ≡ length rod.items }
         requires few { length rod.items ≤ 1_048_576 }
         ensures kept { OnOk result (self.new ≡ keep self.old (started key background ranges rod)) }
+        ensures reserves { OnOk result (reserved self.new ≡ reserved self.old + reserved_at_start (length rod.items)) }
         ensures idle { OnOk result (is_busy key self.old ≡ false) }
         ensures room { OnOk result (is_crowded self.old ≡ false) }
         ensures busy { IfErr result (λ e. e ≡ JobRefused.InUse → is_busy key self.old ≡ true) }
@@ -196,6 +198,7 @@ impl JobTable {
     pub fn open(&mut self, key: Key) -> Result<(), JobRefused>
         requires { key.copy ≡ true }
         ensures kept { OnOk result (self.new ≡ keep self.old (opened key)) }
+        ensures reserves { OnOk result (reserved self.new ≡ reserved self.old + 1) }
         ensures idle { OnOk result (is_busy key self.old ≡ false) }
         ensures room { OnOk result (is_crowded self.old ≡ false) }
         ensures busy { IfErr result (λ e. e ≡ JobRefused.InUse → is_busy key self.old ≡ true) }
@@ -219,6 +222,7 @@ impl JobTable {
     pub fn made(&mut self, key: Key, serial: u64, blocks: u32) -> Result<(), JobRefused>
         requires { key.copy ≡ false }
         ensures kept { OnOk result (self.new ≡ keep self.old (made key serial blocks)) }
+        ensures reserves { OnOk result (reserved self.new ≡ reserved self.old) }
         ensures idle { OnOk result (is_busy key self.old ≡ false) }
         ensures busy { IfErr result (λ e. e ≡ JobRefused.InUse → is_busy key self.old ≡ true) }
         ensures never { IfErr result (λ e. e ≢ JobRefused.TooMany) }
@@ -233,7 +237,7 @@ impl JobTable {
     }
 
     /// What is to be written next, at most 1024 blocks: by the foreground operation of a key, or without a key by the
-    /// background operation that was kept first. `None` where no such operation runs.
+    /// background operation that was kept first. `None` where no such operation runs. The piece shares the payload.
     pub fn next(&self, key: Option<Key>) -> Result<Option<NextPiece>, OutOfMemory>
         ensures none { IfOk result (λ found. found ≡ None → find (is_next key) self.now ≡ None) }
         ensures piece { IfOk result (λ found. IfSome found (λ piece. IsNextPiece key self.now piece)) }
@@ -244,8 +248,8 @@ impl JobTable {
         }
     }
 
-    /// The next piece of the operation, of so many blocks, was written. With the last one it is done. It takes no
-    /// memory.
+    /// The next piece of the operation, of so many blocks, was written. With the last one it is done. Here and in the
+    /// three calls below one entry at least is no longer kept free. It takes no memory.
     pub fn moved(&mut self, key: Key, blocks: u32)
         requires token { key.copy ≡ false }
         requires piece { next_length key self.old ≡ Some blocks }
@@ -292,10 +296,8 @@ impl JobTable {
         requires { key.copy ≡ false }
         ensures { result ≡ option_map (λ (job : Job). report_of job.work) (find (has_key key) self.now) }
     {
-        match self.jobs.iter().find(|job| job.has_key(key)) {
-            Some(job) => Some(job.work.report()),
-            None => None,
-        }
+        let job = self.jobs.iter().find(|job| job.has_key(key))?;
+        Some(job.work.report())
     }
 
     /// How a copy stands (SPC-4, RECEIVE COPY STATUS); `None` where nothing is kept of it. It takes no memory.
@@ -303,9 +305,7 @@ impl JobTable {
         requires { key.copy ≡ true }
         ensures { result ≡ option_map (λ (job : Job). result_of job.work) (find (has_key key) self.now) }
     {
-        match self.jobs.iter().find(|job| job.has_key(key)) {
-            Some(job) => Some(job.work.result()),
-            None => None,
-        }
+        let job = self.jobs.iter().find(|job| job.has_key(key))?;
+        Some(job.work.result())
     }
 }

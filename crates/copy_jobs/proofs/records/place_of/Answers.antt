@@ -1,11 +1,11 @@
-use Rattle.std.proofs.Common.{◌≡◌, sym, ◌∙◌, arith, rules, tests}
-use Rattle.std.specs.Prelude.{Some, None, length}
+use Rattle.std.proofs.Common.{sym, ◌∙◌, arith, rules, tests}
+use Rattle.std.specs.Prelude.{length}
 use Rattle.std.specs.List.{position_or_len}
 use Rattle.std.proofs.lemmas.Iterator.Search.{position_from_yields_List}
 use Rattle.std.proofs.lemmas.Iterator.{YieldsList-from_slice}
 use Rattle.copy_jobs.specs.Jobs.{runs_as}
 use Rattle.copy_jobs.proofs.Found.{found}
-use Rattle.copy_jobs.proofs.Places.{place_if, some-place, none-past}
+use Rattle.copy_jobs.proofs.Places.{some-place, none-past}
 use Rattle.copy_jobs.proofs.records.place_of.Goals as goal
 
 pub unreachable-requires : goal.unreachable-requires

@@ -1,10 +1,10 @@
-use Rattle.std.proofs.Common.{◌≡◌, ℕ, ◌+◌, List, length, ap, sym, ◌∙◌, arith, true, false}
+use Rattle.std.proofs.Common.{◌≡◌, ◌+◌, List, ap, ◌∙◌, arith, true, false}
 use Rattle.copy_jobs.specs.declared.job.Job.{Job}
-use Rattle.copy_jobs.specs.Jobs.{is_busy, is_crowded, is_running, reserved_for}
+use Rattle.copy_jobs.specs.Jobs.{is_busy, is_crowded, is_running, reserved, reserved_for}
 use Rattle.copy_jobs.specs.Keeping.{keep}
 use Rattle.copy_jobs.specs.Tables.{IsTable}
 use Rattle.copy_jobs.proofs.Counts.{one_if, byte-one, reserved-few}
-use Rattle.copy_jobs.proofs.Keeps.{kept-table}
+use Rattle.copy_jobs.proofs.Keeps.{kept-reserved, kept-table}
 use Rattle.copy_jobs.proofs.table.JobTable.add.Goals as goal
 
 pub overflow_add-self-2 : goal.overflow_add-self-2
@@ -22,3 +22,7 @@ invariant_of-self-2 c =
     kept-table jobs job c.self.inside.running c.self.inside.reserved c.self.invariant c.requires.job idle room in
     let runs : c.from-runs.result ≡ one_if (is_running job) = c.from-runs.ensures ∙ byte-one c.is_running.result ∙ ap one_if c.is_running.ensures in
     rw (c.in_ok-keep.ensures.kept, runs, c.reserved-reserved.ensures.reserved) kept
+
+pub returns-clause-reserves : goal.returns-clause-reserves
+returns-clause-reserves c =
+    ap reserved c.in_ok-keep.ensures.kept ∙ kept-reserved c.self.inside.jobs.items c.args.job ∙ ap (λ (l : List Job). reserved l + reserved_for c.args.job.work) c.self.view_is

@@ -1,11 +1,11 @@
-use Rattle.std.proofs.Common.{◌≡◌, ℕ, ◌+◌, ◌-◌, ◌≤◌, List, length, get_or, set, refl, ap, sym, ◌∙◌, arith, Bool, true, false}
+use Rattle.std.proofs.Common.{◌≡◌, ℕ, ◌+◌, ◌≤◌, List, length, get_or, set, refl, ap, sym, ◌∙◌, arith, Bool, true, false}
 use Rattle.std.specs.Prelude.{not}
 use Rattle.std.specs.List.{position_or_len}
 use Rattle.copy_jobs.specs.declared.key.Key.{Key}
 use Rattle.copy_jobs.specs.declared.job.Job.{Job}
 use Rattle.copy_jobs.specs.declared.job.Work.{Work}
 use Rattle.copy_jobs.specs.declared.step.Step.{Step}
-use Rattle.copy_jobs.specs.Jobs.{runs_as, is_busy, is_running_work, running, reserved, reserved_for}
+use Rattle.copy_jobs.specs.Jobs.{runs_as, is_busy, is_running_work, running, reserved_for}
 use Rattle.copy_jobs.specs.Changes.{change, with_work}
 use Rattle.copy_jobs.specs.Steps.{stepped, MayStep}
 use Rattle.copy_jobs.specs.Tables.{IsTable}

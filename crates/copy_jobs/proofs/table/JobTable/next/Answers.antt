@@ -1,6 +1,5 @@
-use Rattle.std.proofs.Common.{◌≡◌, List, ap, sym, ◌∙◌, rules, tests, refl}
+use Rattle.std.proofs.Common.{◌≡◌, List, sym, ◌∙◌, rules, tests, refl}
 use Rattle.std.specs.Prelude.{Option, Some, None, Ok, Err, Result, find, IfOk, IfSome}
-use Rattle.std.specs.Option.{option_map}
 use Rattle.cm_base.specs.declared.out_of_memory.OutOfMemory.{OutOfMemory}
 use Rattle.std.proofs.lemmas.Iterator.Search.{find_from_yields_List}
 use Rattle.std.proofs.lemmas.Iterator.{YieldsList-from_slice}
