@@ -3,6 +3,7 @@ use Rattle.std.proofs.Common.{◌≡◌, ℕ, zero, suc, ◌+◌, ◌-◌, ◌*�
 use Rattle.std.specs.Prelude.{Option, Some, None, ◌⊎◌, ◌==◌, ◌&&◌, ◌||◌, not, min, is_some, nat_le, nat_lt, ⊤, if◌then◌else◌}
 use Rattle.std.proofs.lemmas.Bool.Decides.{nat_tests}
 use Rattle.cm_base.specs.Configuration.{Configuration}
+use Rattle.cm_base.specs.Units.{unit_of}
 use Rattle.cm_base.specs.declared.config.UnitConfig.{UnitConfig}
 use Rattle.lba_ranges.specs.declared.ranges.Range.{Range}
 use Rattle.lba_ranges.specs.Denoted.{blocks_of, row, total, is_overlapping}
@@ -36,7 +37,7 @@ length-paired (b ∷ bs) [] e = cc
 length-paired (b ∷ bs) (x ∷ xs) e = ap suc (length-paired bs xs (omega arith))
 
 -- a Start that may be asked has as many blocks as its rod
-start-total : (config : Configuration) (unit id : ℕ) (background : Bool) (ranges : List Range) (rod : HeldBlocks)
+pub start-total : (config : Configuration) (unit id : ℕ) (background : Bool) (ranges : List Range) (rod : HeldBlocks)
     → within_limits config unit (Act.Start id background ranges rod) ≡ true → total ranges ≡ length rod.items
 start-total config unit id background ranges rod e =
     go (not (is_overlapping ranges)) (total ranges == length rod.items) (nat_le (length rod.items) 1_048_576) (fits_unit config unit rod) refl e
@@ -45,6 +46,19 @@ start-total config unit id background ranges rod e =
     go a true c d same e = grind (arith, nat_tests)
     go true false c d same e = cc
     go false false c d same e = cc
+
+-- and the unit's block length
+pub start-alike : (config : Configuration) (unit id : ℕ) (background : Bool) (ranges : List Range) (rod : HeldBlocks)
+    → within_limits config unit (Act.Start id background ranges rod) ≡ true → rod.block_length ≡ (unit_of config unit).block_length
+start-alike config unit id background ranges rod e =
+    go (not (is_overlapping ranges)) (total ranges == length rod.items) (nat_le (length rod.items) 1_048_576) (rod.block_length == (unit_of config unit).block_length) refl e
+  where
+    go : (a b c d : Bool) → (rod.block_length == (unit_of config unit).block_length) ≡ d → (a && b && c && d) ≡ true → rod.block_length ≡ (unit_of config unit).block_length
+    go a b c true same e = grind (arith, nat_tests)
+    go true true true false same e = cc
+    go true true false false same e = cc
+    go true false c false same e = cc
+    go false b c false same e = cc
 
 pub start-length : (config : Configuration) (unit id : ℕ) (background : Bool) (ranges : List Range) (rod : HeldBlocks)
     → within_limits config unit (Act.Start id background ranges rod) ≡ true → length (list_of (Act.Start id background ranges rod)) ≡ length rod.items

@@ -76,7 +76,7 @@ pub deed-served : (config : Configuration) (unit : ℕ) (past : List Deed) (acto
 deed-served config unit past actor at act d is none =
     ap (λ (x : Deed). x.served) is.made ∙ ap (option_map (λ (x : Operation). x.made.place)) (deed-serves config unit past actor at act d is ∙ none)
 
-deed-makes : (config : Configuration) (unit : ℕ) (past : List Deed) (actor : Actor) (at : ℕ) (act : Act) (d : Deed) (answer : Answer) → IsDeed config unit past actor at act d
+pub deed-makes : (config : Configuration) (unit : ℕ) (past : List Deed) (actor : Actor) (at : ℕ) (act : Act) (d : Deed) (answer : Answer) → IsDeed config unit past actor at act d
     → answer ≡ answer_after config unit past actor at act → makes_operation d ≡ (is_making act && not (is_refusal answer))
 deed-makes config unit past actor at act d answer is told =
     ap (λ a. is_making a && is_answered d) is.act

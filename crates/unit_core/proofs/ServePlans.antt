@@ -217,13 +217,14 @@ close-plan config unit past actor at id result o known limits found =
 start-count : (o : Operation) (act : Act) → (is_foreground act || is_background act) ≡ true → count_of (written o) act ≡ length (written o)
 start-count o (Act.Start id background ranges rod) e = refl
 start-count o (Act.Open id) e = cc
+start-count o (Act.Populate id timeout ranges) e = cc
 start-count o _ e = refl
 
 -- the next piece of an operation, as it is planned
 pub record IsPieceOf (config : Configuration) (unit : ℕ) (past : List Deed) (o : Operation) (p : NextPiece) : Type 0 where
   pub key : p.key ≡ own_key o
   pub token : p.key.copy ≡ false
-  pub written : p.written ≡ length (written o)
+  pub before : p.written ≡ length (written o)
   pub writes : paired (blocks_of p.ranges) p.list.items ≡ next_piece o
   pub long : length p.list.items ≡ length (next_piece o)
   pub last : p.is_last ≡ (length (written o) + length p.list.items == length (list_of o.made.entry.act))
@@ -263,7 +264,7 @@ piece-plan config unit past actor at act o p known is of = go (nat_lt u.quota (m
     own = Each-in (IsOwn config unit) (kept past) o (own-of config unit past known) there
 
     count-is : count o ≡ p.written
-    count-is = start-count o o.made.entry.act is.start ∙ sym of.written
+    count-is = start-count o o.made.entry.act is.start ∙ sym of.before
 
     test : nat_lt u.quota (mapped_with u (held past) (paired (blocks_of p.ranges) p.list.items)) ≡ nat_lt u.quota (mapped_with u (held past) (next_piece o))
     test = ap (λ ws. nat_lt u.quota (mapped_with u (held past) ws)) of.writes
@@ -291,10 +292,10 @@ piece-plan config unit past actor at act o p known is of = go (nat_lt u.quota (m
         let told : Answer.Progress (OpState.Failed over_quota) p.written ≡ answer_after config unit past actor at act = ap (Answer.Progress (OpState.Failed over_quota)) (sym count-is) ∙ sym says in
         served-plan config unit past actor at act o (Answer.Progress (OpState.Failed over_quota) p.written) BlockChange.Nothing (JobChange.Stop p.key) (with_work (stopped_by over_quota))
         known is.found told refl tt (of.token, busy) (ap (λ k. change (jobs.runs_as k) (with_work (stopped_by over_quota)) (jobs_of past)) of.key) refl
-        (λ d as. let stops : Stops u past o d.answer d.wrote d.entry.act = record {
+        (λ d deeds. let stops : Stops u past o d.answer d.wrote d.entry.act = record {
           over = over;
-          answer = deed-answer config unit past actor at act d as ∙ says;
-          wrote = deed-wrote config unit past actor at act d as ∙ ap (λ a. wrote_of a (writings past actor act)) says;
+          answer = deed-answer config unit past actor at act d deeds ∙ says;
+          wrote = deed-wrote config unit past actor at act d deeds ∙ ap (λ a. wrote_of a (writings past actor act)) says;
           start = is.start;
         } in
         ap (λ (w : Work). let j : Job = record { key = own_key o; work = w } in j) (stops-work u past d o stops o.made.entry.act refl is.start))
@@ -305,7 +306,7 @@ piece-plan config unit past actor at act o p known is of = go (nat_lt u.quota (m
         let says : answer_after config unit past actor at act ≡ progress_by o (length (next_piece o)) = is.answer ∙ ap (λ t. if t then Answer.Progress (OpState.Failed over_quota) (count o) else progress_by o (length (next_piece o))) within in
         let told : Answer.Progress (if p.is_last then OpState.Done else OpState.Running) (p.written + length p.list.items) ≡ progress_by o (length (next_piece o)) =
         ap (λ t. Answer.Progress (if t then OpState.Done else OpState.Running) (p.written + length p.list.items)) of.last
-        ∙ ap (λ n. Answer.Progress (if n + length p.list.items == length (list_of o.made.entry.act) then OpState.Done else OpState.Running) (p.written + length p.list.items)) (sym of.written ∙ sym count-is)
+        ∙ ap (λ n. Answer.Progress (if n + length p.list.items == length (list_of o.made.entry.act) then OpState.Done else OpState.Running) (p.written + length p.list.items)) (sym of.before ∙ sym count-is)
         ∙ ap (λ n. Answer.Progress (if count o + length p.list.items == length (list_of o.made.entry.act) then OpState.Done else OpState.Running) (n + length p.list.items)) (sym count-is)
         ∙ ap (λ n. Answer.Progress (if count o + n == length (list_of o.made.entry.act) then OpState.Done else OpState.Running) (count o + n)) of.long in
         let wrote : wrote_of (progress_by o (length (next_piece o))) (writings past actor act) ≡ next_piece o = goes (count o + length (next_piece o) == length (list_of o.made.entry.act)) (count o + length (next_piece o)) (writings past actor act) ∙ is.writes in
@@ -313,11 +314,11 @@ piece-plan config unit past actor at act o p known is of = go (nat_lt u.quota (m
         (JobChange.Move p.key (length p.list.items)) (with_work (moved_by (length p.list.items)))
         known is.found (told ∙ sym says) (of.writes ∙ sym wrote ∙ ap (λ a. wrote_of a (writings past actor act)) (sym told)) of.put (of.token, of.counted)
         (ap (λ k. change (jobs.runs_as k) (with_work (moved_by (length p.list.items))) (jobs_of past)) of.key) refl
-        (λ d as. let moves : Moves u past o d.answer d.wrote d.entry.act = record {
+        (λ d deeds. let moves : Moves u past o d.answer d.wrote d.entry.act = record {
           within = within;
-          answer = deed-answer config unit past actor at act d as ∙ says;
-          wrote = deed-wrote config unit past actor at act d as ∙ ap (λ a. wrote_of a (writings past actor act)) says ∙ wrote;
-          on = ap is_ending as.act ∙ is.on;
+          answer = deed-answer config unit past actor at act d deeds ∙ says;
+          wrote = deed-wrote config unit past actor at act d deeds ∙ ap (λ a. wrote_of a (writings past actor act)) says ∙ wrote;
+          on = ap is_ending deeds.act ∙ is.on;
           start = is.start;
         } in
         ap (λ (w : Work). let j : Job = record { key = own_key o; work = w } in j)

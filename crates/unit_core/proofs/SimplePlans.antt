@@ -1,11 +1,13 @@
 -- Plans of acts on blocks alone
 use Rattle.std.proofs.Common.{◌≡◌, ℕ, ◌+◌, ◌<◌, ◌≤◌, List, [], ◌∷◌, length, refl, ap, sym, ◌∙◌, subst, arith, true, false, Bool, inl, inr}
 use Rattle.std.specs.Prelude.{◌⊎◌, ◌&&◌, map, not, if◌then◌else◌}
+use Rattle.std.specs.List.{AllByRecursion}
 use Rattle.cm_base.specs.Configuration.{Configuration}
 use Rattle.cm_base.specs.declared.config.UnitConfig.{UnitConfig}
 use Rattle.cm_base.specs.Units.{unit_of}
 use Rattle.lba_ranges.specs.declared.ranges.Range.{Range}
 use Rattle.lba_ranges.specs.Denoted.{blocks_of, is_within}
+use Rattle.lba_ranges.proofs.Rows.{blocks_of-below}
 use Rattle.lba_ranges.specs.HeldBlocks.{HeldBlocks}
 use Rattle.lba_ranges.specs.Writings.{Held, Writing, unmapped}
 use Rattle.cm_history.specs.declared.act.Act.{Act}
@@ -44,10 +46,8 @@ read-plan config unit past actor at act lba count p reads told none = go reads
     may = subst (MayChange (unit_of config unit).blocks (unit_of config unit).block_length) (sym none) tt
 
     go : Reads lba count act → IsPlan config unit past actor at act (of_blocks p)
-    go (inl e) = rw e (plain-plan config unit past actor at (Act.Read lba count) p.answer p.change told (nothing ∙ sym (wrote_none p.answer)) may
-    (record { making = refl; deletes = λ s. refl; redeems = λ s. refl }) (find-none (running past)))
-    go (inr e) = rw e (plain-plan config unit past actor at (Act.Capture lba count) p.answer p.change told (nothing ∙ sym (wrote_none p.answer)) may
-    (record { making = refl; deletes = λ s. refl; redeems = λ s. refl }) (find-none (running past)))
+    go (inl e) = rw e (plain-plan config unit past actor at (Act.Read lba count) p.answer p.change told (nothing ∙ sym (wrote_none p.answer)) may (record { making = refl; deletes = λ s. refl; redeems = λ s. refl }) (find-none (running past)))
+    go (inr e) = rw e (plain-plan config unit past actor at (Act.Capture lba count) p.answer p.change told (nothing ∙ sym (wrote_none p.answer)) may (record { making = refl; deletes = λ s. refl; redeems = λ s. refl }) (find-none (running past)))
 
 pub write-plan : (config : Configuration) (unit : ℕ) (past : List Deed) (actor : Actor) (at : ℕ) (act : Act) (lba : ℕ) (list : HeldBlocks) (p : BlockPlan) → Writes lba list act
     → p.answer ≡ answer_write (unit_of config unit) (held past) lba list.items → writings_of p.change ≡ wrote_of p.answer (put_at lba list.items)
@@ -71,6 +71,10 @@ status-plan config unit past actor at lba p told none =
     (subst (MayChange (unit_of config unit).blocks (unit_of config unit).block_length) (sym none) tt)
     (record { making = refl; deletes = λ s. refl; redeems = λ s. refl }) (find-none (running past))
 
+map-below : (n : ℕ) (bs : List ℕ) (f g : ℕ → Held) → ((b : ℕ) → b < n → f b ≡ g b) → AllByRecursion (λ b. b < n) bs → map f bs ≡ map g bs
+map-below n [] f g same below = refl
+map-below n (b ∷ bs) f g same below = ap (λ h. h ∷ map f bs) (same b below.0) ∙ ap (λ l. g b ∷ l) (map-below n bs f g same below.1)
+
 -- blocks within the unit that agree are listed alike
 pub map-within : (n : ℕ) (ranges : List Range) (f g : ℕ → Held) → ((b : ℕ) → b < n → f b ≡ g b) → is_within n ranges ≡ true → map f (blocks_of ranges) ≡ map g (blocks_of ranges)
-map-within n ranges f g same within = ?
+map-within n ranges f g same within = map-below n (blocks_of ranges) f g same (blocks_of-below n ranges within)

@@ -27,5 +27,5 @@ returns g c =
     let known = known-of u.config u.unit u.history.entries c.self.invariant.record_is in
     let mine = asker c.args.self.now.unit c.args.actor (Act.Report c.args.id) c.requires refl in
     rw (← c.self.view_is)
-    (c.runs.ensures.busy ∙ ap (λ (k : Key). is_busy (record k { copy = c.args.copy }) u.tables.jobs) c.token_key.ensures
+    (c.runs.ensures.busy ∙ ap (λ (k : Key). is_busy (record k { copy = c.args.copy }) u.tables.jobs) c.token_key-key.ensures
     ∙ ap (is_busy (record (key_of c.args.actor OfToken c.args.id) { copy = c.args.copy })) c.self.invariant.jobs.jobs ∙ busy s c.args.actor c.args.id known mine c.args.copy)

@@ -1,0 +1,103 @@
+-- Plans of acts that make an operation, by what is judged in turn
+use Rattle.std.proofs.Common.{◌≡◌, ℕ, ◌+◌, ◌<◌, ◌≤◌, ◌^◌, List, [], ◌∷◌, length, refl, ap, sym, ◌∙◌, subst, arith, true, false, Bool}
+use Rattle.std.specs.Prelude.{◌==◌, ◌&&◌, not, nat_le, if◌then◌else◌}
+use Rattle.std.proofs.lemmas.Bool.Decides.{nat_tests}
+use Rattle.cm_base.specs.Configuration.{Configuration}
+use Rattle.cm_base.specs.Units.{unit_of}
+use Rattle.lba_ranges.specs.declared.ranges.Range.{Range}
+use Rattle.lba_ranges.specs.Denoted.{blocks_of, total, is_within, is_overlapping}
+use Rattle.lba_ranges.specs.HeldBlocks.{HeldBlocks}
+use Rattle.cm_history.specs.declared.act.Act.{Act}
+use Rattle.cm_history.specs.declared.act.Actor.{Actor}
+use Rattle.cm_history.specs.declared.answer.Answer.{Answer}
+use Rattle.cm_history.specs.declared.answer.OpState.{OpState}
+use Rattle.cm_history.specs.Bounds.{running_operations}
+use Rattle.cm_history.specs.Senses.{in_use, out_of_range, too_many}
+use Rattle.cm_history.specs.Deeds.{Deed}
+use Rattle.cm_history.specs.Blocks.{held, cut}
+use Rattle.cm_history.specs.Limits.{within_limits}
+use Rattle.cm_history.specs.Tokens.{tokens}
+use Rattle.cm_history.specs.Operations.{OfToken, OfCopy, running}
+use Rattle.cm_history.specs.Answers.{answer_after, is_busy, is_crowded, wrote_of}
+use Rattle.cm_history.proofs.Lists.{find-none}
+use Rattle.unit_core.specs.declared.block_change.BlockChange.{BlockChange}
+use Rattle.unit_core.specs.declared.job_change.JobChange.{JobChange}
+use Rattle.unit_core.specs.declared.token_change.TokenChange.{TokenChange}
+use Rattle.unit_core.specs.JobChanges.{MayJob}
+use Rattle.unit_core.specs.Tables.{key_of, jobs_of}
+use Rattle.unit_core.specs.Planning.{quiet, IsPlan}
+use Rattle.unit_core.proofs.Jobs.{IsNexus}
+use Rattle.unit_core.proofs.Planned.{IsKnown, refused-plan, populate-plan, start-plan, open-plan}
+
+-- ---- Populate
+
+pub populate-busy : (config : Configuration) (unit : ℕ) (past : List Deed) (actor : Actor) (at id timeout : ℕ) (ranges : List Range) → is_busy past actor OfToken id ≡ true
+    → IsPlan config unit past actor at (Act.Populate id timeout ranges) (quiet (Answer.Refused in_use))
+populate-busy config unit past actor at id timeout ranges busy =
+    refused-plan config unit past actor at (Act.Populate id timeout ranges) in_use (rw busy refl) (λ s. refl) (find-none (running past))
+
+pub populate-out : (config : Configuration) (unit : ℕ) (past : List Deed) (actor : Actor) (at id timeout : ℕ) (ranges : List Range) → is_busy past actor OfToken id ≡ false
+    → is_within (unit_of config unit).blocks ranges ≡ false → IsPlan config unit past actor at (Act.Populate id timeout ranges) (quiet (Answer.Refused out_of_range))
+populate-out config unit past actor at id timeout ranges idle out =
+    refused-plan config unit past actor at (Act.Populate id timeout ranges) out_of_range (rw (idle, out) refl) (λ s. refl) (find-none (running past))
+
+pub populate-many : (config : Configuration) (unit : ℕ) (past : List Deed) (actor : Actor) (at id timeout : ℕ) (ranges : List Range) → is_busy past actor OfToken id ≡ false
+    → is_within (unit_of config unit).blocks ranges ≡ true → 2 ^ 48 ≤ length (tokens past) → IsPlan config unit past actor at (Act.Populate id timeout ranges) (quiet (Answer.Refused too_many))
+populate-many config unit past actor at id timeout ranges idle inside many =
+    let test : nat_le (2 ^ 48) (length (tokens past)) ≡ true = grind (arith, nat_tests) in
+    refused-plan config unit past actor at (Act.Populate id timeout ranges) too_many (rw (idle, inside, test) refl) (λ s. refl) (find-none (running past))
+
+pub populate-made : (config : Configuration) (unit : ℕ) (past : List Deed) (actor : Actor) (at id timeout : ℕ) (ranges : List Range) → IsKnown config unit past → IsNexus actor
+    → is_busy past actor OfToken id ≡ false → is_within (unit_of config unit).blocks ranges ≡ true → length (tokens past) < 2 ^ 48
+    → IsPlan config unit past actor at (Act.Populate id timeout ranges) (record {
+      answer = Answer.Made (length (tokens past));
+      blocks = BlockChange.Nothing;
+      jobs = JobChange.Make (key_of actor OfToken id) (length (tokens past)) (total ranges);
+      tokens = TokenChange.Make timeout (total ranges) (cut (unit_of config unit) (held past) (blocks_of ranges));
+    })
+populate-made config unit past actor at id timeout ranges known nexus idle inside few =
+    let test : nat_le (2 ^ 48) (length (tokens past)) ≡ false = grind (arith, nat_tests) in
+    populate-plan config unit past actor at id timeout ranges known nexus (rw (idle, inside, test) refl) few
+
+-- ---- Start
+
+pub start-busy : (config : Configuration) (unit : ℕ) (past : List Deed) (actor : Actor) (at id : ℕ) (background : Bool) (ranges : List Range) (rod : HeldBlocks) → is_busy past actor OfToken id ≡ true
+    → IsPlan config unit past actor at (Act.Start id background ranges rod) (quiet (Answer.Refused in_use))
+start-busy config unit past actor at id background ranges rod busy =
+    refused-plan config unit past actor at (Act.Start id background ranges rod) in_use (rw busy refl) (λ s. refl) (find-none (running past))
+
+pub start-out : (config : Configuration) (unit : ℕ) (past : List Deed) (actor : Actor) (at id : ℕ) (background : Bool) (ranges : List Range) (rod : HeldBlocks) → is_busy past actor OfToken id ≡ false
+    → is_within (unit_of config unit).blocks ranges ≡ false → IsPlan config unit past actor at (Act.Start id background ranges rod) (quiet (Answer.Refused out_of_range))
+start-out config unit past actor at id background ranges rod idle out =
+    refused-plan config unit past actor at (Act.Start id background ranges rod) out_of_range (rw (idle, out) refl) (λ s. refl) (find-none (running past))
+
+pub start-many : (config : Configuration) (unit : ℕ) (past : List Deed) (actor : Actor) (at id : ℕ) (background : Bool) (ranges : List Range) (rod : HeldBlocks) → is_busy past actor OfToken id ≡ false
+    → is_within (unit_of config unit).blocks ranges ≡ true → is_crowded past ≡ true → IsPlan config unit past actor at (Act.Start id background ranges rod) (quiet (Answer.Refused too_many))
+start-many config unit past actor at id background ranges rod idle inside many =
+    refused-plan config unit past actor at (Act.Start id background ranges rod) too_many (rw (idle, inside, many) refl) (λ s. refl) (find-none (running past))
+
+pub start-made : (config : Configuration) (unit : ℕ) (past : List Deed) (actor : Actor) (at id : ℕ) (background : Bool) (ranges : List Range) (rod : HeldBlocks) (empty : Bool) → IsKnown config unit past → IsNexus actor
+    → within_limits config unit (Act.Start id background ranges rod) ≡ true → is_busy past actor OfToken id ≡ false → is_within (unit_of config unit).blocks ranges ≡ true → is_crowded past ≡ false
+    → (length rod.items == 0) ≡ empty → MayJob (JobChange.Start (key_of actor OfToken id) background ranges rod) (jobs_of past)
+    → IsPlan config unit past actor at (Act.Start id background ranges rod)
+    (record (quiet (Answer.Progress (if empty then OpState.Done else OpState.Running) 0)) { jobs = JobChange.Start (key_of actor OfToken id) background ranges rod })
+start-made config unit past actor at id background ranges rod empty known nexus limits idle inside few none may =
+    start-plan config unit past actor at id background ranges rod (if empty then OpState.Done else OpState.Running) known nexus limits (rw (idle, inside, few, none) refl) may (writes empty)
+  where
+    writes : (t : Bool) → wrote_of (Answer.Progress (if t then OpState.Done else OpState.Running) 0) [] ≡ []
+    writes true = refl
+    writes false = refl
+
+-- ---- Open
+
+pub open-busy : (config : Configuration) (unit : ℕ) (past : List Deed) (actor : Actor) (at id : ℕ) → is_busy past actor OfCopy id ≡ true
+    → IsPlan config unit past actor at (Act.Open id) (quiet (Answer.Refused in_use))
+open-busy config unit past actor at id busy = refused-plan config unit past actor at (Act.Open id) in_use (rw busy refl) (λ s. refl) (find-none (running past))
+
+pub open-many : (config : Configuration) (unit : ℕ) (past : List Deed) (actor : Actor) (at id : ℕ) → is_busy past actor OfCopy id ≡ false → is_crowded past ≡ true
+    → IsPlan config unit past actor at (Act.Open id) (quiet (Answer.Refused too_many))
+open-many config unit past actor at id idle many = refused-plan config unit past actor at (Act.Open id) too_many (rw (idle, many) refl) (λ s. refl) (find-none (running past))
+
+pub open-made : (config : Configuration) (unit : ℕ) (past : List Deed) (actor : Actor) (at id : ℕ) → IsKnown config unit past → IsNexus actor → is_busy past actor OfCopy id ≡ false → is_crowded past ≡ false
+    → IsPlan config unit past actor at (Act.Open id) (record (quiet Answer.Done) { jobs = JobChange.Open (key_of actor OfCopy id) })
+open-made config unit past actor at id known nexus idle few = open-plan config unit past actor at id known nexus (rw (idle, few) refl)
