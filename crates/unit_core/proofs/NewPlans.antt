@@ -7,6 +7,7 @@ use Rattle.cm_base.specs.Units.{unit_of}
 use Rattle.lba_ranges.specs.declared.ranges.Range.{Range}
 use Rattle.lba_ranges.specs.Denoted.{blocks_of, total, is_within, is_overlapping}
 use Rattle.lba_ranges.specs.HeldBlocks.{HeldBlocks}
+use Rattle.lba_ranges.proofs.Rows.{within-more}
 use Rattle.cm_history.specs.declared.act.Act.{Act}
 use Rattle.cm_history.specs.declared.act.Actor.{Actor}
 use Rattle.cm_history.specs.declared.answer.Answer.{Answer}
@@ -15,7 +16,7 @@ use Rattle.cm_history.specs.Bounds.{running_operations}
 use Rattle.cm_history.specs.Senses.{in_use, out_of_range, too_many}
 use Rattle.cm_history.specs.Deeds.{Deed}
 use Rattle.cm_history.specs.Blocks.{held, cut}
-use Rattle.cm_history.specs.Limits.{within_limits}
+use Rattle.cm_history.specs.Limits.{within_limits, fits_unit}
 use Rattle.cm_history.specs.Tokens.{tokens}
 use Rattle.cm_history.specs.Operations.{OfToken, OfCopy, running}
 use Rattle.cm_history.specs.Answers.{answer_after, is_busy, is_crowded, wrote_of}
@@ -101,3 +102,17 @@ open-many config unit past actor at id idle many = refused-plan config unit past
 pub open-made : (config : Configuration) (unit : ℕ) (past : List Deed) (actor : Actor) (at id : ℕ) → IsKnown config unit past → IsNexus actor → is_busy past actor OfCopy id ≡ false → is_crowded past ≡ false
     → IsPlan config unit past actor at (Act.Open id) (record (quiet Answer.Done) { jobs = JobChange.Open (key_of actor OfCopy id) })
 open-made config unit past actor at id known nexus idle few = open-plan config unit past actor at id known nexus (rw (idle, few) refl)
+
+-- a Start that may be asked, and lies in the unit, may be kept
+pub start-may : (config : Configuration) (unit : ℕ) (past : List Deed) (actor : Actor) (id : ℕ) (background : Bool) (ranges : List Range) (rod : HeldBlocks) → within_limits config unit (Act.Start id background ranges rod) ≡ true
+    → (unit_of config unit).blocks ≤ 2 ^ 64 → is_within (unit_of config unit).blocks ranges ≡ true → MayJob (JobChange.Start (key_of actor OfToken id) background ranges rod) (jobs_of past)
+start-may config unit past actor id background ranges rod limits few inside =
+    go (is_overlapping ranges) (total ranges == length rod.items) (nat_le (length rod.items) 1_048_576) (fits_unit config unit rod) refl refl refl limits
+  where
+    go : (a b c d : Bool) → is_overlapping ranges ≡ a → (total ranges == length rod.items) ≡ b → nat_le (length rod.items) 1_048_576 ≡ c → (not a && b && c && d) ≡ true
+        → MayJob (JobChange.Start (key_of actor OfToken id) background ranges rod) (jobs_of past)
+    go false true true d apart same short e =
+        (refl, apart, within-more (unit_of config unit).blocks (2 ^ 64) ranges few inside, (let t : total ranges ≡ length rod.items = grind (arith, nat_tests) in t), (let t : length rod.items ≤ 1_048_576 = grind (arith, nat_tests) in t))
+    go false true false d apart same short e = cc
+    go false false c d apart same short e = cc
+    go true b c d apart same short e = cc

@@ -1,12 +1,13 @@
 use Rattle.std.proofs.Common.{◌≡◌, ◌≤◌, ◌<◌, ◌+◌, ℕ, List, length, true, false, Bool, ◌∙◌, ap, refl, sym, subst, arith, inl, inr}
 use Rattle.std.specs.List.{list_any}
 use Rattle.std.specs.Option.{option_map}
-use Rattle.std.specs.Prelude.{Option, Some, None, is_some, find, nat_le, max, if◌then◌else◌}
+use Rattle.std.specs.Prelude.{map, Option, Some, None, is_some, find, nat_le, max, if◌then◌else◌}
 use Rattle.std.proofs.lemmas.Bool.Decides.{nat_tests}
 use Rattle.cm_base.specs.declared.config.UnitConfig.{UnitConfig}
 use Rattle.cm_base.specs.Units.{unit_of}
 use Rattle.lba_ranges.specs.Denoted.{blocks_of, total, is_within}
 use Rattle.lba_ranges.specs.HeldBlocks.{HeldBlocks}
+use Rattle.lba_ranges.specs.Writings.{Held}
 use Rattle.cm_history.specs.declared.act.Act.{Act}
 use Rattle.cm_history.specs.declared.answer.Answer.{Answer}
 use Rattle.cm_history.specs.declared.answer.OpState.{OpState}
@@ -73,4 +74,20 @@ returns-then-serial-ge-SERIALS g c =
     (λ at. populate-many u.config u.unit past c.args.actor at c.args.id c.args.timeout c.args.ranges.now (sym told ∙ c.if-runs.false) (sym inside ∙ c.if-not-within.false) (omega (arith, made)))
 
 pub returns : goal.returns
-returns g c = ?
+returns g c =
+    let u = c.self.inside in
+    let past = past_of u.config u.unit u.history.entries in
+    let known = known-of u.config u.unit u.history.entries c.self.invariant.record_is in
+    let mine = asker c.args.self.now.unit c.args.actor (Act.Populate c.args.id c.args.timeout c.args.ranges.now) c.requires.asked refl in
+    let told = c.runs.ensures.busy ∙ ap (λ k. jobs.is_busy k u.tables.jobs) c.token_key-key.ensures ∙ ap (jobs.is_busy (key_of c.args.actor OfToken c.args.id)) c.self.invariant.jobs.jobs
+    ∙ busy-is u.config u.unit past c.args.actor OfToken c.args.id known.is (own-of u.config u.unit past known) mine in
+    let inside : c.within.result ≡ is_within (unit_of u.config u.unit).blocks c.args.ranges.now = c.within.ensures ∙ ap (λ (t : UnitConfig). is_within t.blocks c.args.ranges.now) c.unit.ensures.told in
+    let within : is_within (unit_of u.config u.unit).blocks c.args.ranges.now ≡ true = sym inside ∙ c.if-not-within.false in
+    let made : c.next_serial-serial.result ≡ length (tokens past) = c.next_serial-serial.ensures.count ∙ ap length c.self.invariant.tokens.tokens ∙ length-map (tokens past) (kept_of (unit_of u.config u.unit)) in
+    let holds = g.B.Blocks.holds u.tables.blocks in
+    let items = map-within (unit_of u.config u.unit).blocks c.args.ranges.now holds (held past) c.self.invariant.blocks.same within in
+    let list : c.in_ok-list.list ≡ cut (unit_of u.config u.unit) (held past) (blocks_of c.args.ranges.now) = c.in_ok-list.ensures
+    ∙ ap (λ (n : ℕ). let h : HeldBlocks = record { block_length = n; items = map holds (blocks_of c.args.ranges.now) } in h) c.self.invariant.blocks.size
+    ∙ ap (λ (xs : List Held). let h : HeldBlocks = record { block_length = (unit_of u.config u.unit).block_length; items = xs } in h) items in
+    rw (made, c.total-blocks.ensures.total, list, c.token_key-key.ensures, ← c.self.view_is)
+    (λ at. populate-made u.config u.unit past c.args.actor at c.args.id c.args.timeout c.args.ranges.now known mine (sym told ∙ c.if-runs.false) within (omega (arith, made)))

@@ -1,7 +1,7 @@
 use Rattle.std.proofs.Common.{◌≡◌, ◌≤◌, ◌<◌, ◌+◌, ℕ, List, length, true, false, Bool, ◌∙◌, ap, refl, sym, subst, arith, inl, inr}
 use Rattle.std.specs.List.{list_any}
 use Rattle.std.specs.Option.{option_map}
-use Rattle.std.specs.Prelude.{Option, Some, None, is_some, find, nat_le, max, if◌then◌else◌}
+use Rattle.std.specs.Prelude.{nat_lt, Ok, Err, Option, Some, None, is_some, find, nat_le, max, if◌then◌else◌}
 use Rattle.std.proofs.lemmas.Bool.Decides.{nat_tests}
 use Rattle.cm_base.specs.declared.config.UnitConfig.{UnitConfig}
 use Rattle.cm_base.specs.Units.{unit_of}
@@ -32,11 +32,46 @@ use Rattle.unit_core.proofs.Jobs.{busy-is, crowded-is, running-is}
 use Rattle.unit_core.proofs.Asking.{asker, serves-advance, serves-abort, serves-close}
 use Rattle.unit_core.proofs.Planned.{IsKnown, own-of}
 use Rattle.unit_core.proofs.Steps.{known-of}
-use Rattle.unit_core.proofs.Wording.{redeem-is}
+use Rattle.unit_core.proofs.Wording.{redeem-is, answer_of}
+use Rattle.unit_core.proofs.Planned.{redeem-plan, refused-plan}
+use Rattle.rod_token.specs.TokenText.{is_named}
+use Rattle.rod_store.specs.Judging.{judged}
+use Rattle.cm_history.specs.Deeds.{moment}
+use Rattle.cm_history.specs.Operations.{running}
+use Rattle.cm_history.proofs.Lists.{find-none}
+use Rattle.std.proofs.lemmas.Bool.{and_parts}
 use Rattle.unit_core.proofs.unit.UnitOver.plan_redeem.Goals as goal
 
 pub returns-in_ok-list-in-Ok : goal.returns-in_ok-list-in-Ok
-returns-in_ok-list-in-Ok g c = ?
+returns-in_ok-list-in-Ok g c =
+    let u = c.self.inside in
+    let past = past_of u.config u.unit u.history.entries in
+    let text = c.args.text.now in
+    let now : c.max-now.result ≡ max c.args.moment (moment past) = c.max-now.ensures ∙ ap (max c.args.moment) c.self.invariant.counters.moment in
+    let same : judged u.config u.tables.tokens.unit c.max-now.result text c.args.target u.tables.tokens.tokens
+    ≡ judged u.config u.unit (max c.args.moment (moment past)) text c.args.target (tokens_of (unit_of u.config u.unit) past) =
+    ap (λ n. judged u.config n c.max-now.result text c.args.target u.tables.tokens.tokens) c.self.invariant.tokens.unit
+    ∙ ap (λ n. judged u.config u.unit n text c.args.target u.tables.tokens.tokens) now
+    ∙ ap (judged u.config u.unit (max c.args.moment (moment past)) text c.args.target) c.self.invariant.tokens.tokens in
+    let told : judged u.config u.unit (max c.args.moment (moment past)) text c.args.target (tokens_of (unit_of u.config u.unit) past) ≡ Ok c.in-Ok.list.now = sym same ∙ c.in-Ok.ensures.ok in
+    let limits = and_parts (is_named u.unit text) (nat_lt c.args.target (length u.config.units)) (rw (← c.self.view_is) at c.requires) in
+    let few : c.args.target < length u.config.units = (let e = limits.1 in grind (arith, nat_tests)) in
+    rw (c.of_tokens.ensures, c.in_ok-list-in-Ok.ensures, ← c.self.view_is)
+    (λ actor. redeem-plan u.config u.unit past actor c.args.moment text c.args.target c.in-Ok.list.now (sym (redeem-is u.config u.unit past actor c.args.moment text c.args.target ∙ ap answer_of told))
+    (λ spare. record { configured = c.self.invariant.record_is.configured; named = limits.0; known = few; list = c.in-Ok.list.now; answer = told }))
 
 pub returns-in-Err : goal.returns-in-Err
-returns-in-Err g c = ?
+returns-in-Err g c =
+    let u = c.self.inside in
+    let past = past_of u.config u.unit u.history.entries in
+    let text = c.args.text.now in
+    let now : c.max-now.result ≡ max c.args.moment (moment past) = c.max-now.ensures ∙ ap (max c.args.moment) c.self.invariant.counters.moment in
+    let same : judged u.config u.tables.tokens.unit c.max-now.result text c.args.target u.tables.tokens.tokens
+    ≡ judged u.config u.unit (max c.args.moment (moment past)) text c.args.target (tokens_of (unit_of u.config u.unit) past) =
+    ap (λ n. judged u.config n c.max-now.result text c.args.target u.tables.tokens.tokens) c.self.invariant.tokens.unit
+    ∙ ap (λ n. judged u.config u.unit n text c.args.target u.tables.tokens.tokens) now
+    ∙ ap (judged u.config u.unit (max c.args.moment (moment past)) text c.args.target) c.self.invariant.tokens.tokens in
+    let told : judged u.config u.unit (max c.args.moment (moment past)) text c.args.target (tokens_of (unit_of u.config u.unit) past) ≡ Err c.in-Err.sense = sym same ∙ c.in-Err.ensures.err in
+    rw (c.answered.ensures, ← c.self.view_is)
+    (λ actor. refused-plan u.config u.unit past actor c.args.moment (Act.Redeem text c.args.target) c.in-Err.sense (sym (redeem-is u.config u.unit past actor c.args.moment text c.args.target ∙ ap answer_of told))
+    (λ s. refl) (find-none (running past)))

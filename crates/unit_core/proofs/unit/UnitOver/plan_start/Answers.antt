@@ -1,7 +1,7 @@
 use Rattle.std.proofs.Common.{◌≡◌, ◌≤◌, ◌<◌, ◌+◌, ℕ, List, length, true, false, Bool, ◌∙◌, ap, refl, sym, subst, arith, inl, inr}
 use Rattle.std.specs.List.{list_any}
 use Rattle.std.specs.Option.{option_map}
-use Rattle.std.specs.Prelude.{Option, Some, None, is_some, find, nat_le, max, if◌then◌else◌}
+use Rattle.std.specs.Prelude.{◌==◌, ◌^◌, Option, Some, None, is_some, find, nat_le, max, if◌then◌else◌}
 use Rattle.std.proofs.lemmas.Bool.Decides.{nat_tests}
 use Rattle.cm_base.specs.declared.config.UnitConfig.{UnitConfig}
 use Rattle.cm_base.specs.Units.{unit_of}
@@ -32,7 +32,7 @@ use Rattle.unit_core.proofs.Jobs.{busy-is, crowded-is, running-is}
 use Rattle.unit_core.proofs.Asking.{asker, serves-advance, serves-abort, serves-close}
 use Rattle.unit_core.proofs.Planned.{IsKnown, own-of}
 use Rattle.unit_core.proofs.Steps.{known-of}
-use Rattle.unit_core.proofs.NewPlans.{start-busy, start-out, start-many, start-made}
+use Rattle.unit_core.proofs.NewPlans.{start-busy, start-out, start-many, start-made, start-may}
 use Rattle.unit_core.proofs.unit.UnitOver.plan_start.Goals as goal
 
 pub returns-then-runs : goal.returns-then-runs
@@ -72,4 +72,20 @@ returns-then-running-ge-RUNNING g c =
     (λ at. start-many u.config u.unit past c.args.actor at c.args.id c.args.background c.args.ranges.now c.args.rod.now (sym told ∙ c.if-runs.false) (sym inside ∙ c.if-not-within.false) (sym (crowded-is u.config u.unit past known.is) ∙ many))
 
 pub returns : goal.returns
-returns g c = ?
+returns g c =
+    let u = c.self.inside in
+    let past = past_of u.config u.unit u.history.entries in
+    let known = known-of u.config u.unit u.history.entries c.self.invariant.record_is in
+    let mine = asker c.args.self.now.unit c.args.actor (Act.Start c.args.id c.args.background c.args.ranges.now c.args.rod.now) c.requires.asked refl in
+    let told = c.runs.ensures.busy ∙ ap (λ k. jobs.is_busy k u.tables.jobs) c.token_key-key.ensures ∙ ap (jobs.is_busy (key_of c.args.actor OfToken c.args.id)) c.self.invariant.jobs.jobs
+    ∙ busy-is u.config u.unit past c.args.actor OfToken c.args.id known.is (own-of u.config u.unit past known) mine in
+    let inside : c.within.result ≡ is_within (unit_of u.config u.unit).blocks c.args.ranges.now = c.within.ensures ∙ ap (λ (t : UnitConfig). is_within t.blocks c.args.ranges.now) c.unit.ensures.told in
+    let within : is_within (unit_of u.config u.unit).blocks c.args.ranges.now ≡ true = sym inside ∙ c.if-not-within.false in
+    let count : c.running.result ≡ length (jobs.running (jobs_of past)) = c.running.ensures.running ∙ ap (λ js. length (jobs.running js)) c.self.invariant.jobs.jobs in
+    let few : jobs.is_crowded (jobs_of past) ≡ false = (let low : length (jobs.running (jobs_of past)) < running_operations = omega (arith, count) in grind (arith, nat_tests)) in
+    let limits = rw (← c.self.view_is) at c.requires.limits in
+    let blocks : (unit_of u.config u.unit).blocks ≤ 2 ^ 64 = omega (arith, c.self.invariant.record_is.limits.blocks.1) in
+    let may = start-may u.config u.unit past c.args.actor c.args.id c.args.background c.args.ranges.now c.args.rod.now limits blocks within in
+    rw (c.of_jobs.ensures, c.state_after.ensures, c.blocks-2.ensures.count, c.in_ok-ranges.ensures, c.in_ok-rod.ensures, c.token_key-key.ensures, ← c.self.view_is)
+    (λ at. start-made u.config u.unit past c.args.actor at c.args.id c.args.background c.args.ranges.now c.args.rod.now (length c.args.rod.now.items == 0) known mine limits
+    (sym told ∙ c.if-runs.false) within (sym (crowded-is u.config u.unit past known.is) ∙ few) refl may)
