@@ -47,6 +47,18 @@ start-total config unit id background ranges rod e =
     go true false c d same e = cc
     go false false c d same e = cc
 
+-- at most 1,048,576 blocks
+pub start-few : (config : Configuration) (unit id : ℕ) (background : Bool) (ranges : List Range) (rod : HeldBlocks)
+    → within_limits config unit (Act.Start id background ranges rod) ≡ true → length rod.items ≤ 1_048_576
+start-few config unit id background ranges rod e =
+    go (not (is_overlapping ranges)) (total ranges == length rod.items) (nat_le (length rod.items) 1_048_576) (fits_unit config unit rod) refl e
+  where
+    go : (a b c d : Bool) → nat_le (length rod.items) 1_048_576 ≡ c → (a && b && c && d) ≡ true → length rod.items ≤ 1_048_576
+    go a b true d same e = grind (arith, nat_tests)
+    go true true false d same e = cc
+    go true false false d same e = cc
+    go false b false d same e = cc
+
 -- and the unit's block length
 pub start-alike : (config : Configuration) (unit id : ℕ) (background : Bool) (ranges : List Range) (rod : HeldBlocks)
     → within_limits config unit (Act.Start id background ranges rod) ≡ true → rod.block_length ≡ (unit_of config unit).block_length

@@ -90,7 +90,7 @@ pub job-runs_as : (actor : Actor) (form : Form) (id : ℕ) (o : Operation) → I
 job-runs_as actor form id o mine its =
     ap (λ t. t && jobs.has_key (key_of actor form id) (job_of o)) (job-runs o) ∙ ap (λ t. is_running o && t) (job-key actor form id o mine its)
 
-work-foreground : (o : Operation) (act : Act) → next.is_foreground (work_of o act) ≡ is_foreground act
+pub work-foreground : (o : Operation) (act : Act) → next.is_foreground (work_of o act) ≡ is_foreground act
 work-foreground o (Act.Start id background ranges rod) = refl
 work-foreground o (Act.Open id) = refl
 work-foreground o (Act.Populate id timeout ranges) = refl

@@ -6,6 +6,8 @@ use Rattle.std.proofs.lemmas.Bool.Decides.{nat_tests}
 use Rattle.cm_base.specs.Configuration.{Configuration}
 use Rattle.cm_base.specs.declared.config.UnitConfig.{UnitConfig}
 use Rattle.cm_base.specs.Units.{unit_of}
+use Rattle.lba_ranges.specs.declared.ranges.Range.{Range}
+use Rattle.lba_ranges.specs.HeldBlocks.{HeldBlocks}
 use Rattle.cm_history.specs.declared.act.Act.{Act}
 use Rattle.cm_history.specs.declared.act.Actor.{Actor}
 use Rattle.cm_history.specs.Deeds.{Deed, last_stamp, is_answered}
@@ -103,6 +105,18 @@ need-unserved past actor (Act.End id) e = let n : need past actor (Act.End id) �
 need-unserved past actor (Act.Abort id) e = let n : need past actor (Act.Abort id) ≡ 1 = ap (λ w. if is_some w then 0 else 1) e in omega (arith, n)
 need-unserved past actor (Act.Close id result) e = let n : need past actor (Act.Close id result) ≡ 1 = ap (λ w. if is_some w then 0 else 1) e in omega (arith, n)
 need-unserved past actor _ e = omega arith
+
+-- of an act that makes no operation
+pub need-by : (past : List Deed) (actor : Actor) (act : Act) → ((id : ℕ) (background : Bool) (ranges : List Range) (rod : HeldBlocks) → act ≡ Act.Start id background ranges rod → ⊥) → ((id : ℕ) → act ≡ Act.Open id → ⊥)
+    → need past actor act ≡ (if is_some (would_serve past actor act) then 0 else 1)
+need-by past actor (Act.Start id background ranges rod) s o = absurd (s id background ranges rod refl)
+need-by past actor (Act.Open id) s o = absurd (o id refl)
+need-by past actor (Act.Advance id) s o = refl
+need-by past actor Act.Pump s o = refl
+need-by past actor (Act.End id) s o = refl
+need-by past actor (Act.Abort id) s o = refl
+need-by past actor (Act.Close id result) s o = refl
+need-by past actor _ s o = sym (ap (λ w. if is_some w then 0 else 1) (find-none (running past)))
 
 -- a new operation needs one entry more than it keeps free
 need-made : (past : List Deed) (actor : Actor) (o : Operation) (act : Act) → is_making act ≡ true → length (written o) ≡ 0

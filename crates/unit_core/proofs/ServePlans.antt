@@ -229,6 +229,7 @@ pub record IsPieceOf (config : Configuration) (unit : ℕ) (past : List Deed) (o
   pub long : length p.list.items ≡ length (next_piece o)
   pub last : p.is_last ≡ (length (written o) + length p.list.items == length (list_of o.made.entry.act))
   pub counted : next_length p.key (jobs_of past) ≡ Some (length p.list.items)
+  pub few : p.written + length p.list.items ≤ 1_048_576
   pub put : MayPut (unit_of config unit).blocks (unit_of config unit).block_length p.ranges p.list
 
 -- an act whose answer is that of the next piece

@@ -26,10 +26,12 @@ use Rattle.cm_history.specs.Limits.{within_limits}
 use Rattle.cm_history.specs.Legal.{may_ask}
 use Rattle.cm_history.specs.Tokens.{Token, Fate, Live, Expired, Evicted, Deleted, tokens, rod, is_live, is_over}
 use Rattle.cm_history.specs.Redeeming.{redeemed, named_token, are_alike, answer_by_fate, fate_at}
-use Rattle.cm_history.specs.Operations.{Operation, Form, OfToken, OfCopy, form_of, same_form, id_of, state, has_key, would_serve, running, is_foreground, is_background, is_ending, fits, kept, written, list_of, next_piece, count, result_of}
+use Rattle.cm_history.specs.Operations.{Operation, Form, OfToken, OfCopy, form_of, same_form, id_of, state, has_key, would_serve, running, is_foreground, is_background, is_ending, fits, kept, operations, written, list_of, next_piece, count, result_of}
 use Rattle.cm_history.specs.Answers.{answer_after, answer_report, answer_recall, answer_end, done_if, report_of, writings, progress, piece_of}
 use Rattle.cm_history.proofs.Lists.{In, Each, Each-in, find-in, find-none}
 use Rattle.cm_history.proofs.Keys.{same_form-is, record-found}
+use Rattle.cm_history.proofs.Counts.{IsBegun, begun}
+use Rattle.cm_history.proofs.Records.{kept_in}
 use Rattle.copy_jobs.specs.declared.key.Key.{Key}
 use Rattle.copy_jobs.specs.declared.job.Job.{Job}
 use Rattle.copy_jobs.specs.declared.job.Work.{Work}
@@ -47,10 +49,11 @@ use Rattle.unit_core.specs.Planning.{quiet, IsPlan, WritesPiece}
 use Rattle.lba_ranges.proofs.Rows.{length-blocks_of}
 use Rattle.unit_core.specs.declared.block_change.BlockChange.{BlockChange}
 use Rattle.unit_core.proofs.Operating.{starts_within}
-use Rattle.unit_core.proofs.Finding.{find-passes}
-use Rattle.unit_core.proofs.Jobs.{IsNexus, IsOwn, own-nexus, found-job, is-next-key, is-next-pump}
+use Rattle.unit_core.proofs.Finding.{find-passes, find-map}
+use Rattle.unit_core.proofs.Serving.{few-written, length-next}
+use Rattle.unit_core.proofs.Jobs.{IsNexus, IsOwn, own-nexus, found-job, is-next-key, is-next-pump, work-foreground, work-background}
 use Rattle.unit_core.proofs.Keeping.{own_key, served-there, found-own}
-use Rattle.unit_core.proofs.Becoming.{start-total, start-length, start-alike, length-paired}
+use Rattle.unit_core.proofs.Becoming.{start-total, start-length, start-alike, start-few, length-paired}
 use Rattle.unit_core.proofs.Asking.{asker, found-key, job-report, job-result}
 use Rattle.unit_core.proofs.Planned.{IsKnown, own-of, plain-plan, refused-plan, LeavesTokens}
 use Rattle.unit_core.proofs.ServePlans.{IsPieceOf, IsForPiece}
@@ -186,8 +189,8 @@ write-is a b e = cc
 piece-of-work : (config : Configuration) (unit : ℕ) (past : List Deed) (o : Operation) (p : NextPiece) (write : WriteJob) (act : Act) → o.made.entry.act ≡ act
     → (is_foreground act || is_background act) ≡ true → within_limits config unit act ≡ true → starts_within (unit_of config unit).blocks act ≡ true
     → work_of o act ≡ Writing write → next.IsPiece write p → p.key ≡ own_key o → p.key.copy ≡ false → next.next_length p.key (jobs_of past) ≡ Some (length p.list.items)
-    → IsPieceOf config unit past o p
-piece-of-work config unit past o p write (Act.Start id background ranges rod) is start limits inside work piece key token counted =
+    → IsBegun o → IsPieceOf config unit past o p
+piece-of-work config unit past o p write (Act.Start id background ranges rod) is start limits inside work piece key token counted begun =
     let mine : WriteJob = record { background = background; ranges = ranges; rod = rod; written = length (written o); state = state o } in
     let same : mine ≡ write = write-is mine write work in
     let of : next.IsPiece mine p = subst (λ (w : WriteJob). next.IsPiece w p) (sym same) piece in
@@ -208,6 +211,12 @@ piece-of-work config unit past o p write (Act.Start id background ranges rod) is
       long = sym (length-paired (blocks_of p.ranges) p.list.items blocks) ∙ ap length writes;
       last = of.last ∙ ap (λ n. W + length p.list.items == n) (sym all);
       counted = counted;
+      few =
+          let done = few-written o begun in
+          let next = length-next o in
+          let same : length p.list.items ≡ length (next_piece o) = sym (length-paired (blocks_of p.ranges) p.list.items blocks) ∙ ap length writes in
+          let most = start-few config unit id background ranges rod limits in
+          omega (arith, of.written, done, next, same, most, all);
       put = record {
         within = of.within (unit_of config unit).blocks inside;
         apart = of.apart;
@@ -215,16 +224,37 @@ piece-of-work config unit past o p write (Act.Start id background ranges rod) is
         alike = ap (λ (l : HeldBlocks). l.block_length) of.list ∙ start-alike config unit id background ranges rod limits;
       };
     }
-piece-of-work config unit past o p write (Act.Open id) is start limits inside work piece key token counted = cc
-piece-of-work config unit past o p write _ is start limits inside work piece key token counted = cc
+piece-of-work config unit past o p write (Act.Open id) is start limits inside work piece key token counted begun = cc
+piece-of-work config unit past o p write _ is start limits inside work piece key token counted begun = cc
 
-pub piece-of : (config : Configuration) (unit : ℕ) (past : List Deed) (actor : Actor) (act : Act) (o : Operation) (k : Option Key) (p : NextPiece) → IsKnown config unit past → would_serve past actor act ≡ Some o
+pub piece-of : (config : Configuration) (unit : ℕ) (past : List Deed) (o : Operation) (k : Option Key) (p : NextPiece) → IsKnown config unit past → In o (kept past)
     → (n : next.IsNextPiece k (jobs_of past) p) → job_of o ≡ n.job → (is_foreground o.made.entry.act || is_background o.made.entry.act) ≡ true → IsPieceOf config unit past o p
-piece-of config unit past actor act o k p known found n same start =
-    let there = served-there config unit past actor act o known.is found in
+piece-of config unit past o k p known there n same start =
     let own = Each-in (IsOwn config unit) (kept past) o (own-of config unit past known) there in
     piece-of-work config unit past o p n.write o.made.entry.act refl start own.asked.limits own.within
     (ap (λ (j : Job). j.work) same ∙ n.work) n.next (n.named ∙ ap (λ (j : Job). j.key) (sym same)) n.token n.counted
+    (Each-in IsBegun (operations past) o (begun config unit past known.is) (kept_in config unit past o known.is there))
+
+-- a job that is next writes blocks
+next-starts : (k : Option Key) (o : Operation) → next.is_next k (job_of o) ≡ true → (is_foreground o.made.entry.act || is_background o.made.entry.act) ≡ true
+next-starts (Some key) o e =
+    or_first (is_foreground o.made.entry.act) (is_background o.made.entry.act)
+    (sym (work-foreground o o.made.entry.act) ∙ and_second (jobs.runs_as key (job_of o)) (next.is_foreground (work_of o o.made.entry.act)) e)
+next-starts None o e =
+    or_second (is_foreground o.made.entry.act) (is_background o.made.entry.act)
+    (sym (work-background o o.made.entry.act) ∙ and_second (jobs.is_running (job_of o)) (next.is_background (work_of o o.made.entry.act)) e)
+
+-- the operation of a piece that is next
+pub record IsPieceFound (config : Configuration) (unit : ℕ) (past : List Deed) (p : NextPiece) : Type 0 where
+  pub operation : Operation
+  pub piece : IsPieceOf config unit past operation p
+
+pub piece-found : (config : Configuration) (unit : ℕ) (past : List Deed) (k : Option Key) (p : NextPiece) → IsKnown config unit past → next.IsNextPiece k (jobs_of past) p → IsPieceFound config unit past p
+piece-found config unit past k p known n =
+    let f = found-of (find (λ o. next.is_next k (job_of o)) (kept past)) n.job (sym (find-map job_of (next.is_next k) (kept past)) ∙ n.found) in
+    let there = find-in (λ o. next.is_next k (job_of o)) (kept past) f.operation f.found in
+    let start = next-starts k f.operation (find-passes (λ o. next.is_next k (job_of o)) (kept past) f.operation f.found) in
+    record { operation = f.operation; piece = piece-of config unit past f.operation k p known there n f.same start }
 
 -- the job that is next is that of the operation that the act would serve
 pub next-is : (config : Configuration) (unit : ℕ) (past : List Deed) (actor : Actor) (act : Act) (key : Option Key) (otherwise : Answer) → IsKnown config unit past → WritesPiece unit actor act key otherwise

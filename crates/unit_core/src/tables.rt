@@ -1,4 +1,5 @@
 ghost use Rattle.std.specs.Prelude.{◌≡◌, ℕ, ◌≤◌, ◌<◌, [], length, None, IfOk, OnOk, OnErr, true, false};
+ghost use Rattle.cm_base.specs.Configuration.{IsUnit};
 ghost use Rattle.cm_base.specs.Units.{unit_of};
 ghost use Rattle.lba_ranges.specs.Writings.{after};
 ghost use Rattle.unit_core.specs.BlockChanges.{writings_of, MayChange, is_nothing};
@@ -26,6 +27,7 @@ impl<B: Blocks + Drop> Tables<B> {
     /// The tables of a unit that nothing was asked of yet.
     pub fn new(alloc: Global, config: &Config, unit: u16) -> Result<Tables<B>, OutOfMemory>
         requires { unit < length config.now.units }
+        ensures limits { OnOk result (IsUnit (unit_of config.now unit)) }
         ensures blocks { IfOk result (λ t. B.blocks t.blocks ≡ (unit_of config.now unit).blocks) }
         ensures length { IfOk result (λ t. B.block_length t.blocks ≡ (unit_of config.now unit).block_length) }
         ensures unmapped { IfOk result (λ t. (block : ℕ) → B.holds t.blocks block ≡ None) }

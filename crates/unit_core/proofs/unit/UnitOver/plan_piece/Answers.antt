@@ -1,0 +1,80 @@
+use Rattle.std.proofs.Common.{◌≡◌, ◌≤◌, ◌<◌, ◌+◌, ℕ, List, length, true, false, Bool, ◌∙◌, ap, refl, sym, subst, arith, inl, inr}
+use Rattle.std.specs.List.{list_any}
+use Rattle.std.specs.Option.{option_map}
+use Rattle.std.specs.Prelude.{Option, Some, None, is_some, find, nat_le, max, if◌then◌else◌}
+use Rattle.std.proofs.lemmas.Bool.Decides.{nat_tests}
+use Rattle.cm_base.specs.declared.config.UnitConfig.{UnitConfig}
+use Rattle.cm_base.specs.Units.{unit_of}
+use Rattle.lba_ranges.specs.Denoted.{blocks_of, total, is_within}
+use Rattle.lba_ranges.specs.HeldBlocks.{HeldBlocks}
+use Rattle.cm_history.specs.declared.act.Act.{Act}
+use Rattle.cm_history.specs.declared.answer.Answer.{Answer}
+use Rattle.cm_history.specs.declared.answer.OpState.{OpState}
+use Rattle.cm_history.specs.Legal.{may_ask}
+use Rattle.cm_history.specs.Blocks.{held, cut}
+use Rattle.cm_history.specs.Tokens.{tokens}
+use Rattle.cm_history.specs.Operations.{OfToken, OfCopy, would_serve, count}
+use Rattle.cm_history.specs.Answers.{is_busy, is_crowded}
+use Rattle.cm_history.specs.Bounds.{running_operations}
+use Rattle.cm_history.specs.History.{past_of}
+use Rattle.copy_jobs.specs.declared.key.Key.{Key}
+use Rattle.copy_jobs.specs.declared.job.Job.{Job}
+use Rattle.copy_jobs.specs.Jobs as jobs
+use Rattle.copy_jobs.specs.Pieces as next
+use Rattle.copy_jobs.specs.Reports as reports
+use Rattle.unit_core.specs.declared.block_change.BlockChange.{BlockChange}
+use Rattle.unit_core.specs.declared.job_change.JobChange.{JobChange}
+use Rattle.unit_core.specs.declared.token_change.TokenChange.{TokenChange}
+use Rattle.unit_core.specs.declared.plan.Plan.{Plan}
+use Rattle.unit_core.specs.Tables.{key_of, jobs_of, tokens_of, kept_of}
+use Rattle.unit_core.specs.Planning.{quiet, IsPlan}
+use Rattle.unit_core.proofs.Jobs.{busy-is, crowded-is, running-is}
+use Rattle.unit_core.proofs.Asking.{asker, serves-advance, serves-abort, serves-close}
+use Rattle.unit_core.proofs.Planned.{IsKnown, own-of}
+use Rattle.unit_core.proofs.Steps.{known-of}
+use Rattle.copy_jobs.specs.Pieces.{IsNextPiece}
+use Rattle.unit_core.proofs.Keeping.{served-there}
+use Rattle.unit_core.proofs.ServePlans.{piece-plan}
+use Rattle.unit_core.proofs.Wording.{piece-found, piece-of, next-is, found-of, none-of, for-piece, no-piece}
+use Rattle.unit_core.specs.declared.plan.Plan.{Plan}
+use Rattle.unit_core.proofs.unit.UnitOver.plan_piece.Goals as goal
+
+pub write_piece-requires-clause-within : goal.write_piece-requires-clause-within
+write_piece-requires-clause-within g c =
+    let u = c.self.inside in
+    let past = past_of u.config u.unit u.history.entries in
+    let known = known-of u.config u.unit u.history.entries c.self.invariant.record_is in
+    let told : IsNextPiece c.args.key u.tables.jobs c.in-Some.piece = (rw c.in-Some.is at c.in_ok-piece.ensures.piece) in
+    let is : IsNextPiece c.args.key (jobs_of past) c.in-Some.piece = subst (λ js. IsNextPiece c.args.key js c.in-Some.piece) c.self.invariant.jobs.jobs told in
+    rw (← c.self.view_is) (piece-found u.config u.unit past c.args.key c.in-Some.piece known is).piece.put.within
+
+pub write_piece-requires-clause-few : goal.write_piece-requires-clause-few
+write_piece-requires-clause-few g c =
+    let u = c.self.inside in
+    let past = past_of u.config u.unit u.history.entries in
+    let known = known-of u.config u.unit u.history.entries c.self.invariant.record_is in
+    let told : IsNextPiece c.args.key u.tables.jobs c.in-Some.piece = (rw c.in-Some.is at c.in_ok-piece.ensures.piece) in
+    let is : IsNextPiece c.args.key (jobs_of past) c.in-Some.piece = subst (λ js. IsNextPiece c.args.key js c.in-Some.piece) c.self.invariant.jobs.jobs told in
+    (piece-found u.config u.unit past c.args.key c.in-Some.piece known is).piece.few
+
+pub returns-in-Some : goal.returns-in-Some
+returns-in-Some g c =
+    let u = c.self.inside in
+    let past = past_of u.config u.unit u.history.entries in
+    let known = known-of u.config u.unit u.history.entries c.self.invariant.record_is in
+    let told : IsNextPiece c.args.key u.tables.jobs c.in-Some.piece = (rw c.in-Some.is at c.in_ok-piece.ensures.piece) in
+    let is : IsNextPiece c.args.key (jobs_of past) c.in-Some.piece = subst (λ js. IsNextPiece c.args.key js c.in-Some.piece) c.self.invariant.jobs.jobs told in
+    rw (c.write_piece.ensures, ← c.self.view_is) (λ actor at act writes.
+    let found = found-of (would_serve past actor act) is.job (sym (next-is u.config u.unit past actor act c.args.key c.args.otherwise known writes) ∙ is.found) in
+    let for = for-piece u.config u.unit past actor at act c.args.key c.args.otherwise found.operation writes found.found in
+    piece-plan u.config u.unit past actor at act found.operation c.in-Some.piece known for
+    (piece-of u.config u.unit past found.operation c.args.key c.in-Some.piece known (served-there u.config u.unit past actor act found.operation known.is found.found) is found.same for.start))
+
+pub returns-in-None : goal.returns-in-None
+returns-in-None g c =
+    let u = c.self.inside in
+    let past = past_of u.config u.unit u.history.entries in
+    let known = known-of u.config u.unit u.history.entries c.self.invariant.record_is in
+    let none : find (next.is_next c.args.key) (jobs_of past) ≡ None = sym (ap (find (next.is_next c.args.key)) c.self.invariant.jobs.jobs) ∙ c.in_ok-piece.ensures.none c.in-None.is in
+    rw (c.answered.ensures, ← c.self.view_is) (λ actor at act writes.
+    no-piece u.config u.unit past actor at act c.args.key c.args.otherwise writes (none-of (would_serve past actor act) (sym (next-is u.config u.unit past actor act c.args.key c.args.otherwise known writes) ∙ none)))
