@@ -56,12 +56,14 @@ impl History {
         &self.entries[index]
     }
 
-    /// Makes room for so many more entries. At `OutOfMemory` the room is as before.
+    /// Makes room for so many more entries; where there is so much room it takes no memory. At `OutOfMemory` the room is
+    /// as before.
     pub fn reserve(&mut self, more: u64) -> Result<(), OutOfMemory>
         ensures same { self.new.entries ≡ self.old.entries }
         ensures room { OnOk result (more ≤ self.new.spare) }
         ensures kept { self.old.spare ≤ self.new.spare }
         ensures err { OnErr result (self.new ≡ self.old) }
+        ensures needed { OnErr result (self.old.spare < more) }
     {
         if more <= self.spare {
             return Ok(());

@@ -88,7 +88,7 @@ populate-makes : (act : Act) (t : Bool) → (is_making act && t) ≡ false → (
 populate-makes (Act.Populate id timeout ranges) t e = e
 populate-makes _ t e = refl
 
-ends-serves : (past : List Deed) (actor : Actor) (act : Act) → ends past actor act ≡ true → is_some (would_serve past actor act) ≡ true
+pub ends-serves : (past : List Deed) (actor : Actor) (act : Act) → ends past actor act ≡ true → is_some (would_serve past actor act) ≡ true
 ends-serves past actor (Act.End id) e = e
 ends-serves past actor (Act.Abort id) e = e
 ends-serves past actor (Act.Close id result) e = e

@@ -1,7 +1,7 @@
 -- Room in a unit's record
-use Rattle.std.proofs.Common.{◌≡◌, ℕ, ◌+◌, ◌-◌, ◌^◌, ◌<◌, ◌≤◌, List, [], ◌∷◌, length, refl, ap, sym, ◌∙◌, subst, arith, true, false, Bool}
-use Rattle.std.specs.Prelude.{Option, Some, None, ◌||◌, ◌&&◌, ◌==◌, nat_le, nat_lt, max, is_some, if◌then◌else◌}
-use Rattle.std.proofs.lemmas.Bool.{or_parts, or_left, or_right, ltb-false, lt-ltb, le-ltb, eq-eqb, ne_eqb}
+use Rattle.std.proofs.Common.{◌≡◌, ℕ, ◌+◌, ◌-◌, ◌^◌, ◌<◌, ◌≤◌, List, [], ◌∷◌, length, refl, ap, sym, ◌∙◌, subst, arith, true, false, Bool, inl, inr}
+use Rattle.std.specs.Prelude.{Option, Some, None, ◌⊎◌, ◌||◌, ◌&&◌, ◌==◌, nat_le, nat_lt, max, is_some, if◌then◌else◌}
+use Rattle.std.proofs.lemmas.Bool.{cases_eq, or_parts, or_left, or_right, ltb-false, lt-ltb, le-ltb, eq-eqb, ne_eqb}
 use Rattle.std.proofs.lemmas.Bool.Decides.{nat_tests}
 use Rattle.cm_base.specs.Configuration.{Configuration}
 use Rattle.cm_base.specs.declared.config.UnitConfig.{UnitConfig}
@@ -106,6 +106,10 @@ need-unserved past actor (Act.Abort id) e = let n : need past actor (Act.Abort i
 need-unserved past actor (Act.Close id result) e = let n : need past actor (Act.Close id result) ≡ 1 = ap (λ w. if is_some w then 0 else 1) e in omega (arith, n)
 need-unserved past actor _ e = omega arith
 
+serving-bytes : (past : List Deed) (actor : Actor) (act : Act) → is_some (would_serve past actor act) ≡ true → bytes_in act ≡ 0
+serving-bytes past actor (Act.Write lba list) s = let no : is_some (would_serve past actor (Act.Write lba list)) ≡ false = ap is_some (find-none (running past)) in let never = sym s ∙ no in cc
+serving-bytes past actor _ s = refl
+
 -- of an act that makes no operation
 pub need-by : (past : List Deed) (actor : Actor) (act : Act) → ((id : ℕ) (background : Bool) (ranges : List Range) (rod : HeldBlocks) → act ≡ Act.Start id background ranges rod → ⊥) → ((id : ℕ) → act ≡ Act.Open id → ⊥)
     → need past actor act ≡ (if is_some (would_serve past actor act) then 0 else 1)
@@ -179,3 +183,26 @@ reserved-step config unit past d known asked made = go (would_serve past d.entry
         let now : jobs.reserved (jobs_of (d ∷ past)) ≡ jobs.reserved (jobs_of past) = ap jobs.reserved step in
         let one = need-unserved past d.entry.actor d.entry.act e in
         omega (arith, before, after, now, one)
+
+-- an act that serves an operation finds room, but where stamps are at their end
+pub full-serving : (unit : UnitConfig) (past : List Deed) (actor : Actor) (stamp : ℕ) (act : Act) → payload 0 past ≤ unit.payload → length past + reserved past ≤ unit.entries
+    → is_some (would_serve past actor act) ≡ true → is_full unit 0 past actor stamp act ≡ true → max stamp (last_stamp past) ≡ 2 ^ 64 - 1
+full-serving unit past actor stamp act within room serves full = go (cases_eq (max stamp (last_stamp past)) (2 ^ 64 - 1))
+  where
+    none : need past actor act ≡ 0
+    none = of (would_serve past actor act) refl serves
+      where
+        of : (w : Option Operation) → would_serve past actor act ≡ w → is_some w ≡ true → need past actor act ≡ 0
+        of None e s = cc
+        of (Some o) e s = need-served past actor act o e
+
+    no-bytes : bytes_in act ≡ 0
+    no-bytes = serving-bytes past actor act serves
+
+    go : (max stamp (last_stamp past) ≡ 2 ^ 64 - 1) ⊎ (max stamp (last_stamp past) ≡ 2 ^ 64 - 1 → ⊥) → max stamp (last_stamp past) ≡ 2 ^ 64 - 1
+    go (inl e) = e
+    go (inr differs) =
+        let last : is_full unit 0 past actor stamp act ≡ nat_lt unit.payload (payload 0 past + bytes_in act) = full-bytes unit past actor stamp act within differs (omega (arith, room, none)) in
+        let fits : nat_lt unit.payload (payload 0 past + bytes_in act) ≡ false = (let b = no-bytes in grind (arith, nat_tests)) in
+        let never = sym full ∙ last ∙ fits in
+        cc
