@@ -5,7 +5,6 @@ use Rattle.cm_history.specs.declared.act.Act.{Act}
 use Rattle.cm_history.specs.declared.act.Actor.{Actor}
 use Rattle.cm_history.specs.declared.act.Entry.{Entry}
 use Rattle.cm_history.specs.declared.answer.Answer.{Answer}
-use Rattle.cm_history.specs.Known.{is_known}
 use Rattle.cm_history.specs.Limits.{within_limits}
 use Rattle.cm_history.specs.Legal.{may_ask}
 use Rattle.cm_history.specs.Deeds.{last_stamp}
@@ -61,7 +60,6 @@ pub record MayDo (units : Units) (u : ℕ) (actor : Actor) (act : Act) : Type 0 
   pub configured : u < length config.units
   pub limits : within_limits config u act ≡ true
   pub asked : may_ask u actor act ≡ true
-  pub known : is_known act ≡ true
 
 -- some entries were done, and the unit is there
 pub record MayPump (units : Units) (u : ℕ) : Type 0 where

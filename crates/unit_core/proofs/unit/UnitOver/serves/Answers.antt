@@ -66,8 +66,8 @@ returns-in-Advance g c =
     let told = c.waits-in-Advance.ensures ∙ ap (λ k. list_any (is_next (Some k)) u.tables.jobs) c.token_key-in-Advance.ensures
     ∙ ap (list_any (is_next (Some (key_of c.args.actor OfToken c.in-Advance.id)))) c.self.invariant.jobs.jobs in
     elim c.in-Advance.is [
-      inl e ↦ rw (e, ← c.self.view_is) (told ∙ serves-advance u.config u.unit past c.args.actor c.in-Advance.id known
-      (asker c.args.self.now.unit c.args.actor (Act.Advance c.in-Advance.id) (sym (ap (may_ask c.args.self.now.unit c.args.actor) e) ∙ c.requires) refl))
-    | inr e ↦ rw (e, ← c.self.view_is) (told ∙ serves-advance u.config u.unit past c.args.actor c.in-Advance.id known
-      (asker c.args.self.now.unit c.args.actor (Act.End c.in-Advance.id) (sym (ap (may_ask c.args.self.now.unit c.args.actor) e) ∙ c.requires) refl))
+      | inl e ↦ rw (e, ← c.self.view_is) (told ∙ serves-advance u.config u.unit past c.args.actor c.in-Advance.id known
+          (asker c.args.self.now.unit c.args.actor (Act.Advance c.in-Advance.id) (sym (ap (may_ask c.args.self.now.unit c.args.actor) e) ∙ c.requires) refl))
+      | inr e ↦ rw (e, ← c.self.view_is) (told ∙ serves-advance u.config u.unit past c.args.actor c.in-Advance.id known
+          (asker c.args.self.now.unit c.args.actor (Act.End c.in-Advance.id) (sym (ap (may_ask c.args.self.now.unit c.args.actor) e) ∙ c.requires) refl))
     ]
