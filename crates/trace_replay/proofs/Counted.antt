@@ -231,6 +231,23 @@ module _ (left rest taken given : Option (List ℕ)) (p : Player) (is : IsAt lef
       (one-less (r ∷ []) m h (with_item p.summary 0) refl) refl refl waits)
       given' e (subst (IsBegun taken given') (sym all) w.0) w.1
 
+  -- how the player stands behind the item, with no reply yet
+  abbrev pub IsPassed : Machine → Mark → Player → Type 0
+  IsPassed m mark passed =
+      passed ≡ record p { machine = m; input = drop used p.input; place = p.place + used; summary = with_item p.summary (length (behind mark).entries) }
+
+  pub passed-waits : (m : Machine) (mark : Mark) (passed : Player) → IsPassed m mark passed → IsWritten taken given passed.output (output_of is.s)
+  passed-waits m mark passed new = subst (λ (q : Player). IsWritten taken given q.output (output_of is.s)) (sym new) is.loop.written
+
+  -- its reply was counted, and written or not
+  pub replied-at : (m : Machine) (r : Record) (h : HasPlayed is.config is.s item (r ∷ []) m) → IsOfLength r.reply → (given' : Option (List ℕ)) (passed : Player)
+      → IsPassed m h.mark passed → (summary : Summary) (output : List ℕ) → summary ≡ with_reply passed.summary r.reply
+      → (result : Result (Unit {0}) ReplayFault) → Writes taken given' output (output_of is.s ++ record_bytes r) result
+      → MatchResult result (λ _. IsAt left rest taken given' (record passed { summary = summary; output = output })) (λ e. Replayed step left rest taken given' (Err e))
+  replied-at m r h fits given' passed new summary output counted result w =
+      answered-at m r h fits given' (record passed { summary = summary; output = output }) (ap (λ (q : Player). q.machine) new) (ap (λ (q : Player). q.input) new)
+      (ap (λ (q : Player). q.place) new) (counted ∙ ap (λ (q : Player). with_reply q.summary r.reply) new) result w
+
 -- there is room in the counts for the reply of the item
 pub room-item : (c : Summary) (s : Standing) (n : ℕ) → c ≡ summary_of s → AreFew s → HasRoom (with_item c n)
 room-item c s n is few =
