@@ -1,5 +1,5 @@
 -- How the counts and the output go on with an item
-use Rattle.std.proofs.Common.{◌≡◌, ℕ, ◌+◌, ◌-◌, ◌*◌, ◌^◌, ◌<◌, ◌≤◌, suc, List, [], ◌∷◌, ◌++◌, length, drop, refl, ap, sym, ◌∙◌, subst, arith, Bool, true, false, append_assoc, append-nil, length-append}
+use Rattle.std.proofs.Common.{◌≡◌, ℕ, ◌+◌, ◌-◌, ◌<◌, ◌≤◌, suc, List, [], ◌∷◌, ◌++◌, length, drop, refl, ap, sym, ◌∙◌, subst, arith, Bool, append_assoc, append-nil, length-append}
 use Rattle.std.specs.Prelude.{cond, MatchResult, Result, Ok, Err, Option, Some, None, count_by, flat_map}
 use Rattle.std.proofs.lemmas.List.Sums.{sum_by-append, count_by-le-length}
 use Rattle.byteorder.specs.Endian.{big_bytes}
@@ -12,15 +12,14 @@ use Rattle.cm_frame.specs.Grammar.{reply_bytes}
 use Rattle.cm_frame.specs.Reading.{read_item}
 use Rattle.cm_frame.proofs.Within.{UsesWithin, item-within}
 use Rattle.cmd_program.specs.declared.step.Step.{Step}
-use Rattle.cmd_program.specs.Stepping.{Stepping}
 use Rattle.cmd_program.specs.Meaning.{IsOfLength}
 use Rattle.cmd_program.specs.Judging.{step}
 use Rattle.trace_replay.specs.declared.summary.Summary.{Summary}
 use Rattle.trace_replay.specs.declared.player.Player.{Player}
 use Rattle.trace_replay.specs.declared.machine.Machine.{Machine}
 use Rattle.trace_replay.specs.Items.{items_limit}
-use Rattle.trace_replay.specs.Standing.{Pending, Record, Standing, Mark, NoMark, AtBegin, AtAct, AtStep, waiting, goes_on, did, ran, begun, changed, next, next_step, acted, noted_act}
-use Rattle.trace_replay.specs.Played.{mark_for, record_bytes, output_of, replies_that, summary_of, is_good, is_check, is_busy, is_task_set_full}
+use Rattle.trace_replay.specs.Standing.{Pending, Record, Standing, Mark, NoMark, AtBegin, AtAct, AtStep, waiting, goes_on, did, ran, begun, next, next_step, acted, noted_act}
+use Rattle.trace_replay.specs.Played.{mark_for, record_bytes, output_of, summary_of, is_good, is_check, is_busy, is_task_set_full}
 use Rattle.trace_replay.specs.Laws.{StandsAt, marks_of}
 use Rattle.trace_replay.specs.Counting.{HasRoom, with_item, with_reply, one_if}
 use Rattle.trace_replay.specs.Machines.{HasPlayed, IsStanding}
