@@ -1,5 +1,5 @@
 -- How the counts and the output go on with an item
-use Rattle.std.proofs.Common.{◌≡◌, ℕ, ◌+◌, ◌-◌, ◌*◌, ◌^◌, ◌<◌, ◌≤◌, suc, List, [], ◌∷◌, ◌++◌, length, drop, refl, ap, sym, ◌∙◌, subst, arith, Bool, true, false, append_assoc, append-nil, length-append}
+use Rattle.std.proofs.Common.{◌≡◌, ℕ, ◌+◌, ◌-◌, ◌<◌, ◌≤◌, suc, List, [], ◌∷◌, ◌++◌, length, drop, refl, ap, sym, ◌∙◌, subst, arith, Bool, append_assoc, append-nil, length-append}
 use Rattle.std.specs.Prelude.{cond, MatchResult, Result, Ok, Err, Option, Some, None, count_by, flat_map}
 use Rattle.std.proofs.lemmas.List.Sums.{sum_by-append, count_by-le-length}
 use Rattle.byteorder.specs.Endian.{big_bytes}
@@ -12,15 +12,14 @@ use Rattle.cm_frame.specs.Grammar.{reply_bytes}
 use Rattle.cm_frame.specs.Reading.{read_item}
 use Rattle.cm_frame.proofs.Within.{UsesWithin, item-within}
 use Rattle.cmd_program.specs.declared.step.Step.{Step}
-use Rattle.cmd_program.specs.Stepping.{Stepping}
 use Rattle.cmd_program.specs.Meaning.{IsOfLength}
 use Rattle.cmd_program.specs.Judging.{step}
 use Rattle.trace_replay.specs.declared.summary.Summary.{Summary}
 use Rattle.trace_replay.specs.declared.player.Player.{Player}
 use Rattle.trace_replay.specs.declared.machine.Machine.{Machine}
 use Rattle.trace_replay.specs.Items.{items_limit}
-use Rattle.trace_replay.specs.Standing.{Pending, Record, Standing, Mark, NoMark, AtBegin, AtAct, AtStep, waiting, goes_on, did, ran, begun, changed, next, next_step, acted, noted_act}
-use Rattle.trace_replay.specs.Played.{mark_for, record_bytes, output_of, replies_that, summary_of, is_good, is_check, is_busy, is_task_set_full}
+use Rattle.trace_replay.specs.Standing.{Pending, Record, Standing, Mark, NoMark, AtBegin, AtAct, AtStep, waiting, goes_on, did, ran, begun, next, next_step, acted, noted_act}
+use Rattle.trace_replay.specs.Played.{mark_for, record_bytes, output_of, summary_of, is_good, is_check, is_busy, is_task_set_full}
 use Rattle.trace_replay.specs.Laws.{StandsAt, marks_of}
 use Rattle.trace_replay.specs.Counting.{HasRoom, with_item, with_reply, one_if}
 use Rattle.trace_replay.specs.Machines.{HasPlayed, IsStanding}
@@ -230,6 +229,23 @@ module _ (left rest taken given : Option (List ℕ)) (p : Player) (is : IsAt lef
       (loop-next (r ∷ []) m h given (items_limit - (p.summary.records + 1)) (p.place + used) (drop used p.input) (p.output ++ record_bytes r)
       (one-less (r ∷ []) m h (with_item p.summary 0) refl) refl refl waits)
       given' e (subst (IsBegun taken given') (sym all) w.0) w.1
+
+  -- how the player stands behind the item, with no reply yet
+  abbrev pub IsPassed : Machine → Mark → Player → Type 0
+  IsPassed m mark passed =
+      passed ≡ record p { machine = m; input = drop used p.input; place = p.place + used; summary = with_item p.summary (length (behind mark).entries) }
+
+  pub passed-waits : (m : Machine) (mark : Mark) (passed : Player) → IsPassed m mark passed → IsWritten taken given passed.output (output_of is.s)
+  passed-waits m mark passed new = subst (λ (q : Player). IsWritten taken given q.output (output_of is.s)) (sym new) is.loop.written
+
+  -- its reply was counted, and written or not
+  pub replied-at : (m : Machine) (r : Record) (h : HasPlayed is.config is.s item (r ∷ []) m) → IsOfLength r.reply → (given' : Option (List ℕ)) (passed : Player)
+      → IsPassed m h.mark passed → (summary : Summary) (output : List ℕ) → summary ≡ with_reply passed.summary r.reply
+      → (result : Result (Unit {0}) ReplayFault) → Writes taken given' output (output_of is.s ++ record_bytes r) result
+      → MatchResult result (λ _. IsAt left rest taken given' (record passed { summary = summary; output = output })) (λ e. Replayed step left rest taken given' (Err e))
+  replied-at m r h fits given' passed new summary output counted result w =
+      answered-at m r h fits given' (record passed { summary = summary; output = output }) (ap (λ (q : Player). q.machine) new) (ap (λ (q : Player). q.input) new)
+      (ap (λ (q : Player). q.place) new) (counted ∙ ap (λ (q : Player). with_reply q.summary r.reply) new) result w
 
 -- there is room in the counts for the reply of the item
 pub room-item : (c : Summary) (s : Standing) (n : ℕ) → c ≡ summary_of s → AreFew s → HasRoom (with_item c n)

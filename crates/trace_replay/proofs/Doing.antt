@@ -1,6 +1,6 @@
 -- Units that do one more act
 use Rattle.std.proofs.Common.{◌≡◌, ℕ, zero, suc, ◌+◌, ◌-◌, ◌^◌, ◌<◌, ◌≤◌, List, [], ◌∷◌, ◌++◌, length, refl, ap, sym, ◌∙◌, subst, arith, true, false, Bool, inl, inr, append-nil, length-append, slice_set, Vec, Global}
-use Rattle.std.specs.Prelude.{cond, ◌==◌, ◌⊎◌, ◌||◌, Option, Some, None, Result, Ok, Err, slice_get, slice_index, slice_index_or, filter, fold, max}
+use Rattle.std.specs.Prelude.{cond, ◌==◌, ◌⊎◌, ◌||◌, Option, Some, None, Result, Ok, Err, slice_get, slice_index, slice_index_or, fold, max}
 use Rattle.std.proofs.lemmas.Bool.{cases_eq, eq-eqb, eqb-true}
 use Rattle.std.proofs.lemmas.List.{length-set, get_or_read, get_or-set_same, get_or-set_other}
 use Rattle.std.proofs.lemmas.List.Elements.{filter-append}
@@ -13,7 +13,7 @@ use Rattle.cm_history.specs.declared.act.Actor.{Actor}
 use Rattle.cm_history.specs.declared.act.Entry.{Entry}
 use Rattle.cm_history.specs.declared.answer.Answer.{Answer}
 use Rattle.cm_history.specs.Answers.{answer_after}
-use Rattle.cm_history.specs.Deeds.{Deed, last_stamp, same_actor}
+use Rattle.cm_history.specs.Deeds.{last_stamp, same_actor}
 use Rattle.cm_history.specs.History.{on, one_more, past_of, answer}
 use Rattle.cm_history.specs.Room.{is_full}
 use Rattle.cm_history.proofs.Locality.{past_of-on}

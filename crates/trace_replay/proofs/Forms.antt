@@ -1,5 +1,5 @@
 -- What an act is answered, the outcome of a command may be
-use Rattle.std.proofs.Common.{◌≡◌, ℕ, zero, suc, ◌+◌, ◌<◌, ◌≤◌, List, [], ◌∷◌, length, refl, ap, sym, ◌∙◌, subst, arith, true, false, Bool, inl, inr, lit≤}
+use Rattle.std.proofs.Common.{◌≡◌, ℕ, zero, suc, ◌+◌, ◌≤◌, List, length, refl, ap, sym, ◌∙◌, subst, arith, true, false, Bool, inl, inr}
 use Rattle.std.specs.Prelude.{cond, map, nat_le, ◌⊎◌, Option, Some, None, slice_get}
 use Rattle.std.proofs.lemmas.Bool.{leb-true}
 use Rattle.std.proofs.lemmas.List.{length-map}

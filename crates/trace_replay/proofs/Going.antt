@@ -1,6 +1,6 @@
 -- How a command goes on
 use Rattle.std.proofs.Common.{◌≡◌, ℕ, List, [], ◌∷◌, ◌++◌, refl, ap, sym, ◌∙◌, subst, true, false, Bool, append-nil}
-use Rattle.std.specs.Prelude.{cond, ◌||◌, Option}
+use Rattle.std.specs.Prelude.{◌||◌, Option}
 use Rattle.cm_base.specs.Configuration.{Configuration}
 use Rattle.cm_frame.specs.declared.frame.Request.{Request}
 use Rattle.cm_history.specs.declared.act.Act.{Act}
@@ -8,11 +8,11 @@ use Rattle.cmd_program.specs.declared.command.Command.{Command}
 use Rattle.cmd_program.specs.declared.step.Step.{Step}
 use Rattle.cmd_program.specs.declared.step.Outcome.{Outcome}
 use Rattle.cmd_program.specs.Stepping.{gave_up, gives_up}
-use Rattle.cmd_program.specs.Meaning.{StandsFor, IsOutcomeOf, MayFollow, IsNotable}
+use Rattle.cmd_program.specs.Meaning.{StandsFor, IsOutcomeOf, MayFollow}
 use Rattle.cmd_program.specs.Judging.{step}
 use Rattle.cm_frame.specs.declared.frame.Reply.{Reply}
 use Rattle.trace_replay.specs.declared.nexus.Waiting.{Waiting}
-use Rattle.trace_replay.specs.Standing.{Pending, Mark, NoMark, AtBegin, AtAct, AtStep, noted, noted_at_step, next_step}
+use Rattle.trace_replay.specs.Standing.{Pending, Mark, NoMark, AtStep, noted, noted_at_step, next_step}
 use Rattle.trace_replay.specs.Machines.{IsCommandOf, IsNext, WentOn, HasBegun, mark_of}
 use Rattle.trace_replay.proofs.Telling.{any-append}
 

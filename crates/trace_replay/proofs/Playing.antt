@@ -1,6 +1,6 @@
 -- How a player goes on, and how it ends
-use Rattle.std.proofs.Common.{◌≡◌, ℕ, zero, suc, ◌+◌, ◌-◌, ◌*◌, ◌<◌, ◌≤◌, List, [], ◌∷◌, ◌++◌, length, drop, refl, ap, sym, ◌∙◌, subst, arith, Bool, true, false, inl, inr, append-nil, length-append}
-use Rattle.std.specs.Prelude.{cond, IfSome, MatchResult, IfOk, ◌⊎◌, ◌==◌, nat_lt, Option, Some, None, Result, Ok, Err}
+use Rattle.std.proofs.Common.{◌≡◌, ℕ, zero, suc, ◌-◌, ◌<◌, ◌≤◌, List, [], ◌∷◌, ◌++◌, length, drop, refl, ap, sym, ◌∙◌, subst, arith, Bool, true, false, inl, inr, append-nil, length-append}
+use Rattle.std.specs.Prelude.{IfSome, MatchResult, IfOk, ◌⊎◌, ◌==◌, nat_lt, Option, Some, None, Result, Ok, Err}
 use Rattle.std.specs.Io.KnownBytes.{Consumes, Appends, Keeps, IsAtEnd}
 use Rattle.std.proofs.lemmas.Bool.{lt-ltb, ltb-true, eqb-true}
 use Rattle.std.proofs.KnownBytes.{Consumes-trans, Consumes-kept, Appends-nil}
@@ -17,12 +17,12 @@ use Rattle.trace_replay.specs.declared.player.Player.{Player}
 use Rattle.trace_replay.specs.declared.fault.ReplayFault.{ReplayFault}
 use Rattle.trace_replay.specs.declared.summary.Summary.{Summary}
 use Rattle.trace_replay.specs.Faults.{fault_of}
-use Rattle.trace_replay.specs.Items.{Ending, BadRecord, BadHeader, Done, Torn, items_limit}
+use Rattle.trace_replay.specs.Items.{BadRecord, BadHeader, Done, Torn, items_limit}
 use Rattle.trace_replay.specs.Standing.{Standing, at_first, fits}
 use Rattle.trace_replay.specs.Played.{played_from, output_of, summary_of}
 use Rattle.trace_replay.specs.Replayed.{Replayed, IsCounted}
 use Rattle.trace_replay.specs.Laws.{StandsAt, LoopStands, MarksTell, known}
-use Rattle.trace_replay.specs.Players.{IsLoopAt, IsAt, AreFew, left_of, HasPulled, HasMore, NeedsMore, EndsBad}
+use Rattle.trace_replay.specs.Players.{IsLoopAt, IsAt, left_of, HasPulled, HasMore, NeedsMore, EndsBad}
 use Rattle.trace_replay.specs.Writing.{IsWritten, IsBegun, IsWriteFault}
 use Rattle.trace_replay.specs.Machines.{IsStanding}
 use Rattle.trace_replay.proofs.Sizes.{header-used}

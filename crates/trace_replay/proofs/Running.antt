@@ -6,15 +6,13 @@ use Rattle.cm_frame.specs.declared.frame.Reply.{Reply}
 use Rattle.cm_history.specs.declared.act.Act.{Act}
 use Rattle.cm_history.specs.declared.act.Actor.{Actor}
 use Rattle.cm_history.specs.declared.act.Entry.{Entry}
-use Rattle.cm_history.specs.declared.answer.Answer.{Answer}
 use Rattle.cm_history.specs.History.{answer}
-use Rattle.cmd_program.specs.declared.step.Step.{Step}
 use Rattle.cmd_program.specs.declared.step.Outcome.{Outcome}
 use Rattle.cmd_program.specs.Stepping.{gave_up, gives_up}
 use Rattle.trace_replay.specs.declared.units.Units.{Units}
 use Rattle.trace_replay.specs.declared.nexus.Nexus.{Nexus}
 use Rattle.trace_replay.specs.Standing.{Pending, Mark, NoMark, AtBegin, AtAct, AtStep, seq, has_no_room, entries_after, outcome_of, noted, noted_at_step, outcomes_at, entries_at}
-use Rattle.trace_replay.specs.Marks.{ends_operation, is_no_mark, allowed_at_act}
+use Rattle.trace_replay.specs.Marks.{ends_operation}
 use Rattle.trace_replay.specs.Machines.{HaveCounted, HasActed, HasRun, WentOn, mark_of, is_at_act_of}
 use Rattle.trace_replay.proofs.Going.{gave-up-more, gave-up-none}
 

@@ -1,5 +1,5 @@
 -- How many bytes a header and an item may have
-use Rattle.std.proofs.Common.{◌≡◌, ℕ, ◌+◌, ◌*◌, ◌<◌, ◌≤◌, List, [], length, take, drop, refl, sym, ◌∙◌, subst, arith, true, false, Bool}
+use Rattle.std.proofs.Common.{◌≡◌, ℕ, ◌+◌, ◌*◌, ◌<◌, ◌≤◌, List, length, take, drop, refl, subst, arith, true, false, Bool}
 use Rattle.std.proofs.lemmas.List.{length-drop}
 use Rattle.std.specs.Prelude.{cond, bytes_eq, ◌==◌, ◌&&◌, Option, Some, None, nat_lt, nat_le, not}
 use Rattle.std.proofs.lemmas.Bool.{ltb-true, ltb-false, leb-true}

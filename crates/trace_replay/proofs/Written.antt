@@ -1,9 +1,9 @@
 -- What was written, after more of it
-use Rattle.std.proofs.Common.{◌≡◌, ℕ, List, [], ◌++◌, take, drop, take-append-drop, refl, ap, sym, ◌∙◌, subst, append_assoc, append-nil, inl, inr}
-use Rattle.std.specs.Prelude.{Option, Result, Ok, Err, MatchResult, ◌⊎◌}
+use Rattle.std.proofs.Common.{◌≡◌, ℕ, List, [], ◌++◌, take, drop, take-append-drop, ap, sym, ◌∙◌, subst, append_assoc, append-nil, inl}
+use Rattle.std.specs.Prelude.{Option, Result, Ok, Err, MatchResult}
 use Rattle.std.specs.Io.KnownBytes.{Appends}
-use Rattle.std.proofs.KnownBytes.{Appends-nil, Appends-trans}
-use Rattle.cm_base.specs.Outside.{IsBeginning, Faulted}
+use Rattle.std.proofs.KnownBytes.{Appends-trans}
+use Rattle.cm_base.specs.Outside.{IsBeginning}
 use Rattle.byteorder.specs.Endian.{big_bytes}
 use Rattle.cm_frame.specs.declared.frame.Reply.{Reply}
 use Rattle.cm_frame.specs.Grammar.{reply_bytes}

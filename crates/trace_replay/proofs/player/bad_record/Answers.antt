@@ -1,4 +1,4 @@
-use Rattle.std.proofs.Common.{refl, inl}
+use Rattle.std.proofs.Common.{inl}
 use Rattle.trace_replay.proofs.Playing.{loop-written, ends-bad, ends-begun}
 use Rattle.trace_replay.proofs.player.bad_record.Goals as goal
 

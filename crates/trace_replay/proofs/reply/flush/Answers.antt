@@ -1,5 +1,4 @@
-use Rattle.std.proofs.Common.{refl}
-use Rattle.trace_replay.proofs.Written.{written-flushed, begun-flushing}
+use Rattle.trace_replay.proofs.Written.{written-flushed}
 use Rattle.trace_replay.proofs.reply.flush.Goals as goal
 
 pub returns-clause-written : goal.returns-clause-written

@@ -1,6 +1,6 @@
 use Rattle.std.proofs.Common.{refl}
 use Rattle.std.proofs.lemmas.Result.{err_from_is_err_and}
-use Rattle.trace_replay.proofs.Written.{written-headed, writes-record, writes-failed, counted-failed, counted-later}
+use Rattle.trace_replay.proofs.Written.{written-headed, writes-record, counted-later}
 use Rattle.trace_replay.proofs.reply.write_reply.Goals as goal
 
 pub returns-in_err-write_tail-clause-written : goal.returns-in_err-write_tail-clause-written

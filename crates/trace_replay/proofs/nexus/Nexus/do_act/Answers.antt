@@ -3,7 +3,6 @@ use Rattle.std.specs.Prelude.{cond, ◌+◌, ◌∷◌, []}
 use Rattle.cm_history.specs.declared.act.Actor.{Actor}
 use Rattle.cm_history.specs.Limits.{within_limits}
 use Rattle.cm_history.specs.History.{answer}
-use Rattle.cm_history.specs.Deeds.{same_actor}
 use Rattle.cmd_program.specs.declared.step.Outcome.{Outcome}
 use Rattle.std.proofs.lemmas.Bool.{eq-eqb}
 use Rattle.trace_replay.specs.Standing.{NoMark, seq, new_entry}

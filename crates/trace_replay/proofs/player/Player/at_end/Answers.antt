@@ -1,4 +1,3 @@
-use Rattle.std.proofs.Common.{refl}
 use Rattle.trace_replay.proofs.Playing.{ends-torn, is-some}
 use Rattle.trace_replay.proofs.player.Player.at_end.Goals as goal
 

@@ -1,8 +1,5 @@
-use Rattle.std.proofs.Common.{refl, inl, ap, ◌∙◌, subst, sym, ◌-◌}
+use Rattle.std.proofs.Common.{inl, ap, ◌∙◌, ◌-◌}
 use Rattle.std.proofs.lemmas.Result.{err_from_is_err_and}
-use Rattle.cmd_program.specs.Judging.{step}
-use Rattle.std.specs.Prelude.{Ok}
-use Rattle.trace_replay.specs.Replayed.{Replayed}
 use Rattle.trace_replay.specs.Items.{items_limit}
 use Rattle.trace_replay.specs.declared.summary.Summary.{Summary}
 use Rattle.trace_replay.proofs.Playing.{loop-written, ends-begun, ends-done, ends-records, counts-later}

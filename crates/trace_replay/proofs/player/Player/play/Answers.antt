@@ -1,10 +1,8 @@
-use Rattle.std.proofs.Common.{◌≡◌, refl, ap, sym, ◌∙◌, subst}
+use Rattle.std.proofs.Common.{subst}
 use Rattle.std.proofs.lemmas.Result.{err_from_is_err_and}
-use Rattle.trace_replay.specs.declared.player.Player.{Player}
 use Rattle.trace_replay.specs.Machines.{IsEffect}
-use Rattle.trace_replay.specs.Counting.{with_reply}
 use Rattle.trace_replay.proofs.Playing.{ends-memory, unfit-ends}
-use Rattle.trace_replay.proofs.Counted.{used-within, room-item, quiet-at, answered-at}
+use Rattle.trace_replay.proofs.Counted.{used-within, room-item, quiet-at, passed-waits, replied-at}
 use Rattle.trace_replay.proofs.player.Player.play.Goals as goal
 
 pub returns-in_err-play-clause-played : goal.returns-in_err-play-clause-played
@@ -40,8 +38,8 @@ pub returns-in-Answers-clause-played : goal.returns-in-Answers-clause-played
 returns-in-Answers-clause-played g c = λ left rest taken is.
     let effect = subst (λ e. IsEffect is.config is.s c.args.found.item e c.play.new.self) c.in-Answers.is (c.in_ok-play.ensures is.config is.s is.machine) in
     let new = c.pass-in-Answers.ensures is.config _ effect.0.standing in
-    answered-at left rest taken _ c.args.self.now is c.args.found.item c.args.found.used c.requires.left c.requires.found c.play.new.self
-    (record { initiator = c.in-Answers.initiator; reply = c.in-Answers.reply }) effect.0 effect.1 _ _
-    (ap (λ (p : Player). p.machine) new) (ap (λ (p : Player). p.input) new) (ap (λ (p : Player). p.place) new)
-    (c.count_reply.ensures ∙ ap (λ (p : Player). with_reply p.summary c.in-Answers.reply) new)
-    c.write_reply.result (c.write_reply.ensures.written taken _ (rw (ap (λ (p : Player). p.output) new) is.loop.written))
+    replied-at left rest taken _ c.args.self.now is c.args.found.item c.args.found.used c.requires.left c.requires.found c.play.new.self
+    (record { initiator = c.in-Answers.initiator; reply = c.in-Answers.reply }) effect.0 effect.1 _ c.pass-in-Answers.new.self new _ _ c.count_reply.ensures
+    c.write_reply.result
+    (c.write_reply.ensures.written taken _
+    (passed-waits left rest taken _ c.args.self.now is c.args.found.item c.args.found.used c.requires.left c.requires.found c.play.new.self effect.0.mark c.pass-in-Answers.new.self new))

@@ -1,4 +1,4 @@
-use Rattle.std.proofs.Common.{refl, inl, ap, ◌∙◌}
+use Rattle.std.proofs.Common.{inl, ap}
 use Rattle.std.proofs.lemmas.Result.{err_from_is_err_and}
 use Rattle.trace_replay.proofs.Playing.{loop-written, loop-more, ends-begun, ends-filling, counts-filling, none-came}
 use Rattle.trace_replay.proofs.player.Player.pull.Goals as goal

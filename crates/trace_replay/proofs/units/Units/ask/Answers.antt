@@ -1,7 +1,7 @@
-use Rattle.std.proofs.Common.{refl, arith, ap, ◌≡◌, ◌<◌, ◌^◌, ◌-◌, length, slice_set}
+use Rattle.std.proofs.Common.{refl, arith, ap, ◌≡◌, slice_set}
 use Rattle.std.specs.Prelude.{Some, slice_get}
 use Rattle.std.proofs.lemmas.Result.{err_from_is_err_and}
-use Rattle.trace_replay.proofs.Doing.{done-more, done-refused, stamp-fits, answer-is, refuses, room-left, seq-below, does-refused, unit-at}
+use Rattle.trace_replay.proofs.Doing.{done-more, done-refused, stamp-fits, answer-is, refuses, room-left, seq-below, unit-at}
 use Rattle.trace_replay.proofs.units.Units.ask.Goals as goal
 
 pub overflow_add-self : goal.overflow_add-self

@@ -1,0 +1,323 @@
+// Random traces of three initiators, whose replies are compared with those of plain answers.
+
+ghost use Rattle.std.specs.Prelude.{◌≡◌, ◌*◌, ◌<◌, ◌≤◌, ℕ, List, length, IfOk, OnOk};
+ghost use Rattle.cm_base.specs.Configuration.{Configuration};
+ghost use Rattle.cm_base.specs.Units.{unit_of};
+ghost use Rattle.cm_history.specs.declared.act.Entry.{Entry};
+ghost use Rattle.cm_history.specs.PlainHolds.{IsPlainAct, ArePlain};
+
+use crate::status::Status;
+use crate::top::top;
+use cm_base::{
+    Bytes, CallList, Config, MemorySink, MemorySource, Payload, UnitConfig, UnitList, Word,
+};
+use cm_frame::{Request, TraceItem, write_header, write_item};
+use cm_history::{Act, Actor, Answer, Entry, History, plain_answer};
+use lba_ranges::BlockList;
+use scsi_cdb::{Cdb, encode};
+use std::alloc::Global;
+use std::test::Fail;
+
+/// Items of a trace.
+const ITEMS: usize = 120;
+
+/// A linear congruential generator, with the numbers of Knuth's MMIX.
+#[derive(Drop)]
+struct Generator {
+    state: u64,
+}
+
+impl Generator {
+    /// The next number below a limit. The low bits repeat soon, and are not used.
+    fn below(&mut self, limit: u32) -> u32
+        requires { 0 < limit }
+        ensures { result < limit }
+    {
+        self.state = self
+            .state
+            .wrapping_mul(6_364_136_223_846_793_005)
+            .wrapping_add(1_442_695_040_888_963_407);
+        (self.state >> 32) as u32 % limit
+    }
+}
+
+/// Makes the blocks of some data differ.
+fn vary(data: &mut [u8]) {
+    for (place, byte) in data.iter_mut().enumerate() {
+        *byte = byte.wrapping_add((place / 512 % 256) as u8);
+    }
+}
+
+/// A READ or WRITE. The bytes of a WRITE begin with this one.
+#[derive(Drop, Clone, Copy)]
+struct Command {
+    unit: u16,
+    writes: bool,
+    lba: u8,
+    count: u8,
+    byte: u8,
+}
+
+impl Command {
+    /// A command of 0 to 3 blocks of one of the units. Some reach past the end.
+    fn random(config: &Config, random: &mut Generator) -> Command
+        ensures { result.unit < length config.now.units }
+    {
+        Command {
+            unit: random.below(u32::from(config.units())) as u16,
+            writes: random.below(2) == 0,
+            lba: random.below(7) as u8,
+            count: random.below(4) as u8,
+            byte: random.below(256) as u8,
+        }
+    }
+
+    fn cdb(&self) -> [u8; 16] {
+        let lba = u64::from(self.lba);
+        let count = u32::from(self.count);
+        if self.writes {
+            encode(&Cdb::Write { lba, count })
+        } else {
+            encode(&Cdb::Read { lba, count })
+        }
+    }
+
+    /// The bytes of a WRITE, on a unit with blocks of this length.
+    fn blocks(&self, alloc: Global, block_length: u32) -> Result<Payload, Fail>
+        requires { block_length ≤ 4096 }
+        ensures length { IfOk result (λ bytes. length bytes ≡ self.now.count * block_length) }
+        ensures few { IfOk result (λ bytes. length bytes ≤ 8_388_608) }
+    {
+        let length = u32::from(self.count) * block_length;
+        let mut bytes = vec![in alloc; self.byte; length as usize]?;
+        vary(&mut bytes);
+        Ok(Payload::from_vec(bytes)?)
+    }
+
+    /// The data-out.
+    fn out(&self, alloc: Global, block_length: u32) -> Result<Payload, Fail>
+        requires { block_length ≤ 4096 }
+        ensures { IfOk result (λ bytes. length bytes ≤ 8_388_608) }
+    {
+        if self.writes {
+            self.blocks(alloc, block_length)
+        } else {
+            Ok(Payload::new())
+        }
+    }
+
+    /// The act that is asked for.
+    fn act(&self, alloc: Global, block_length: u32) -> Result<Act, Fail>
+        requires { block_length ≤ 4096 }
+        ensures { IfOk result (IsPlainAct block_length) }
+    {
+        let lba = u64::from(self.lba);
+        let count = u32::from(self.count);
+        if !self.writes {
+            return Ok(Act::Read { lba, count });
+        }
+        let bytes = self.blocks(alloc, block_length)?;
+        let list = BlockList::from_payload(alloc, block_length, count, bytes)?;
+        Ok(Act::Write { lba, list })
+    }
+}
+
+/// What an initiator did: how many entries it made, and its command that waits.
+#[derive(Drop, Clone, Copy)]
+struct Initiator {
+    seq: u64,
+    waiting: Option<Command>,
+}
+
+/// A trace, the history that it makes, and the replies that are wanted.
+#[derive(Drop)]
+struct Trace {
+    bytes: Bytes,
+    history: History,
+    initiators: [Initiator; 3],
+    replies: Bytes,
+}
+
+/// Two units of a few blocks, of which not all may be mapped.
+fn two_units(alloc: Global) -> Result<Config, Fail> {
+    let small = UnitConfig {
+        blocks: 5,
+        block_length: 512,
+        entries: 1000,
+        quota: 3,
+        payload: 1_000_000,
+        group: 0,
+    };
+    let large = UnitConfig {
+        blocks: 7,
+        block_length: 4096,
+        entries: 1000,
+        quota: 5,
+        payload: 1_000_000,
+        group: 0,
+    };
+    Ok(Config::new([7; 32], UnitList::copy(alloc, &[small, large])?))
+}
+
+/// Adds the reply to an answer.
+fn reply(alloc: Global, replies: &mut Bytes, initiator: u32, answer: Answer) -> Result<(), Fail> {
+    replies.extend(&initiator.to_be_bytes())?;
+    match answer {
+        Answer::Blocks(list) => {
+            let mut data = Bytes::empty(alloc);
+            list.read_into(&mut data)?;
+            replies.extend(&[0x00, 0x00])?;
+            replies.extend(&(data.len() as u64).to_be_bytes()[4..])?;
+            replies.extend(data.as_slice())?;
+        }
+        Answer::Refused(sense) => {
+            replies.extend(&[0x02, 0x12, 0, 0, 0, 0])?;
+            replies.extend(&sense.to_bytes())?;
+        }
+        _ => replies.extend(&[0x00, 0x00, 0, 0, 0, 0])?,
+    }
+    Ok(())
+}
+
+/// Adds an entry to the end.
+fn append(config: &Config, history: &mut History, entry: Entry) -> Result<(), Fail>
+    requires act { IsPlainAct (unit_of config.now entry.unit).block_length entry.act }
+    requires plain { (unit : ℕ) → ArePlain config.now unit history.old.entries }
+    ensures { OnOk result ((unit : ℕ) → ArePlain config.now unit history.new.entries) }
+{
+    let _config = config;
+    history.reserve(1)?;
+    history.append(entry);
+    Ok(())
+}
+
+impl Trace {
+    fn empty(alloc: Global, config: &Config) -> Result<Trace, Fail>
+        ensures { IfOk result (λ trace. (unit : ℕ) → ArePlain config.now unit trace.history.entries) }
+    {
+        let idle = Initiator {
+            seq: 0,
+            waiting: None,
+        };
+        Ok(Trace {
+            bytes: write_header(alloc, config)?,
+            history: History::empty(alloc),
+            initiators: [idle; 3],
+            replies: Bytes::empty(alloc),
+        })
+    }
+
+    /// Adds the Begin of a command.
+    fn begin(
+        &mut self,
+        alloc: Global,
+        config: &Config,
+        initiator: u32,
+        moment: u64,
+        command: Command,
+    ) -> Result<(), Fail>
+        requires configured { command.unit < length config.now.units }
+        requires plain { (unit : ℕ) → ArePlain config.now unit self.old.history.entries }
+        ensures { OnOk result ((unit : ℕ) → ArePlain config.now unit self.new.history.entries) }
+    {
+        let unit = command.unit;
+        let out = command.out(alloc, config.unit(unit).block_length)?;
+        let request = Request {
+            unit,
+            cdb: command.cdb(),
+            out,
+        };
+        let item = TraceItem::Begin {
+            initiator,
+            moment,
+            request,
+        };
+        self.bytes.extend(write_item(alloc, &item)?.as_slice())?;
+        Ok(())
+    }
+
+    /// Adds the Run of a command, with the reply that is wanted, and notes its act.
+    fn run(
+        &mut self,
+        alloc: Global,
+        config: &Config,
+        initiator: u32,
+        seq: u64,
+        moment: u64,
+        command: Command,
+    ) -> Result<(), Fail>
+        requires configured { command.unit < length config.now.units }
+        requires plain { (unit : ℕ) → ArePlain config.now unit self.old.history.entries }
+        ensures { OnOk result ((unit : ℕ) → ArePlain config.now unit self.new.history.entries) }
+    {
+        let unit = command.unit;
+        let actor = Actor::Nexus(initiator);
+        let act = command.act(alloc, config.unit(unit).block_length)?;
+        let item = TraceItem::Run { initiator, moment };
+        self.bytes.extend(write_item(alloc, &item)?.as_slice())?;
+        let answer = plain_answer(alloc, config, &self.history, unit, actor, moment, &act)?;
+        reply(alloc, &mut self.replies, initiator, answer)?;
+        let entry = Entry {
+            stamp: (self.history.len() as u64).saturating_add(1),
+            unit,
+            actor,
+            seq,
+            moment,
+            act,
+        };
+        append(config, &mut self.history, entry)
+    }
+
+    /// Adds an item of one of the initiators: the Run of its command that waits, or a Begin.
+    fn step(&mut self, alloc: Global, config: &Config, random: &mut Generator) -> Result<(), Fail>
+        requires plain { (unit : ℕ) → ArePlain config.now unit self.old.history.entries }
+        ensures { OnOk result ((unit : ℕ) → ArePlain config.now unit self.new.history.entries) }
+    {
+        let number = random.below(3);
+        let moment = u64::from(random.below(9));
+        let place = number as usize;
+        let Initiator { seq, waiting } = self.initiators[place];
+        match waiting {
+            Some(command) if config.is_configured(command.unit) => {
+                self.initiators[place] = Initiator {
+                    seq: seq.saturating_add(1),
+                    waiting: None,
+                };
+                self.run(alloc, config, number, seq, moment, command)
+            }
+            _ => {
+                let command = Command::random(config, random);
+                self.initiators[place].waiting = Some(command);
+                self.begin(alloc, config, number, moment, command)
+            }
+        }
+    }
+
+    /// A random trace.
+    fn random(alloc: Global, config: &Config, seed: u64) -> Result<Trace, Fail> {
+        let mut random = Generator { state: seed };
+        let mut trace = Trace::empty(alloc, config)?;
+        for _ in 0..ITEMS {
+            trace.step(alloc, config, &mut random)?;
+        }
+        Ok(trace)
+    }
+}
+
+#[test]
+fn random_traces(rt: HostRuntime) -> Result<(), Fail> {
+    let alloc = rt.alloc();
+    let config = two_units(alloc)?;
+    let mut words = Vec::new(alloc);
+    words.push(Word::from_text(alloc, "replay")?)?;
+    for seed in 1..=8 {
+        let trace = Trace::random(alloc, &config, seed)?;
+        let replies = trace.replies;
+        let mut input = MemorySource::new(trace.bytes, 100, CallList::empty(alloc));
+        let mut output = MemorySink::new(alloc, 100, CallList::empty(alloc));
+        let status = top(alloc, &words, &mut input, &mut output);
+        assert!(rt; status == Status::Done, "seed {seed}: {status}");
+        assert!(rt; output.as_slice() == replies.as_slice(), "seed {seed}");
+    }
+    Ok(())
+}
