@@ -1,4 +1,4 @@
-use Rattle.std.proofs.Common.{◌≡◌, length, ℕ}
+use Rattle.std.proofs.Common.{◌≡◌, length}
 use Rattle.rod_store.specs.Kept.{live}
 use Rattle.rod_store.proofs.tests.settle.Given as goal
 
