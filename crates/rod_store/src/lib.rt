@@ -1,0 +1,14 @@
+// The tokens that a unit made: which are live, what each stands for, and which redeem is refused.
+#![tactic(auto)]
+
+mod judge;
+mod kept;
+mod refusals;
+mod store;
+mod walks;
+
+pub use kept::{Kept, Standing};
+pub use store::{Populated, RodStore};
+
+#[cfg(test)]
+mod tests;
