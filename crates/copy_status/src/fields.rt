@@ -29,6 +29,8 @@ impl Model for StatusFields {
 }
 
 impl StatusFields {
+    /// The status of an operation that moved `count` blocks, at most 1,048,576: a POPULATE TOKEN, or
+    /// otherwise a WRITE USING TOKEN. It takes no memory.
     pub fn new(populate: bool, status: OperationStatus, count: u64) -> StatusFields
         requires { count ≤ 1_048_576 }
         ensures { result ≡ told populate status count }

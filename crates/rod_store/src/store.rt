@@ -113,7 +113,8 @@ impl<K: Drop> RodStore<K> {
     /// Makes a token of so many blocks at the moment, in seconds; it lives for the timeout after
     /// its last use. Where 64 are live, the one that was used least lately makes room, and its
     /// value is handed back. At `OutOfMemory`, which comes only where there is no room, the store
-    /// is as before, and the value is handed back.
+    /// is as before, and the value is handed back. No token may be left to expire at the moment, and
+    /// serials lie below 2^48.
     pub fn populate(
         &mut self,
         moment: u64,
@@ -190,7 +191,7 @@ impl<K: Drop> RodStore<K> {
 
     /// Redeems the token that the text names at the moment, in seconds, for the target unit: its
     /// time begins anew. `peek` tells its value. After a refusal, which is that of `peek`, the
-    /// store is as before. It takes no memory.
+    /// store is as before. No token may be left to expire at the moment. It takes no memory.
     pub fn redeem(
         &mut self,
         config: &Config,

@@ -101,6 +101,41 @@ fn copy_status_1(id: u8, length: u32) -> [u8; 16]
     bytes
 }
 
+fn extended_copy(length: u32) -> [u8; 16]
+    ensures { result ≡ encoded (Cdb.ExtendedCopy length) }
+{
+    let action = opcode::EXTENDED_COPY_LID1;
+    with_length(opcode::THIRD_PARTY_COPY_OUT, action, length)
+}
+
+fn copy_abort(id: u32) -> [u8; 16]
+    ensures { result ≡ encoded (Cdb.CopyAbort id) }
+{
+    let action = opcode::COPY_OPERATION_ABORT;
+    for_operation(opcode::THIRD_PARTY_COPY_OUT, action, id, 0)
+}
+
+fn copy_parameters(length: u32) -> [u8; 16]
+    ensures { result ≡ encoded (Cdb.CopyParameters length) }
+{
+    let action = opcode::COPY_OPERATING_PARAMETERS;
+    with_length(opcode::THIRD_PARTY_COPY_IN, action, length)
+}
+
+fn copy_status_4(id: u32, length: u32) -> [u8; 16]
+    ensures { result ≡ encoded (Cdb.CopyStatus4 id length) }
+{
+    let action = opcode::COPY_STATUS_LID4;
+    for_operation(opcode::THIRD_PARTY_COPY_IN, action, id, length)
+}
+
+fn token_information(id: u32, length: u32) -> [u8; 16]
+    ensures { result ≡ encoded (Cdb.TokenInformation id length) }
+{
+    let action = opcode::ROD_TOKEN_INFORMATION;
+    for_operation(opcode::THIRD_PARTY_COPY_IN, action, id, length)
+}
+
 /// How a command is spelled: READ and WRITE in 16 bytes, the others in their only form, a shorter
 /// CDB being followed by zeros. Every bit that is not named is zero.
 pub fn encode(cdb: &Cdb) -> [u8; 16]
@@ -108,7 +143,7 @@ pub fn encode(cdb: &Cdb) -> [u8; 16]
     ensures spelled { result ≡ encoded cdb.now }
     ensures read_back { decoded result ≡ Ok cdb.now }
 {
-    use opcode::{SERVICE_ACTION_IN_16, THIRD_PARTY_COPY_IN, THIRD_PARTY_COPY_OUT};
+    use opcode::SERVICE_ACTION_IN_16 as IN_16;
     match *cdb {
         Cdb::TestUnitReady => bare(opcode::TEST_UNIT_READY, 0),
         Cdb::RequestSense { length } => request_sense(length),
@@ -118,38 +153,15 @@ pub fn encode(cdb: &Cdb) -> [u8; 16]
         Cdb::Unmap { length } => unmap(length),
         Cdb::ReadCapacity10 => bare(opcode::READ_CAPACITY_10, 0),
         Cdb::ReportLuns { length } => report_luns(length),
-        Cdb::ReadCapacity16 { length } => {
-            with_length(SERVICE_ACTION_IN_16, opcode::READ_CAPACITY_16, length)
-        }
-        Cdb::GetLbaStatus { lba, length } => {
-            with_lba(SERVICE_ACTION_IN_16, opcode::GET_LBA_STATUS, lba, length)
-        }
-        Cdb::ExtendedCopy { length } => {
-            with_length(THIRD_PARTY_COPY_OUT, opcode::EXTENDED_COPY_LID1, length)
-        }
+        Cdb::ReadCapacity16 { length } => with_length(IN_16, opcode::READ_CAPACITY_16, length),
+        Cdb::GetLbaStatus { lba, length } => with_lba(IN_16, opcode::GET_LBA_STATUS, lba, length),
+        Cdb::ExtendedCopy { length } => extended_copy(length),
         Cdb::PopulateToken { id, length } => for_token(opcode::POPULATE_TOKEN, id, length),
         Cdb::WriteUsingToken { id, length } => for_token(opcode::WRITE_USING_TOKEN, id, length),
-        Cdb::CopyAbort { id } => {
-            for_operation(THIRD_PARTY_COPY_OUT, opcode::COPY_OPERATION_ABORT, id, 0)
-        }
+        Cdb::CopyAbort { id } => copy_abort(id),
         Cdb::CopyStatus1 { id, length } => copy_status_1(id, length),
-        Cdb::CopyParameters { length } => {
-            with_length(
-                THIRD_PARTY_COPY_IN,
-                opcode::COPY_OPERATING_PARAMETERS,
-                length,
-            )
-        }
-        Cdb::CopyStatus4 { id, length } => {
-            for_operation(THIRD_PARTY_COPY_IN, opcode::COPY_STATUS_LID4, id, length)
-        }
-        Cdb::TokenInformation { id, length } => {
-            for_operation(
-                THIRD_PARTY_COPY_IN,
-                opcode::ROD_TOKEN_INFORMATION,
-                id,
-                length,
-            )
-        }
+        Cdb::CopyParameters { length } => copy_parameters(length),
+        Cdb::CopyStatus4 { id, length } => copy_status_4(id, length),
+        Cdb::TokenInformation { id, length } => token_information(id, length),
     }
 }

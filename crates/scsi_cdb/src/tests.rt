@@ -9,125 +9,126 @@ fn padded(cdb: &[u8]) -> [u8; 16] {
     bytes
 }
 
-/// CDBs by SPC-4 and SBC-3, what they ask for, and whether that is spelled by the same bytes.
+/// The bytes ask for this command, and the command is spelled by them where `spelled` says so.
+fn agrees(bytes: &[u8], wanted: &Cdb, spelled: bool) -> Result<bool, Sense> {
+    let bytes = padded(bytes);
+    let cdb = decode(&bytes)?;
+    Ok(cdb == *wanted && (!spelled || encode(&cdb) == bytes))
+}
+
+fn inquiry(page: u8, length: u16) -> Cdb {
+    Cdb::Inquiry {
+        evpd: true,
+        page,
+        length,
+    }
+}
+
+fn read(lba: u64, count: u32) -> Cdb {
+    Cdb::Read { lba, count }
+}
+
+fn write(lba: u64, count: u32) -> Cdb {
+    Cdb::Write { lba, count }
+}
+
+fn populate(id: u32, length: u32) -> Cdb {
+    Cdb::PopulateToken { id, length }
+}
+
+fn write_using(id: u32, length: u32) -> Cdb {
+    Cdb::WriteUsingToken { id, length }
+}
+
+fn copy_status(id: u32, length: u32) -> Cdb {
+    Cdb::CopyStatus4 { id, length }
+}
+
+fn token_information(id: u32, length: u32) -> Cdb {
+    Cdb::TokenInformation { id, length }
+}
+
+fn lba_status(lba: u64, length: u32) -> Cdb {
+    Cdb::GetLbaStatus { lba, length }
+}
+
+/// CDBs by SPC-4 and SBC-3 about a unit.
 #[test]
-fn cdbs_of_the_standards(rt: HostRuntime) -> Result<(), Sense> {
-    let known: [(&[u8], Cdb, bool); 22] = [
-        (b"\x00", Cdb::TestUnitReady, true),
-        (b"\x03\0\0\0\x12", Cdb::RequestSense { length: 18 }, true),
-        (
-            b"\x12\x01\x83\x01\x00",
-            Cdb::Inquiry {
-                evpd: true,
-                page: 0x83,
-                length: 256,
-            },
-            true,
-        ),
-        (b"\x25", Cdb::ReadCapacity10, true),
+fn inquiries_of_the_standards(rt: HostRuntime) -> Result<(), Sense> {
+    let sense: &[u8] = b"\x03\0\0\0\x12";
+    assert!(rt; agrees(b"\x00", &Cdb::TestUnitReady, true)?);
+    assert!(rt; agrees(sense, &Cdb::RequestSense { length: 18 }, true)?);
+    assert!(rt; agrees(b"\x12\x01\x83\x01\x00", &inquiry(0x83, 256), true)?);
+    assert!(rt; agrees(b"\x25", &Cdb::ReadCapacity10, true)?);
+    let capacity: &[u8] = b"\x9e\x10\0\0\0\0\0\0\0\0\0\0\0\x20";
+    assert!(rt; agrees(capacity, &Cdb::ReadCapacity16 { length: 32 }, true)?);
+    let status: &[u8] = b"\x9e\x12\0\0\0\0\0\0\0\x05\0\0\0\x18";
+    assert!(rt; agrees(status, &lba_status(5, 24), true)?);
+    let units: &[u8] = b"\xa0\0\x02\0\0\0\0\0\x01\0";
+    assert!(rt; agrees(units, &Cdb::ReportLuns { length: 256 }, false)?);
+    Ok(())
+}
+
+/// CDBs by SBC-3 that read, write and unmap blocks.
+#[test]
+fn transfers_of_the_standards(rt: HostRuntime) -> Result<(), Sense> {
+    let long_read: &[u8] = b"\x88\0\0\0\0\x01\0\0\0\x02\0\0\0\x03";
+    let long_write: &[u8] = b"\x8a\0\xff\xff\xff\xff\xff\xff\xff\xff\0\0\x08\0";
+    let known: [(&[u8], Cdb, bool); 5] = [
         (
             b"\x28\x18\x12\x34\x56\x78\x1f\x08\x00",
-            Cdb::Read {
-                lba: 0x1234_5678,
-                count: 2048,
-            },
+            read(0x1234_5678, 2048),
             false,
         ),
-        (
-            b"\x88\0\0\0\0\x01\0\0\0\x02\0\0\0\x03",
-            Cdb::Read {
-                lba: 0x1_0000_0002,
-                count: 3,
-            },
-            true,
-        ),
-        (
-            b"\x2a\0\0\0\0\x07\0\0\x01",
-            Cdb::Write { lba: 7, count: 1 },
-            false,
-        ),
-        (
-            b"\x8a\0\xff\xff\xff\xff\xff\xff\xff\xff\0\0\x08\0",
-            Cdb::Write {
-                lba: u64::MAX,
-                count: 2048,
-            },
-            true,
-        ),
+        (long_read, read(0x1_0000_0002, 3), true),
+        (b"\x2a\0\0\0\0\x07\0\0\x01", write(7, 1), false),
+        (long_write, write(u64::MAX, 2048), true),
         (b"\x42\0\0\0\0\0\0\0\x18", Cdb::Unmap { length: 24 }, true),
-        (
-            b"\x83\x00\0\0\0\0\0\0\0\0\0\0\0\x5c",
-            Cdb::ExtendedCopy { length: 92 },
-            true,
-        ),
-        (
-            b"\x83\x10\0\0\0\0\xca\xfe\0\x01\0\0\0\x20",
-            Cdb::PopulateToken {
-                id: 0xcafe_0001,
-                length: 32,
-            },
-            true,
-        ),
-        (
-            b"\x83\x11\0\0\0\0\xca\xfe\0\x02\0\0\x02\x28",
-            Cdb::WriteUsingToken {
-                id: 0xcafe_0002,
-                length: 552,
-            },
-            true,
-        ),
-        (b"\x83\x1c\0\0\0\x07", Cdb::CopyAbort { id: 7 }, true),
-        (
-            b"\x84\x00\x07\0\0\0\0\0\0\0\0\0\0\x0c",
-            Cdb::CopyStatus1 { id: 7, length: 12 },
-            true,
-        ),
-        (
-            b"\x84\x03\0\0\0\0\0\0\0\0\0\0\0\x2e",
-            Cdb::CopyParameters { length: 46 },
-            true,
-        ),
-        (
-            b"\x84\x05\0\0\0\x07\0\0\0\0\0\0\0\x20",
-            Cdb::CopyStatus4 { id: 7, length: 32 },
-            true,
-        ),
-        (
-            b"\x84\x07\0\0\0\x07\0\0\0\0\0\0\x02\x26",
-            Cdb::TokenInformation { id: 7, length: 550 },
-            true,
-        ),
-        (
-            b"\x9e\x10\0\0\0\0\0\0\0\0\0\0\0\x20",
-            Cdb::ReadCapacity16 { length: 32 },
-            true,
-        ),
-        (
-            b"\x9e\x12\0\0\0\0\0\0\0\x05\0\0\0\x18",
-            Cdb::GetLbaStatus { lba: 5, length: 24 },
-            true,
-        ),
-        (
-            b"\xa0\0\x02\0\0\0\0\0\x01\0",
-            Cdb::ReportLuns { length: 256 },
-            false,
-        ),
-        // The bits above the service action, and all bytes after a CDB of 6, are ignored.
-        (b"\x9e\xf0", Cdb::ReadCapacity16 { length: 0 }, false),
-        (
-            b"\x00\xff\xff\xff\xff\xfb\xff\xff\xff\xff\xff\xff\xff\xff\xff\xff",
-            Cdb::TestUnitReady,
-            false,
-        ),
     ];
     for (bytes, wanted, spelled) in known {
-        let bytes = padded(bytes);
-        let cdb = decode(&bytes)?;
-        assert_eq!(rt; cdb, wanted);
-        if spelled {
-            assert_eq!(rt; encode(&cdb), bytes);
-        }
+        assert!(rt; agrees(bytes, &wanted, spelled)?);
     }
+    Ok(())
+}
+
+/// CDBs by SPC-4 that begin and abort copies.
+#[test]
+fn copies_of_the_standards(rt: HostRuntime) -> Result<(), Sense> {
+    let extended: &[u8] = b"\x83\x00\0\0\0\0\0\0\0\0\0\0\0\x5c";
+    assert!(rt; agrees(extended, &Cdb::ExtendedCopy { length: 92 }, true)?);
+    let populated: &[u8] = b"\x83\x10\0\0\0\0\xca\xfe\0\x01\0\0\0\x20";
+    assert!(rt; agrees(populated, &populate(0xcafe_0001, 32), true)?);
+    let written: &[u8] = b"\x83\x11\0\0\0\0\xca\xfe\0\x02\0\0\x02\x28";
+    assert!(rt; agrees(written, &write_using(0xcafe_0002, 552), true)?);
+    assert!(rt; agrees(b"\x83\x1c\0\0\0\x07", &Cdb::CopyAbort { id: 7 }, true)?);
+    Ok(())
+}
+
+/// CDBs by SPC-4 that ask about copies.
+#[test]
+fn reports_of_the_standards(rt: HostRuntime) -> Result<(), Sense> {
+    let status: &[u8] = b"\x84\x00\x07\0\0\0\0\0\0\0\0\0\0\x0c";
+    assert!(rt; agrees(status, &Cdb::CopyStatus1 { id: 7, length: 12 }, true)?);
+    let parameters: &[u8] = b"\x84\x03\0\0\0\0\0\0\0\0\0\0\0\x2e";
+    assert!(rt; agrees(parameters, &Cdb::CopyParameters { length: 46 }, true)?);
+    let status: &[u8] = b"\x84\x05\0\0\0\x07\0\0\0\0\0\0\0\x20";
+    assert!(rt; agrees(status, &copy_status(7, 32), true)?);
+    let token: &[u8] = b"\x84\x07\0\0\0\x07\0\0\0\0\0\0\x02\x26";
+    assert!(rt; agrees(token, &token_information(7, 550), true)?);
+    Ok(())
+}
+
+/// The bits above the service action, and all bytes after a CDB of 6, are ignored.
+#[test]
+fn some_bits_are_ignored(rt: HostRuntime) -> Result<(), Sense> {
+    assert!(rt; agrees(b"\x9e\xf0", &Cdb::ReadCapacity16 { length: 0 }, false)?);
+    let ready: &[u8] = b"\x00\xff\xff\xff\xff\xfb\xff\xff\xff\xff\xff\xff\xff\xff\xff\xff";
+    assert!(rt; agrees(ready, &Cdb::TestUnitReady, false)?);
+    Ok(())
+}
+
+#[test]
+fn some_cdbs_are_refused(rt: HostRuntime) {
     // PERSISTENT RESERVE IN, a copy service action, READ LONG (16).
     let unknown: [&[u8]; 3] = [b"\x5e", b"\x83\x1d", b"\x9e\x11"];
     for bytes in unknown {
@@ -151,5 +152,4 @@ fn cdbs_of_the_standards(rt: HostRuntime) -> Result<(), Sense> {
     for bytes in bad {
         assert_eq!(rt; decode(&padded(bytes)), Err(Sense::invalid_field_in_cdb()));
     }
-    Ok(())
 }

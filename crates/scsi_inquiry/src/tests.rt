@@ -18,7 +18,7 @@ fn largest() -> UnitConfig
     }
 }
 
-/// Each page by SPC-4 and SBC-3, and the data of a machine of one unit.
+/// Each page of INQUIRY by SPC-4 and SBC-3.
 #[test]
 fn pages_of_the_standards(rt: HostRuntime) -> Result<(), OutOfMemory> {
     let alloc = rt.alloc();
@@ -26,7 +26,6 @@ fn pages_of_the_standards(rt: HostRuntime) -> Result<(), OutOfMemory> {
         standard().as_slice(),
         b"\0\0\x06\x02\x1f\x08\0\0COPYMGR ROD TOKEN UNIT  0001".as_slice()
     );
-
     let pages: [(u8, &[u8]); 5] = [
         (0x00, b"\0\x00\0\x05\x00\x83\x8f\xb0\xb2"),
         (0x83, b"\0\x83\0\x0c\x01\x03\0\x08\x30\0\0\0\0\0\x01\x02"),
@@ -47,7 +46,13 @@ fn pages_of_the_standards(rt: HostRuntime) -> Result<(), OutOfMemory> {
         }
     }
     assert!(rt; vpd(alloc, 0, 0x80)?.is_none());
+    Ok(())
+}
 
+/// The data of a machine of one unit.
+#[test]
+fn data_of_one_unit(rt: HostRuntime) -> Result<(), OutOfMemory> {
+    let alloc = rt.alloc();
     let config = Config::new([0; 32], Sequence::from_vec(vec![in alloc; largest()]?));
     assert_eq!(rt; read_capacity10(&config, 0), *b"\xff\xff\xff\xff\0\0\x10\0");
     let capacity = read_capacity16(&config, 0);
@@ -59,9 +64,13 @@ fn pages_of_the_standards(rt: HostRuntime) -> Result<(), OutOfMemory> {
         report_luns(alloc, &config)?.as_slice(),
         b"\0\0\0\x08\0\0\0\0\0\0\0\0\0\0\0\0".as_slice()
     );
+    Ok(())
+}
 
+/// RECEIVE COPY OPERATING PARAMETERS by SPC-4.
+#[test]
+fn copy_parameters_of_the_standard(rt: HostRuntime) {
     let wanted =
         b"\0\0\0\x2a\x01\0\0\0\0\x10\0\x40\0\0\x09\0\x0f\xff\xf0\0\0\0\0\0\0\0\0\0\0\0\0\0\0\0\0\x40\x40\x09\0\0\0\0\0\x02\x02\xe4";
     assert_eq!(rt; copy_parameters().as_slice(), wanted.as_slice());
-    Ok(())
 }

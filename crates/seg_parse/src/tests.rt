@@ -31,6 +31,16 @@ fn refusal(alloc: Global, list: &[u8]) -> (u8, u8) {
     code_of(fault)
 }
 
+/// A segment that writes to the second unit of a list of one.
+const TO_NO_UNIT: [(usize, u16); 6] = [
+    (2, 32),
+    (10, 28),
+    (16, 0xe400),
+    (48, 0x0200),
+    (50, 0x0018),
+    (54, 1),
+];
+
 /// Lists that were made to be refused, in the order of the checks.
 #[test]
 fn hostile_lists(rt: HostRuntime) -> Result<(), ParamFault> {
@@ -52,18 +62,7 @@ fn hostile_lists(rt: HostRuntime) -> Result<(), ParamFault> {
             &[(2, 32), (10, 28), (16, 0xe400), (48, 0x0300)],
             (0x26, 0x09),
         ),
-        (
-            76,
-            &[
-                (2, 32),
-                (10, 28),
-                (16, 0xe400),
-                (48, 0x0200),
-                (50, 0x0018),
-                (54, 1),
-            ],
-            (0x26, 0x00),
-        ),
+        (76, &TO_NO_UNIT, (0x26, 0x00)),
         (
             76,
             &[(2, 32), (10, 28), (16, 0xe400), (48, 0x0200), (50, 0x0018)],
@@ -74,9 +73,14 @@ fn hostile_lists(rt: HostRuntime) -> Result<(), ParamFault> {
         let list = list_of(alloc, size, numbers)?;
         assert_eq!(rt; refusal(alloc, &list), wanted, "list of {size}");
     }
+    Ok(())
+}
 
-    // List 7 without usage of its identifier, a unit with the name 3000000000000001h and blocks of
-    // 512 bytes, and 8 blocks of it from 1 to 2. The first list has STR, priority, PAD and CAT.
+/// List 7 without usage of its identifier, a unit with the name 3000000000000001h and blocks of
+/// 512 bytes, and 8 blocks of it from 1 to 2. The first list has STR, priority, PAD and CAT.
+#[test]
+fn list_of_the_standard(rt: HostRuntime) -> Result<(), ParamFault> {
+    let alloc = rt.alloc();
     let asked =
         b"\x07\x3e\0\x20\0\0\0\0\0\0\0\x1c\0\0\0\0\xe4\0\0\0\x01\x03\0\x08\x30\0\0\0\0\0\0\x01\0\0\0\0\0\0\0\0\0\0\0\0\x04\0\x02\0\x02\x01\0\x18\0\0\0\0\0\0\0\x08\0\0\0\0\0\0\0\x01\0\0\0\0\0\0\0\x02";
     let wanted =

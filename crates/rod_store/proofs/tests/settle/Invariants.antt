@@ -1,9 +1,9 @@
-use Rattle.std.proofs.Common.{◌≡◌, length, ℕ}
+use Rattle.std.proofs.Common.{◌≡◌, length}
 use Rattle.rod_store.specs.Kept.{live}
 use Rattle.rod_store.proofs.tests.settle.Given as goal
 
-abbrev pub invariant-loop-store : goal.invariant-loop-store
-invariant-loop-store l = (l.store.unit ≡ l.initial.store.unit) × (length l.store.tokens ≡ length l.initial.store.tokens)
+abbrev pub invariant-loop-count : goal.invariant-loop-count
+invariant-loop-count l = (l.store.unit ≡ l.initial.store.unit) × (length l.store.tokens ≡ length l.initial.store.tokens)
 
-abbrev pub decreases-loop-store : goal.decreases-loop-store
-decreases-loop-store l = length (live l.store.tokens)
+abbrev pub decreases-loop-count : goal.decreases-loop-count
+decreases-loop-count l = length (live l.store.tokens)
