@@ -42,9 +42,11 @@ use Rattle.copy_jobs.specs.Jobs as jobs
 use Rattle.copy_jobs.specs.Pieces as next
 use Rattle.copy_jobs.specs.Reports as reports
 use Rattle.rod_store.specs.declared.kept.Kept.{Kept}
-use Rattle.rod_store.specs.declared.kept.Standing.{Standing}
 use Rattle.rod_store.specs.Judging.{judged, judged_token, judged_standing}
 use Rattle.unit_core.specs.Tables.{key_of, kept_of, tokens_of, standing_of, job_of, jobs_of, work_of}
+use Rattle.cm_history.specs.History.{past_of}
+use Rattle.unit_core.specs.Standing.{Standing}
+use Rattle.unit_core.specs.Acting.{MayRedeem}
 use Rattle.unit_core.specs.Planning.{quiet, IsPlan, WritesPiece}
 use Rattle.lba_ranges.proofs.Rows.{length-blocks_of}
 use Rattle.unit_core.specs.declared.block_change.BlockChange.{BlockChange}
@@ -102,6 +104,19 @@ pub redeem-is : (config : Configuration) (unit : ℕ) (past : List Deed) (actor 
 redeem-is config unit past actor at text target =
     token-is config unit (max at (moment past)) text target (slice_get (tokens past) (serial_of text))
     ∙ ap (λ o. answer_of (judged_token config unit (max at (moment past)) text target o)) (sym (get-map (kept_of (unit_of config unit)) (tokens past) (serial_of text)))
+
+-- a live token that may be used is given
+pub redeem-given : (s : Standing) (actor : Actor) (at : ℕ) (text : List ℕ) (target : ℕ) (t : Token) → MayRedeem s at text target t
+    → answer_after s.config s.unit (past_of s.config s.unit s.entries) actor at (Act.Redeem text target) ≡ Answer.Rod (rod (unit_of s.config s.unit) t)
+redeem-given s actor at text target t may =
+    ap (redeemed s.config s.unit (max at (moment (past_of s.config s.unit s.entries))) text target) may.named
+    ∙ ap (λ b. if not b then Answer.Refused wrong_unit else if not (bytes_eq text (token_text s.config s.unit t.serial (total t.ranges))) then Answer.Refused altered else by_fate t.fate) may.alike
+    ∙ ap (λ b. if not b then Answer.Refused altered else by_fate t.fate) may.unaltered
+    ∙ ap by_fate may.live
+    ∙ ap (λ b. answer_by_fate (unit_of s.config s.unit) t (if b then Expired else Live)) may.in_time
+  where
+    by_fate : Fate → Answer
+    by_fate f = answer_by_fate (unit_of s.config s.unit) t (fate_at (max at (moment (past_of s.config s.unit s.entries))) t f)
 
 -- ---- a report
 

@@ -1,14 +1,18 @@
 -- One more act of a unit
-use Rattle.std.specs.Prelude.{ℕ, ◌+◌, List, length, filter, max, is_some, Bool, true, false}
+use Rattle.std.specs.Prelude.{◌≡◌, ℕ, ◌+◌, List, length, filter, max, Some, is_some, Bool, true, false}
+use Rattle.std.specs.Str.{bytes_eq}
+use Rattle.lba_ranges.specs.Denoted.{total}
+use Rattle.rod_token.specs.TokenText.{token_text}
+use Rattle.cm_history.specs.Redeeming.{are_alike, named_token}
 use Rattle.cm_base.specs.Units.{unit_of}
 use Rattle.cm_history.specs.declared.act.Act.{Act}
 use Rattle.cm_history.specs.declared.act.Actor.{Actor}
 use Rattle.cm_history.specs.declared.act.Entry.{Entry}
-use Rattle.cm_history.specs.Deeds.{Deed, last_stamp}
+use Rattle.cm_history.specs.Deeds.{Deed, last_stamp, moment}
 use Rattle.cm_history.specs.History.{past_of}
 use Rattle.cm_history.specs.Operations.{OfToken, OfCopy, would_serve}
 use Rattle.cm_history.specs.Answers.{is_busy}
-use Rattle.cm_history.specs.Tokens.{Token, tokens, is_live}
+use Rattle.cm_history.specs.Tokens.{Token, Live, tokens, is_live, is_over}
 use Rattle.cm_history.specs.Room.{is_full}
 use Rattle.unit_core.specs.Standing.{Standing}
 
@@ -45,3 +49,11 @@ is_busy_at s actor false id = is_busy (past s) actor OfToken id
 -- how many tokens are live
 abbrev pub live_at : Standing → ℕ
 live_at s = length (filter (λ (t : Token). is_live t.fate) (tokens (past s)))
+
+-- the text names a live token of the unit, unaltered, which may be used at the target
+pub record MayRedeem (s : Standing) (at : ℕ) (text : List ℕ) (target : ℕ) (t : Token) : Type 0 where
+  pub named : named_token (past s) text ≡ Some t
+  pub alike : are_alike (unit_of s.config s.unit) (unit_of s.config target) ≡ true
+  pub unaltered : bytes_eq text (token_text s.config s.unit t.serial (total t.ranges)) ≡ true
+  pub live : t.fate ≡ Live
+  pub in_time : is_over (max at (moment (past s))) t ≡ false

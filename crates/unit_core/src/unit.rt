@@ -1,4 +1,4 @@
-ghost use Rattle.std.specs.Prelude.{◌≡◌, ℕ, ◌+◌, ◌-◌, ◌<◌, ◌≤◌, ◌^◌, ◌++◌, ◌∷◌, [], length, max, IfOk, IfErr, OnOk, OnErr, true, false};
+ghost use Rattle.std.specs.Prelude.{◌≡◌, ℕ, List, ◌+◌, ◌-◌, ◌<◌, ◌≤◌, ◌^◌, ◌++◌, ◌∷◌, [], length, max, IfOk, IfErr, OnOk, OnErr, true, false};
 ghost use Rattle.cm_base.specs.Units.{unit_of};
 ghost use Rattle.cm_history.specs.Limits.{within_limits};
 ghost use Rattle.cm_history.specs.Legal.{may_ask};
@@ -6,7 +6,8 @@ ghost use Rattle.cm_history.specs.Deeds.{last_stamp};
 ghost use Rattle.cm_history.specs.Blocks.{mapped};
 ghost use Rattle.cm_history.specs.History.{on, answer};
 ghost use Rattle.unit_core.specs.Standing.{Standing};
-ghost use Rattle.unit_core.specs.Acting.{past, is_full_at, entry_at, serves_operation, ends_operation};
+ghost use Rattle.cm_history.specs.Tokens.{Token, rod};
+ghost use Rattle.unit_core.specs.Acting.{past, is_full_at, entry_at, serves_operation, ends_operation, MayRedeem};
 
 use crate::room::bytes_in;
 use crate::tables::Tables;
@@ -87,8 +88,8 @@ impl<B: Blocks + Drop> UnitOver<B> {
 
     /// Does an act, and keeps it as one more entry of the record. `stamp` is the caller's last stamp, `seq` the
     /// number of acts that the actor has done, and `moment` is in seconds. After either refusal the unit is as
-    /// before. An act that serves a running operation finds its entry kept free, and one that ends an operation
-    /// takes no memory.
+    /// before. An act that serves a running operation finds its entry kept free, one that ends an operation takes no
+    /// memory, and a live token that may be used at the target is never refused.
     pub fn act(
         &mut self,
         actor: Actor,
@@ -106,6 +107,8 @@ impl<B: Blocks + Drop> UnitOver<B> {
         ensures full { IfErr result (λ e. e ≡ ActRefused.Full → is_full_at self.old actor stamp act ≡ true) }
         ensures serves { IfErr result (λ e. e ≡ ActRefused.Full → serves_operation self.old actor act ≡ true
             → max stamp (last_stamp (past self.old)) ≡ 2 ^ 64 - 1) }
+        ensures redeems { IfOk result (λ a. (text : List ℕ) (target : ℕ) (t : Token) → act ≡ Act.Redeem text target
+            → MayRedeem self.old moment text target t → a ≡ Answer.Rod (rod (unit_of self.old.config self.old.unit) t)) }
         ensures refused { OnErr result (self.new ≡ self.old) }
         ensures ends { IfErr result (λ e. e ≡ ActRefused.OutOfMemory → ends_operation self.old actor act ≡ false) }
     {

@@ -40,13 +40,14 @@ use Rattle.cm_history.specs.Deeds.{Deed, moment}
 use Rattle.cm_history.specs.Answers.{deed}
 use Rattle.cm_history.specs.Room.{is_full, reserved, need}
 use Rattle.rod_store.specs.declared.kept.Kept.{Kept}
-use Rattle.unit_core.specs.Acting.{ends}
+use Rattle.cm_history.specs.Answers.{answer_after}
+use Rattle.unit_core.specs.Acting.{ends, MayRedeem}
 use Rattle.unit_core.specs.Agreeing.{IsAsked}
 use Rattle.unit_core.specs.TokenChanges.{MayToken, tokens_after}
 use Rattle.unit_core.proofs.Reserving.{reserved-is}
 use Rattle.unit_core.proofs.Rooms.{full-serving, need-served, reserved-step}
 use Rattle.unit_core.proofs.Planned.{ends-serves}
-use Rattle.unit_core.proofs.Wording.{some-there}
+use Rattle.unit_core.proofs.Wording.{some-there, redeem-given}
 use Rattle.unit_core.proofs.Steps.{Done, agrees-step}
 use Rattle.unit_core.proofs.unit.UnitOver.act.Goals as goal
 
@@ -146,3 +147,12 @@ invariant_of-self-2 g c =
     (g.B.Blocks.blocks u.tables.blocks) (g.B.Blocks.block_length u.tables.blocks) (g.B.Blocks.blocks t.blocks) (g.B.Blocks.block_length t.blocks)
     (g.B.Blocks.holds u.tables.blocks) (g.B.Blocks.holds t.blocks) u.tables.tokens t.tokens u.tables.jobs t.jobs u.last_stamp u.moment u.payload c.max-now.result (u.payload + c.bytes_in.result)
     c.self.invariant refl asked full done spare c.max-now.ensures (ap (λ n. u.payload + n) c.bytes_in.ensures))
+
+pub returns-clause-redeems : goal.returns-clause-redeems
+returns-clause-redeems g c =
+    let u = c.self.inside in
+    let past = past_of u.config u.unit u.history.entries in
+    let planned : IsPlan u.config u.unit past c.args.actor c.args.moment c.args.act c.in_ok-plan.plan = rw (← c.self.view_is) at c.in_ok-plan.ensures.planned in
+    λ text target t e may. (let may' : MayRedeem (record { config = u.config; unit = u.unit; entries = u.history.entries }) c.args.moment text target t = rw (← c.self.view_is) at may in
+    rw (← c.self.view_is) (c.in_ok-answer.ensures.answer ∙ planned.answer ∙ ap (answer_after u.config u.unit past c.args.actor c.args.moment) e
+    ∙ redeem-given (record { config = u.config; unit = u.unit; entries = u.history.entries }) c.args.actor c.args.moment text target t may'))
