@@ -16,7 +16,6 @@ pub mod Needed
 pub mod Laws
 pub mod Merged
 pub mod Image
-pub mod Known
 pub mod PlainWritings
 pub mod Plain
 pub mod PlainHolds

@@ -1,7 +1,10 @@
 -- A command that gave up for want of memory ends BUSY
 use Rattle.std.proofs.Common.{◌≡◌, List, [], ◌∷◌, ◌++◌, refl, subst, sym, false, true}
-use Rattle.std.specs.Prelude.{fold, cond, Bool, Option, Some, None, Result, Ok, Err}
-use Rattle.scsi_sense.specs.Codes.{no_such_unit}
+use Rattle.std.specs.Prelude.{ℕ, ◌==◌, take, fold, cond, Bool, Option, Some, None, Result, Ok, Err}
+use Rattle.scsi_sense.specs.Codes.{no_such_unit, bad_cdb}
+use Rattle.lba_ranges.specs.declared.ranges.Range.{Range}
+use Rattle.block_params.specs.ListsRead.{unmap_read}
+use Rattle.scsi_inquiry.specs.UnitData.{vpd, standard}
 use Rattle.cm_base.specs.Configuration.{Configuration}
 use Rattle.cm_base.specs.Units.{is_configured}
 use Rattle.scsi_sense.specs.SenseCode.{SenseCode}
@@ -12,8 +15,8 @@ use Rattle.cm_frame.specs.declared.frame.Reply.{Reply}
 use Rattle.cm_history.specs.declared.answer.Answer.{Answer}
 use Rattle.cmd_program.specs.declared.step.Outcome.{Outcome}
 use Rattle.cmd_program.specs.Stepping.{gave_up, IsBusyAtEnd, EndsBusy}
-use Rattle.cmd_program.specs.Program.{Ask, Program, Ends, Asks, GivesUp, next, moved, give_up, go_on_by, refused, unless_refused, done}
-use Rattle.cmd_program.specs.SingleActs.{told_read}
+use Rattle.cmd_program.specs.Program.{Ask, Program, Ends, Asks, GivesUp, next, moved, give_up, go_on_by, good, refused, unless_refused, done}
+use Rattle.cmd_program.specs.SingleActs.{told_read, told_map, inquiry, unmap, page_told}
 use Rattle.cmd_program.specs.Judging.{step, program, judged_cdb, judged_out}
 
 -- the program has not given up, whatever it is answered
@@ -90,10 +93,40 @@ out-open : (config : Configuration) (r : Request) (cdb : Cdb) (fault : Option Se
 out-open config r cdb (Some sense) opens = tt
 out-open config r cdb None opens = opens
 
+map-open : (room : ℕ) (a : Answer) → IsOpen (told_map room a)
+map-open room (Answer.Status runs) = tt
+map-open room (Answer.Refused sense) = tt
+map-open room _ = tt
+
+page-open : (room : ℕ) (page : Option (List ℕ)) → IsOpen (page_told room page)
+page-open room None = tt
+page-open room (Some page) = tt
+
+inquiry-open : (unit : ℕ) (evpd : Bool) (page room : ℕ) → IsOpen (inquiry unit evpd page room)
+inquiry-open unit true page room = page-open room (vpd unit page)
+inquiry-open unit false page room = go (page == 0)
+  where
+    go : (b : Bool) → IsOpen (cond b (good (take room standard)) (refused bad_cdb))
+    go true = tt
+    go false = tt
+
+unmap-open : (unit : ℕ) (ranges : Result (List Range) SenseCode) → IsOpen (unmap unit ranges)
+unmap-open unit (Err sense) = tt
+unmap-open unit (Ok ranges) = λ a. unless_refused-open done a tt
+
 cdb-open : (config : Configuration) (r : Request) (cdb : Result Cdb SenseCode) → IsOpen (judged_cdb config r cdb)
 cdb-open config r (Err sense) = tt
 cdb-open config r (Ok (Cdb.Read lba count)) = out-open config r (Cdb.Read lba count) _ read-open
 cdb-open config r (Ok (Cdb.Write lba count)) = out-open config r (Cdb.Write lba count) _ (λ a. unless_refused-open done a tt)
+cdb-open config r (Ok Cdb.TestUnitReady) = out-open config r Cdb.TestUnitReady _ tt
+cdb-open config r (Ok (Cdb.RequestSense room)) = out-open config r (Cdb.RequestSense room) _ tt
+cdb-open config r (Ok (Cdb.Inquiry evpd page room)) = out-open config r (Cdb.Inquiry evpd page room) _ (inquiry-open r.unit evpd page room)
+cdb-open config r (Ok (Cdb.Unmap length)) = out-open config r (Cdb.Unmap length) _ (unmap-open r.unit (unmap_read r.out))
+cdb-open config r (Ok Cdb.ReadCapacity10) = out-open config r Cdb.ReadCapacity10 _ tt
+cdb-open config r (Ok (Cdb.ReadCapacity16 room)) = out-open config r (Cdb.ReadCapacity16 room) _ tt
+cdb-open config r (Ok (Cdb.GetLbaStatus lba room)) = out-open config r (Cdb.GetLbaStatus lba room) _ (map-open room)
+cdb-open config r (Ok (Cdb.ReportLuns room)) = out-open config r (Cdb.ReportLuns room) _ tt
+cdb-open config r (Ok (Cdb.CopyParameters room)) = out-open config r (Cdb.CopyParameters room) _ tt
 cdb-open config r (Ok _) = tt
 
 pub program-open : (config : Configuration) (r : Request) → IsOpen (program config r)

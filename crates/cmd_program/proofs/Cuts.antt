@@ -5,13 +5,11 @@ use Rattle.std.specs.List.{list_all}
 use Rattle.std.proofs.Math.Nat.{div-eq_of_eq-mul_left}
 use Rattle.std.proofs.Common.{sym, ◌∙◌}
 use Rattle.std.proofs.lemmas.Bool.{eq-eqb, le-leb}
-use Rattle.std.specs.Prelude.{◌==◌, nat_le, if◌then◌else◌}
+use Rattle.std.specs.Prelude.{◌==◌, nat_le}
 use Rattle.cm_base.specs.Configuration.{Configuration}
 use Rattle.cm_base.specs.Units.{unit_of}
-use Rattle.scsi_sense.specs.Codes.{bad_cdb}
 use Rattle.cm_history.specs.declared.act.Act.{Act}
 use Rattle.cm_history.specs.Limits.{within_limits}
-use Rattle.cmd_program.specs.Program.{refused}
 use Rattle.cmd_program.specs.SingleActs.{act_alone, blocks_in}
 use Rattle.lba_ranges.specs.HeldBlocks.{HeldBlocks, cut}
 
@@ -30,14 +28,11 @@ count-of size n all some is = div-eq_of_eq-mul_left some is
 -- ---- a WRITE of the blocks that its data is cut into
 
 pub write-program : (unit lba count size : ℕ) (out : List ℕ) (list : HeldBlocks) → 0 < size → length out ≡ count * size
-    → list ≡ record { block_length = size; items = cut size count out }
-    → act_alone unit (Act.Write lba list)
-    ≡ (if length out == count * size then act_alone unit (Act.Write lba (blocks_in size out)) else refused bad_cdb)
+    → list ≡ record { block_length = size; items = cut size count out } → act_alone unit (Act.Write lba list) ≡ act_alone unit (Act.Write lba (blocks_in size out))
 write-program unit lba count size out list some is blocks =
-    let test : (length out == count * size) ≡ true = eq-eqb (length out) (count * size) is in
     let counted = count-of size count (length out) some is in
     let same : list ≡ blocks_in size out = blocks ∙ ap (λ n. record { block_length = size; items = cut size n out }) (sym counted) in
-    rw test (ap (λ l. act_alone unit (Act.Write lba l)) same)
+    ap (λ l. act_alone unit (Act.Write lba l)) same
 
 pub write-limits : (config : Configuration) (unit lba count size : ℕ) (out : List ℕ) (list : HeldBlocks) → count ≤ 2048
     → (unit_of config unit).block_length ≡ size → list ≡ record { block_length = size; items = cut size count out }

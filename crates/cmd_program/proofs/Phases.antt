@@ -5,7 +5,7 @@ use Rattle.cm_history.specs.declared.answer.Answer.{Answer}
 use Rattle.cmd_program.specs.declared.command.Command.{Command}
 use Rattle.cmd_program.specs.declared.step.Outcome.{Outcome}
 use Rattle.cmd_program.specs.Program.{Program, next}
-use Rattle.cmd_program.specs.declared.command.Phase.{Phase}
+use Rattle.cmd_program.specs.declared.phase.Phase.{Phase}
 use Rattle.cmd_program.specs.Meaning.{by_phase, MayFollow, IsNotable, IsAnswerTo}
 use Rattle.cmd_program.proofs.Busy.{HasGivenUp}
 
@@ -13,6 +13,10 @@ pub phase-gave-up : (phase : Phase) → HasGivenUp (by_phase phase) → (full : 
 phase-gave-up (Phase.Reading unit lba count) given = absurd given
 phase-gave-up (Phase.Read list) given = absurd given
 phase-gave-up (Phase.Writing unit lba list) given = absurd given
+phase-gave-up (Phase.Unmapping unit ranges) given = absurd given
+phase-gave-up (Phase.Mapping unit lba room) given = absurd given
+phase-gave-up (Phase.Mapped room runs) given = absurd given
+phase-gave-up (Phase.Told bytes) given = absurd given
 phase-gave-up Phase.Ended given = absurd given
 phase-gave-up (Phase.Refused sense) given = absurd given
 phase-gave-up Phase.Odd given = absurd given
@@ -29,6 +33,11 @@ notable-answer config command answer is =
     go (Phase.Reading unit lba count) _ follows = tt
     go (Phase.Read list) a follows = tt
     go (Phase.Writing unit lba list) a follows = tt
+    go (Phase.Unmapping unit ranges) a follows = tt
+    go (Phase.Mapping unit lba room) (Answer.Status runs) follows = follows
+    go (Phase.Mapping unit lba room) _ follows = tt
+    go (Phase.Mapped room runs) a follows = tt
+    go (Phase.Told bytes) a follows = tt
     go Phase.Ended a follows = tt
     go (Phase.Refused sense) a follows = tt
     go Phase.Odd a follows = tt

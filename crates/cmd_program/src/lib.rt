@@ -1,8 +1,14 @@
 // Commands, as programs of acts.
 #![tactic(auto)]
 
+mod blocks;
 mod command;
+mod fixed;
+mod judging;
+mod map_status;
+mod phase;
 mod step;
+mod unmap;
 
 pub use command::Command;
 pub use step::{Outcome, Step};

@@ -1,4 +1,4 @@
-ghost use Rattle.std.specs.Prelude.{◌≡◌, ◌<◌, length, IfOk};
+ghost use Rattle.std.specs.Prelude.{◌≡◌, ◌<◌, ◌≤◌, length, IfOk};
 ghost use Rattle.scsi_inquiry.specs.UnitData.{capacity10, capacity16, report_luns};
 
 use cm_base::{Bytes, Config, OutOfMemory, set_u32, set_u64};
@@ -34,7 +34,8 @@ pub fn read_capacity16(config: &Config, unit: u16) -> [u8; 32]
 
 /// The data of a REPORT LUNS (SPC-4): a LUN of eight bytes for each unit, by its number.
 pub fn report_luns(alloc: Global, config: &Config) -> Result<Bytes, OutOfMemory>
-    ensures { IfOk result (λ bytes. bytes ≡ report_luns config.now) }
+    ensures told { IfOk result (λ bytes. bytes ≡ report_luns config.now) }
+    ensures few { IfOk result (λ bytes. length bytes ≤ 136) }
 {
     let units = config.units();
     let mut head = [0; 8];

@@ -18,10 +18,12 @@ use Rattle.trace_replay.proofs.Telling.{any-append}
 
 none-of : (act : Act) → IsOutcomeOf act Outcome.NoMemory
 none-of (Act.Read lba count) = tt
+none-of (Act.MapStatus lba) = tt
 none-of _ = tt
 
 pub full-of : (act : Act) → IsOutcomeOf act Outcome.Full
 full-of (Act.Read lba count) = tt
+full-of (Act.MapStatus lba) = tt
 full-of _ = tt
 
 pub none-follows : (s : Step) → MayFollow s Outcome.NoMemory
