@@ -19,7 +19,6 @@ act-requires c = record {
   configured = c.requires.askable.configured;
   limits = c.requires.askable.limits;
   asked = c.requires.askable.asked c.args.initiator;
-  known = c.requires.askable.known;
 }
 
 pub returns-in-Ok : goal.returns-in-Ok
