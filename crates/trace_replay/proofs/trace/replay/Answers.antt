@@ -25,3 +25,8 @@ returns-in_err-player-clause-counted g c =
 pub returns-clause-counted : goal.returns-clause-counted
 returns-clause-counted g c =
     subst (λ n. IsCounted n (g.I.Source.read_faults c.play_all.new.input) (g.O.Sink.write_faults c.args.output.now) (g.O.Sink.write_faults c.play_all.new.output) c.play_all.result) (c.in_ok-config.ensures.counted 0).0 c.play_all.ensures.counted
+
+pub returns-clause-played : goal.returns-clause-played
+returns-clause-played g c =
+    c.play_all.ensures.played (g.I.Source.left c.args.input.now) (g.O.Sink.taken c.args.output.now)
+    (c.in_ok-player.ensures (g.I.Source.left c.args.input.now) (g.I.Source.left c.pull_header.new.input) (g.O.Sink.taken c.args.output.now) c.in_ok-config.ensures.pulled.0 c.in_ok-config.ensures.pulled.1).0
