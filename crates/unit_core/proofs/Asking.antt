@@ -1,8 +1,8 @@
 -- Who asks, and whether an act serves an operation that runs
-use Rattle.std.proofs.Common.{◌≡◌, ℕ, ◌+◌, ◌-◌, ◌<◌, ◌≤◌, List, [], ◌∷◌, length, refl, ap, sym, ◌∙◌, subst, arith, true, false, Bool, inl, inr}
+use Rattle.std.proofs.Common.{◌≡◌, ℕ, List, length, refl, ap, sym, ◌∙◌, arith, true, false, Bool}
 use Rattle.std.specs.List.{list_any}
 use Rattle.std.specs.Option.{option_map}
-use Rattle.std.specs.Prelude.{Option, Some, None, ◌⊎◌, ◌==◌, ◌&&◌, not, map, filter, find, is_some, if◌then◌else◌, ⊤}
+use Rattle.std.specs.Prelude.{Option, Some, None, ◌==◌, ◌&&◌, map, filter, find, is_some}
 use Rattle.std.proofs.lemmas.Bool.Decides.{nat_tests}
 use Rattle.std.proofs.lemmas.List.{length-map}
 use Rattle.cm_base.specs.Configuration.{Configuration}
@@ -16,22 +16,20 @@ use Rattle.cm_history.specs.declared.answer.OpReport.{OpReport}
 use Rattle.cm_history.specs.declared.answer.OpState.{OpState}
 use Rattle.cm_history.specs.Deeds.{Deed, same_actor}
 use Rattle.cm_history.specs.Legal.{may_ask}
-use Rattle.cm_history.specs.Tokens.{Token, tokens, rod, is_live, is_populate}
-use Rattle.cm_history.specs.Operations.{Operation, Form, OfToken, OfCopy, same_form, form_of, id_of, has_key, would_serve, running, is_running, is_foreground, is_background, fits, kept, is_making, result_of, written, state, state_of, count, count_of}
-use Rattle.cm_history.specs.Answers.{is_busy, report_of, serial_made}
-use Rattle.cm_history.proofs.Lists.{In, Each, Each-in, find-in, find-none}
-use Rattle.cm_history.proofs.Keys.{same_actor-is, same_form-is, record-found}
-use Rattle.copy_jobs.specs.declared.key.Key.{Key}
+use Rattle.cm_history.specs.Tokens.{Token, rod, is_live, is_populate}
+use Rattle.cm_history.specs.Operations.{Operation, Form, OfToken, OfCopy, same_form, form_of, id_of, has_key, would_serve, is_running, is_background, fits, kept, is_making, result_of, written, state_of, count_of}
+use Rattle.cm_history.specs.Answers.{report_of, serial_made}
+use Rattle.cm_history.proofs.Lists.{In, Each-in}
+use Rattle.cm_history.proofs.Keys.{same_actor-is, same_form-is}
 use Rattle.copy_jobs.specs.declared.job.Job.{Job}
 use Rattle.copy_jobs.specs.Jobs as jobs
 use Rattle.copy_jobs.specs.Pieces as next
 use Rattle.copy_jobs.specs.Reports as reports
 use Rattle.rod_store.specs.declared.kept.Kept.{Kept}
 use Rattle.rod_store.specs.Kept as store
-use Rattle.unit_core.specs.Tables.{key_of, is_copy, work_of, job_of, jobs_of, kept_of, tokens_of, number_of, serial_or_none}
-use Rattle.unit_core.proofs.Finding.{any-some, find-map, find-same, find-passes, filter-map, filter-same}
-use Rattle.unit_core.proofs.Operating.{IsMadeBy}
-use Rattle.unit_core.proofs.Jobs.{IsNexus, IsOwn, own-nexus, job-key, job-runs_as, is-next-key, is-next-pump, found-job, busy-is, job-runs, work-background}
+use Rattle.unit_core.specs.Tables.{key_of, work_of, job_of, jobs_of, kept_of, serial_or_none}
+use Rattle.unit_core.proofs.Finding.{any-some, find-map, find-same, filter-map, filter-same}
+use Rattle.unit_core.proofs.Jobs.{IsNexus, IsOwn, own-nexus, job-key, job-runs_as, is-next-key, is-next-pump, found-job, work-background}
 use Rattle.unit_core.proofs.Tokens.{live-standing}
 use Rattle.unit_core.proofs.Planned.{IsKnown, own-of}
 

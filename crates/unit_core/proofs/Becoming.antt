@@ -1,32 +1,28 @@
 -- What a job becomes by a deed
-use Rattle.std.proofs.Common.{◌≡◌, ℕ, zero, suc, ◌+◌, ◌-◌, ◌*◌, ◌<◌, ◌≤◌, List, [], ◌∷◌, ◌++◌, length, refl, ap, sym, ◌∙◌, subst, arith, true, false, Bool, inl, inr, length-append, append-nil}
-use Rattle.std.specs.Prelude.{Option, Some, None, ◌⊎◌, ◌==◌, ◌&&◌, ◌||◌, not, min, is_some, nat_le, nat_lt, ⊤, if◌then◌else◌}
+use Rattle.std.proofs.Common.{◌≡◌, ℕ, suc, ◌+◌, ◌≤◌, List, [], ◌∷◌, ◌++◌, length, refl, ap, sym, ◌∙◌, arith, true, false, Bool, length-append, append-nil}
+use Rattle.std.specs.Prelude.{◌==◌, ◌&&◌, ◌||◌, not, nat_le, if◌then◌else◌}
 use Rattle.std.proofs.lemmas.Bool.Decides.{nat_tests}
 use Rattle.cm_base.specs.Configuration.{Configuration}
 use Rattle.cm_base.specs.Units.{unit_of}
 use Rattle.cm_base.specs.declared.config.UnitConfig.{UnitConfig}
 use Rattle.lba_ranges.specs.declared.ranges.Range.{Range}
-use Rattle.lba_ranges.specs.Denoted.{blocks_of, row, total, is_overlapping}
+use Rattle.lba_ranges.specs.Denoted.{blocks_of, total, is_overlapping}
 use Rattle.lba_ranges.specs.HeldBlocks.{HeldBlocks}
 use Rattle.lba_ranges.specs.Writings.{Held, paired}
 use Rattle.lba_ranges.proofs.Rows.{length-blocks_of}
 use Rattle.cm_history.specs.declared.act.Act.{Act}
-use Rattle.cm_history.specs.declared.act.Actor.{Actor}
-use Rattle.cm_history.specs.declared.act.CopyEnd.{CopyEnd}
 use Rattle.cm_history.specs.declared.answer.Answer.{Answer}
 use Rattle.cm_history.specs.declared.answer.OpState.{OpState}
 use Rattle.cm_history.specs.Senses.{over_quota}
 use Rattle.cm_history.specs.Deeds.{Deed}
 use Rattle.cm_history.specs.Limits.{within_limits, fits_unit}
-use Rattle.cm_history.specs.Operations.{Operation, Form, OfToken, OfCopy, form_of, id_of, is_running, is_running_as, is_running_state, is_foreground, is_background, made_operation, written, list_of, next_piece, state, state_of, was_stopped, was_ended, is_failure, is_ending, result_of, result_or, count}
+use Rattle.cm_history.specs.Operations.{Operation, OfToken, OfCopy, form_of, id_of, is_running, is_foreground, is_background, made_operation, written, list_of, next_piece, state_of, was_stopped, was_ended, is_failure, is_ending, result_of, result_or, count}
 use Rattle.cm_history.specs.Answers.{progress_by, serial_made}
-use Rattle.copy_jobs.specs.declared.job.Job.{Job}
-use Rattle.copy_jobs.specs.declared.job.Work.{Work}
 use Rattle.copy_jobs.specs.declared.job.Work.TheVariants.{Populated, Writing, Copying}
 use Rattle.copy_jobs.specs.Jobs.{started, opened, made}
-use Rattle.copy_jobs.specs.Changes.{with_work, moved_by, stopped_by, terminated, closed_by}
+use Rattle.copy_jobs.specs.Changes.{moved_by, stopped_by, terminated, closed_by}
 use Rattle.unit_core.specs.Tables.{key_of, work_of, job_of, serial_or_none}
-use Rattle.unit_core.proofs.Serving.{Moves, Stops, Ends, Closes, left-running, token-runs, start-token}
+use Rattle.unit_core.proofs.Serving.{Moves, Stops, Ends, Closes, left-running, token-runs}
 
 -- ---- how long a list of writings is
 

@@ -1,32 +1,30 @@
 -- The operations of a past, and the jobs that are kept of them
-use Rattle.std.proofs.Common.{◌≡◌, ℕ, zero, suc, ◌+◌, ◌-◌, ◌*◌, ◌<◌, ◌≤◌, List, [], ◌∷◌, ◌++◌, length, refl, ap, sym, ◌∙◌, subst, arith, true, false, Bool, inl, inr, length-append}
+use Rattle.std.proofs.Common.{◌≡◌, ℕ, suc, List, [], ◌∷◌, length, refl, ap, sym, ◌∙◌, arith, true, false, Bool}
 use Rattle.std.specs.List.{list_any}
 use Rattle.std.specs.Option.{option_map}
-use Rattle.std.specs.Prelude.{Option, Some, None, ◌⊎◌, ◌==◌, ◌&&◌, ◌||◌, not, map, filter, find, cond, is_some, nat_le, nat_lt, sum_by, ⊤, if◌then◌else◌}
+use Rattle.std.specs.Prelude.{Option, Some, None, ◌==◌, ◌&&◌, map, filter, find, nat_le, ⊤}
 use Rattle.std.proofs.lemmas.Bool.Decides.{nat_tests}
 use Rattle.cm_base.specs.Configuration.{Configuration}
 use Rattle.cm_history.specs.declared.act.Act.{Act}
 use Rattle.cm_history.specs.declared.act.Actor.{Actor}
 use Rattle.cm_history.specs.declared.act.Actor.TheVariants.{Nexus, Pump}
-use Rattle.cm_history.specs.Bounds.{piece_blocks, kept_records, running_operations}
+use Rattle.cm_history.specs.Bounds.{running_operations}
 use Rattle.cm_history.specs.Deeds.{Deed, same_actor}
 use Rattle.cm_history.specs.Legal.{may_ask}
-use Rattle.cm_history.specs.Operations.{Operation, Form, OfToken, OfCopy, same_form, form_of, id_of, has_key, operations, operation_after, made_operation, makes_operation, is_making, would_serve, running, is_running, is_running_as, is_running_state, is_running_copy, is_foreground, is_background, fits, kept, keep, has_ended, same_key, with_room, without_first_ended, written, state, state_of, result_of, list_of}
+use Rattle.cm_history.specs.Operations.{Operation, Form, OfToken, OfCopy, same_form, form_of, id_of, has_key, operations, is_making, would_serve, running, is_running, is_running_as, is_running_state, is_foreground, is_background, fits, kept, state_of}
 use Rattle.cm_history.specs.Answers.{is_busy, is_crowded}
-use Rattle.cm_history.specs.Room.{pieces, reserved, reserved_by}
-use Rattle.cm_history.proofs.Lists.{In, Each, Each-in, Each-by, In-filter}
+use Rattle.cm_history.proofs.Lists.{In, Each, Each-in, Each-by}
 use Rattle.cm_history.proofs.Counts.{IsPast}
 use Rattle.cm_history.proofs.Records.{running_kept, kept_in}
 use Rattle.copy_jobs.specs.declared.key.Key.{Key}
 use Rattle.copy_jobs.specs.declared.job.Job.{Job}
 use Rattle.copy_jobs.specs.Keys as keys
 use Rattle.copy_jobs.specs.Jobs as jobs
-use Rattle.copy_jobs.specs.Keeping as keeping
 use Rattle.copy_jobs.specs.Pieces as next
 use Rattle.unit_core.specs.Tables.{number_of, is_copy, key_of, work_of, job_of, jobs_of}
-use Rattle.unit_core.proofs.Finding.{find-filter, find-map, find-same, any-filter, any-map, any-same, filter-map, filter-same, map-append}
+use Rattle.unit_core.proofs.Finding.{find-filter, find-map, find-same, any-filter, any-map, any-same, filter-map, filter-same}
 use Rattle.unit_core.proofs.Operating.{IsMadeBy, all-made_by}
-use Rattle.unit_core.specs.Agreeing.{IsAsked, AllAsked}
+use Rattle.unit_core.specs.Agreeing.{AllAsked}
 
 -- ---- a nexus makes operations
 

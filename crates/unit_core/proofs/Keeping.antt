@@ -1,9 +1,8 @@
 -- The jobs after one more deed
-use Rattle.std.proofs.Common.{◌≡◌, ℕ, zero, suc, ◌+◌, ◌-◌, ◌*◌, ◌<◌, ◌≤◌, List, [], ◌∷◌, ◌++◌, length, refl, ap, sym, ◌∙◌, subst, arith, true, false, Bool, inl, inr, length-append}
-use Rattle.std.specs.List.{list_any}
+use Rattle.std.proofs.Common.{◌≡◌, ℕ, List, [], ◌∷◌, ◌++◌, length, refl, ap, sym, ◌∙◌, subst, arith, true, false, Bool, inl, inr}
 use Rattle.std.proofs.lemmas.List.{length-map}
 use Rattle.std.specs.Option.{option_map}
-use Rattle.std.specs.Prelude.{Option, Some, None, ◌⊎◌, ◌==◌, ◌&&◌, ◌||◌, not, map, filter, find, cond, is_some, nat_le, nat_lt, ⊤, if◌then◌else◌}
+use Rattle.std.specs.Prelude.{Some, None, ◌⊎◌, ◌==◌, ◌&&◌, not, map, filter, find, ⊤, if◌then◌else◌}
 use Rattle.std.proofs.lemmas.Bool.Decides.{nat_tests}
 use Rattle.cm_base.specs.Configuration.{Configuration}
 use Rattle.cm_history.specs.declared.act.Act.{Act}
@@ -11,18 +10,18 @@ use Rattle.cm_history.specs.declared.act.Actor.{Actor}
 use Rattle.cm_history.specs.declared.act.Actor.TheVariants.{Nexus, Pump}
 use Rattle.cm_history.specs.Bounds.{kept_records}
 use Rattle.cm_history.specs.Deeds.{Deed, same_actor}
-use Rattle.cm_history.specs.Operations.{Operation, Form, OfToken, OfCopy, same_form, serves, form_of, id_of, has_key, operations, operation_after, made_operation, makes_operation, would_serve, running, is_running, fits, kept, keep, has_ended, same_key, with_room, without_first_ended}
+use Rattle.cm_history.specs.Operations.{Operation, Form, OfToken, OfCopy, same_form, serves, form_of, id_of, has_key, operation_after, made_operation, makes_operation, would_serve, running, is_running, fits, kept, keep, has_ended, same_key, with_room, without_first_ended}
 use Rattle.cm_history.specs.Answers.{deed}
 use Rattle.cm_history.proofs.Lists.{In, Each, Each-in, Each-by, In-filter, find-in, find-some, filter-passes}
-use Rattle.cm_history.proofs.Counts.{IsPast, apart, same_place}
-use Rattle.cm_history.proofs.Records.{running_kept, kept_in, served_none, makes_serves}
+use Rattle.cm_history.proofs.Counts.{IsPast}
+use Rattle.cm_history.proofs.Records.{running_kept, kept_in, served_none}
 use Rattle.cm_history.proofs.Keys.{KeysApart, keys-apart, one-key, same-record}
 use Rattle.copy_jobs.specs.declared.key.Key.{Key}
 use Rattle.copy_jobs.specs.declared.job.Job.{Job}
 use Rattle.copy_jobs.specs.Jobs as jobs
 use Rattle.copy_jobs.specs.Keeping as keeping
 use Rattle.copy_jobs.specs.Changes.{change}
-use Rattle.unit_core.specs.Tables.{key_of, job_of, jobs_of}
+use Rattle.unit_core.specs.Tables.{job_of, jobs_of}
 use Rattle.unit_core.proofs.Finding.{find-map, filter-map, filter-same, map-append, map-map, map-same}
 use Rattle.unit_core.proofs.Jobs.{IsNexus, IsOwn, own-nexus, job-runs, job-key}
 use Rattle.unit_core.proofs.Serving.{served-or-not}

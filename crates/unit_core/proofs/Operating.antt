@@ -1,26 +1,22 @@
 -- What holds of each operation of a unit
-use Rattle.std.proofs.Common.{◌≡◌, ℕ, zero, suc, ◌+◌, ◌-◌, ◌*◌, ◌<◌, ◌≤◌, List, [], ◌∷◌, ◌++◌, length, take, drop, refl, ap, sym, ◌∙◌, subst, arith, true, false, Bool, inl, inr, length-append}
-use Rattle.std.specs.Prelude.{Option, Some, None, ◌⊎◌, ◌==◌, ◌&&◌, not, map, min, is_some, nat_lt, nat_le, ◌^◌, option_map, if◌then◌else◌}
-use Rattle.std.proofs.lemmas.Bool.Decides.{nat_tests}
-use Rattle.std.proofs.lemmas.Grind.{common_steps}
+use Rattle.std.proofs.Common.{◌≡◌, ℕ, List, [], ◌∷◌, length, refl, ap, sym, ◌∙◌, subst, true, false, Bool}
+use Rattle.std.specs.Prelude.{◌==◌, ◌&&◌, not, map, is_some, nat_le, ◌^◌, if◌then◌else◌}
 use Rattle.cm_base.specs.Configuration.{Configuration}
 use Rattle.cm_base.specs.Units.{unit_of}
 use Rattle.cm_history.specs.declared.act.Act.{Act}
 use Rattle.cm_history.specs.declared.act.Actor.{Actor}
 use Rattle.cm_history.specs.declared.answer.Answer.{Answer}
 use Rattle.cm_history.specs.declared.answer.OpState.{OpState}
-use Rattle.cm_history.specs.Bounds.{piece_blocks}
 use Rattle.cm_history.specs.Deeds.{Deed, is_refusal, is_answered}
-use Rattle.cm_history.specs.Blocks.{held, mapped_with}
 use Rattle.unit_core.specs.Agreeing.{IsAsked, AllAsked}
 use Rattle.lba_ranges.specs.Denoted.{is_within}
 use Rattle.cm_history.specs.Senses.{in_use, out_of_range, too_many}
 use Rattle.cm_history.specs.Tokens.{is_populate, tokens}
-use Rattle.cm_history.specs.Operations.{Operation, OfToken, OfCopy, operations, operation_after, made_operation, makes_operation, is_making, serves, would_serve, running, is_running, is_running_state, is_foreground, is_background, fits, kept, written, list_of, next_piece, state_of, was_stopped, was_ended, is_failure}
-use Rattle.cm_history.specs.Answers.{deed, answer_after, writings, wrote_of, serial_made, is_busy, is_crowded}
-use Rattle.cm_history.proofs.Lists.{In, Each, Each-in, Each-by, Each-map, Each-append, In-filter, find-in, find-none, find-some, filter-passes}
-use Rattle.cm_history.proofs.Counts.{IsPast, made-after, apart, same_place}
-use Rattle.cm_history.proofs.Records.{and_first, kept_in}
+use Rattle.cm_history.specs.Operations.{Operation, OfToken, OfCopy, operations, operation_after, made_operation, makes_operation, is_making}
+use Rattle.cm_history.specs.Answers.{answer_after, serial_made, is_busy, is_crowded}
+use Rattle.cm_history.proofs.Lists.{Each, Each-in, Each-by, Each-map, Each-append}
+use Rattle.cm_history.proofs.Counts.{IsPast, made-after}
+use Rattle.cm_history.proofs.Records.{and_first}
 
 -- the blocks that a Start writes lie in the unit
 abbrev pub starts_within : ℕ → Act → Bool

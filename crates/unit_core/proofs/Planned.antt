@@ -1,8 +1,7 @@
 -- Plans that bring the tables to what the past then says
-use Rattle.std.proofs.Common.{◌≡◌, ℕ, zero, suc, ◌+◌, ◌-◌, ◌<◌, ◌≤◌, ◌^◌, List, [], ◌∷◌, ◌++◌, length, take, drop, refl, ap, sym, ◌∙◌, subst, arith, true, false, Bool, inl, inr}
+use Rattle.std.proofs.Common.{◌≡◌, ℕ, ◌<◌, ◌^◌, List, [], ◌∷◌, length, refl, ap, sym, ◌∙◌, subst, arith, true, false, Bool}
 use Rattle.std.specs.Option.{option_map}
-use Rattle.std.specs.Prelude.{Option, Some, None, ◌⊎◌, ◌==◌, ◌&&◌, ◌||◌, not, map, max, is_some, nat_le, nat_lt, if◌then◌else◌}
-use Rattle.std.proofs.lemmas.Bool.Decides.{nat_tests}
+use Rattle.std.specs.Prelude.{None, ◌&&◌, not, max, is_some}
 use Rattle.std.proofs.lemmas.List.{length-map}
 use Rattle.cm_base.specs.Configuration.{Configuration}
 use Rattle.cm_base.specs.declared.config.UnitConfig.{UnitConfig}
@@ -11,18 +10,17 @@ use Rattle.scsi_sense.specs.SenseCode.{SenseCode}
 use Rattle.lba_ranges.specs.declared.ranges.Range.{Range}
 use Rattle.lba_ranges.specs.Denoted.{blocks_of, total}
 use Rattle.lba_ranges.specs.HeldBlocks.{HeldBlocks}
-use Rattle.rod_token.specs.TokenText.{serial_of, is_named}
+use Rattle.rod_token.specs.TokenText.{serial_of}
 use Rattle.cm_history.specs.declared.act.Act.{Act}
 use Rattle.cm_history.specs.declared.act.Actor.{Actor}
-use Rattle.cm_history.specs.declared.act.CopyEnd.{CopyEnd}
 use Rattle.cm_history.specs.declared.answer.Answer.{Answer}
 use Rattle.cm_history.specs.declared.answer.OpState.{OpState}
 use Rattle.cm_history.specs.Limits.{within_limits}
 use Rattle.cm_history.specs.Deeds.{Deed, moment, is_refusal, is_answered}
 use Rattle.cm_history.specs.Blocks.{held, cut}
 use Rattle.cm_history.specs.Tokens.{tokens, is_populate, is_delete_of, is_redeem_of}
-use Rattle.cm_history.specs.Operations.{Operation, OfToken, OfCopy, form_of, id_of, is_making, makes_operation, made_operation, would_serve, running, kept}
-use Rattle.cm_history.specs.Answers.{answer_after, deed, writings, wrote_of}
+use Rattle.cm_history.specs.Operations.{Operation, OfToken, OfCopy, is_making, makes_operation, made_operation, would_serve, running, kept}
+use Rattle.cm_history.specs.Answers.{answer_after, writings, wrote_of}
 use Rattle.cm_history.proofs.Lists.{Each, find-none}
 use Rattle.cm_history.proofs.Counts.{IsPast}
 use Rattle.copy_jobs.specs.declared.job.Job.{Job}
@@ -32,12 +30,11 @@ use Rattle.rod_store.specs.Kept.{expired, populated, used, deleted}
 use Rattle.unit_core.specs.declared.block_change.BlockChange.{BlockChange}
 use Rattle.unit_core.specs.declared.job_change.JobChange.{JobChange}
 use Rattle.unit_core.specs.declared.token_change.TokenChange.{TokenChange}
-use Rattle.unit_core.specs.declared.plan.Plan.{Plan}
 use Rattle.unit_core.specs.Acting.{ends}
-use Rattle.unit_core.specs.Agreeing.{IsAsked, AllAsked}
+use Rattle.unit_core.specs.Agreeing.{AllAsked}
 use Rattle.unit_core.specs.BlockChanges.{writings_of, MayChange}
-use Rattle.unit_core.specs.JobChanges.{jobs_after, MayJob}
-use Rattle.unit_core.specs.TokenChanges.{tokens_after, MayToken, Redeems}
+use Rattle.unit_core.specs.JobChanges.{MayJob}
+use Rattle.unit_core.specs.TokenChanges.{Redeems}
 use Rattle.unit_core.specs.Tables.{key_of, kept_of, tokens_of, job_of, jobs_of}
 use Rattle.unit_core.specs.Planning.{quiet, IsDeed, IsPlan}
 use Rattle.unit_core.proofs.Jobs.{IsNexus, IsOwn, all-own}

@@ -1,32 +1,27 @@
 -- The entries that are kept free for operations, and those for jobs
-use Rattle.std.proofs.Common.{◌≡◌, ℕ, zero, suc, ◌+◌, ◌-◌, ◌*◌, ◌<◌, ◌≤◌, List, [], ◌∷◌, ◌++◌, length, refl, ap, sym, ◌∙◌, subst, arith, true, false, Bool, inl, inr, length-append}
-use Rattle.std.specs.Prelude.{Option, Some, None, ◌⊎◌, ◌==◌, ◌/◌, ◌&&◌, ◌||◌, not, map, filter, find, cond, is_some, nat_le, nat_lt, sum_by, if◌then◌else◌}
+use Rattle.std.proofs.Common.{◌≡◌, ℕ, zero, suc, ◌+◌, ◌-◌, ◌*◌, ◌≤◌, List, [], ◌∷◌, ◌++◌, length, refl, ap, sym, ◌∙◌, arith, true, false, Bool, inl, inr}
+use Rattle.std.specs.Prelude.{Some, ◌==◌, ◌||◌, not, map, filter, find, cond, sum_by, if◌then◌else◌}
 use Rattle.std.proofs.lemmas.List.Sums.{sum_by-append, sum_by-cons}
 use Rattle.cm_base.specs.Configuration.{Configuration}
 use Rattle.cm_base.specs.declared.config.UnitConfig.{UnitConfig}
-use Rattle.cm_base.specs.Units.{unit_of}
 use Rattle.lba_ranges.specs.declared.ranges.Range.{Range}
 use Rattle.lba_ranges.specs.HeldBlocks.{HeldBlocks}
 use Rattle.cm_history.specs.declared.act.Act.{Act}
-use Rattle.cm_history.specs.declared.act.Actor.{Actor}
-use Rattle.cm_history.specs.declared.act.CopyEnd.{CopyEnd}
 use Rattle.cm_history.specs.Bounds.{piece_blocks, kept_records}
 use Rattle.cm_history.specs.Deeds.{Deed}
 use Rattle.cm_history.specs.Limits.{within_limits}
-use Rattle.cm_history.specs.Operations.{Operation, Form, OfToken, OfCopy, form_of, operations, operation_after, made_operation, makes_operation, is_making, would_serve, running, is_running, is_running_as, is_running_state, is_running_copy, is_foreground, is_background, kept, written, list_of, next_piece, state, state_of, result_of, result_or, fits}
-use Rattle.cm_history.specs.Answers.{deed}
-use Rattle.cm_history.specs.Room.{pieces, reserved, reserved_by, need}
-use Rattle.cm_history.proofs.Lists.{In, Each, Each-in, Each-by, In-filter, find-in, filter-passes}
+use Rattle.cm_history.specs.Operations.{Operation, OfToken, form_of, operations, is_making, is_running, is_running_as, is_running_state, is_running_copy, is_foreground, is_background, kept, written, list_of, state, state_of, result_of, result_or}
+use Rattle.cm_history.specs.Room.{pieces, reserved, reserved_by}
+use Rattle.cm_history.proofs.Lists.{In, Each-in}
 use Rattle.cm_history.proofs.Counts.{IsPast, IsBegun, begun}
 use Rattle.cm_history.proofs.Records.{running_kept, kept_in}
 use Rattle.copy_jobs.specs.declared.job.Job.{Job}
-use Rattle.copy_jobs.specs.declared.job.Work.{Work}
 use Rattle.copy_jobs.specs.Jobs as jobs
 use Rattle.copy_jobs.specs.Keeping as keeping
 use Rattle.copy_jobs.specs.Changes.{change}
-use Rattle.unit_core.specs.Tables.{key_of, work_of, job_of, jobs_of}
+use Rattle.unit_core.specs.Tables.{work_of, job_of, jobs_of}
 use Rattle.unit_core.specs.Agreeing.{IsAsked}
-use Rattle.unit_core.proofs.Serving.{IsPaced, all-paced, few-written, Serves, Moves, Stops, Ends, Closes, start-token, token-runs, paced-after, serving}
+use Rattle.unit_core.proofs.Serving.{IsPaced, all-paced, few-written, Serves, token-runs, paced-after}
 use Rattle.unit_core.proofs.Jobs.{IsOwn}
 use Rattle.unit_core.proofs.Becoming.{start-length}
 

@@ -1,5 +1,5 @@
 -- Room in a unit's record
-use Rattle.std.proofs.Common.{◌≡◌, ℕ, ◌+◌, ◌-◌, ◌^◌, ◌<◌, ◌≤◌, List, [], ◌∷◌, length, refl, ap, sym, ◌∙◌, subst, arith, true, false, Bool, inl, inr}
+use Rattle.std.proofs.Common.{◌≡◌, ℕ, ◌+◌, ◌-◌, ◌^◌, ◌<◌, ◌≤◌, List, ◌∷◌, length, refl, ap, sym, ◌∙◌, subst, arith, true, false, Bool, inl, inr}
 use Rattle.std.specs.Prelude.{Option, Some, None, ◌⊎◌, ◌||◌, ◌&&◌, ◌==◌, nat_le, nat_lt, max, is_some, if◌then◌else◌}
 use Rattle.std.proofs.lemmas.Bool.{cases_eq, or_parts, or_left, or_right, ltb-false, lt-ltb, le-ltb, eq-eqb, ne_eqb}
 use Rattle.std.proofs.lemmas.Bool.Decides.{nat_tests}
@@ -15,13 +15,13 @@ use Rattle.cm_history.specs.Operations.{Operation, is_making, is_running_state, 
 use Rattle.cm_history.specs.Answers.{deed}
 use Rattle.cm_history.specs.Room.{is_full, is_write, bytes_in, need, pieces, reserved, payload}
 use Rattle.cm_history.proofs.Lists.{Each, Each-in, find-none}
-use Rattle.cm_history.proofs.Counts.{IsPast, IsBegun, begun}
+use Rattle.cm_history.proofs.Counts.{IsBegun, begun}
 use Rattle.cm_history.proofs.Records.{kept_in, making_serves, and_first}
 use Rattle.copy_jobs.specs.Jobs as jobs
 use Rattle.unit_core.specs.Agreeing.{IsAsked}
 use Rattle.unit_core.specs.Tables.{job_of, jobs_of, work_of}
 use Rattle.unit_core.proofs.Serving.{IsPaced, all-paced, serving}
-use Rattle.unit_core.proofs.Jobs.{IsOwn, IsNexus, own-nexus, maker-nexus}
+use Rattle.unit_core.proofs.Jobs.{IsOwn, maker-nexus}
 use Rattle.unit_core.proofs.Keeping.{made-jobs, same-jobs, serving-jobs, found-own, served-there, served-runs, own_key, serves-none}
 use Rattle.unit_core.proofs.Reserving.{reserved-is, keep-reserves, change-reserves, serving-reserves}
 use Rattle.unit_core.proofs.Planned.{IsKnown, own-of}

@@ -1,28 +1,23 @@
 -- Plans of acts that serve an operation
-use Rattle.std.proofs.Common.{◌≡◌, ℕ, zero, suc, ◌+◌, ◌-◌, ◌<◌, ◌≤◌, ◌^◌, List, [], ◌∷◌, ◌++◌, length, take, drop, refl, ap, sym, ◌∙◌, subst, arith, true, false, Bool, inl, inr}
-use Rattle.std.specs.Option.{option_map}
-use Rattle.std.specs.List.{list_any}
-use Rattle.std.specs.Prelude.{Option, Some, None, ◌⊎◌, ◌==◌, ◌&&◌, ◌||◌, not, find, min, max, is_some, nat_le, nat_lt, if◌then◌else◌}
+use Rattle.std.proofs.Common.{◌≡◌, ℕ, ◌+◌, ◌≤◌, List, [], ◌∷◌, length, refl, ap, sym, ◌∙◌, subst, true, false, Bool}
+use Rattle.std.specs.Prelude.{Some, ◌==◌, ◌&&◌, ◌||◌, not, nat_lt, if◌then◌else◌}
 use Rattle.cm_base.specs.Configuration.{Configuration}
 use Rattle.cm_base.specs.declared.config.UnitConfig.{UnitConfig}
 use Rattle.cm_base.specs.Units.{unit_of}
-use Rattle.lba_ranges.specs.declared.ranges.Range.{Range}
-use Rattle.lba_ranges.specs.Denoted.{blocks_of, total, is_within, is_overlapping}
-use Rattle.lba_ranges.specs.HeldBlocks.{HeldBlocks}
-use Rattle.lba_ranges.specs.Writings.{Held, Writing, paired}
+use Rattle.lba_ranges.specs.Denoted.{blocks_of}
+use Rattle.lba_ranges.specs.Writings.{Writing, paired}
 use Rattle.cm_history.specs.declared.act.Act.{Act}
 use Rattle.cm_history.specs.declared.act.Actor.{Actor}
 use Rattle.cm_history.specs.declared.act.CopyEnd.{CopyEnd}
 use Rattle.cm_history.specs.declared.answer.Answer.{Answer}
 use Rattle.cm_history.specs.declared.answer.OpState.{OpState}
-use Rattle.cm_history.specs.Bounds.{piece_blocks}
-use Rattle.cm_history.specs.Senses.{over_quota, no_such_operation}
-use Rattle.cm_history.specs.Deeds.{Deed, moment, is_refusal}
+use Rattle.cm_history.specs.Senses.{over_quota}
+use Rattle.cm_history.specs.Deeds.{Deed, is_refusal}
 use Rattle.cm_history.specs.Blocks.{held, mapped_with}
 use Rattle.cm_history.specs.Limits.{within_limits}
-use Rattle.cm_history.specs.Operations.{Operation, Form, OfToken, OfCopy, form_of, has_key, is_making, makes_operation, would_serve, running, is_running, is_running_copy, is_foreground, is_background, is_failure, is_ending, fits, kept, written, list_of, next_piece, count, count_of}
-use Rattle.cm_history.specs.Answers.{answer_after, deed, writings, wrote_of, progress_by}
-use Rattle.cm_history.proofs.Lists.{In, Each, Each-in, find-none}
+use Rattle.cm_history.specs.Operations.{Operation, Form, OfToken, OfCopy, form_of, has_key, is_making, would_serve, running, is_running, is_running_copy, is_foreground, is_background, is_failure, is_ending, fits, kept, written, list_of, next_piece, count, count_of}
+use Rattle.cm_history.specs.Answers.{answer_after, writings, wrote_of, progress_by}
+use Rattle.cm_history.proofs.Lists.{In, Each-in, find-none}
 use Rattle.cm_history.proofs.Records.{making_serves}
 use Rattle.copy_jobs.specs.declared.key.Key.{Key}
 use Rattle.copy_jobs.specs.declared.job.Job.{Job}

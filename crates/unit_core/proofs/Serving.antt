@@ -1,7 +1,7 @@
 -- What a deed does that serves an operation
-use Rattle.std.proofs.Common.{◌≡◌, ℕ, zero, suc, ◌+◌, ◌-◌, ◌*◌, ◌<◌, ◌≤◌, List, [], ◌∷◌, ◌++◌, length, take, drop, refl, ap, sym, ◌∙◌, subst, arith, true, false, Bool, inl, inr, length-append}
-use Rattle.std.specs.Prelude.{Option, Some, None, ◌⊎◌, ◌==◌, ◌&&◌, ◌||◌, not, map, min, is_some, nat_lt, nat_le, option_map, if◌then◌else◌}
-use Rattle.std.proofs.lemmas.Bool.{eqb-false, eqb-true}
+use Rattle.std.proofs.Common.{◌≡◌, ℕ, ◌+◌, ◌-◌, ◌*◌, ◌<◌, ◌≤◌, List, [], ◌∷◌, ◌++◌, length, take, drop, refl, ap, sym, ◌∙◌, subst, arith, true, false, Bool, inl, inr, length-append}
+use Rattle.std.specs.Prelude.{Option, Some, None, ◌⊎◌, ◌==◌, ◌&&◌, ◌||◌, map, min, nat_lt, nat_le, option_map, if◌then◌else◌}
+use Rattle.std.proofs.lemmas.Bool.{eqb-false}
 use Rattle.std.proofs.lemmas.Bool.Decides.{nat_tests}
 use Rattle.std.proofs.lemmas.Grind.{common_steps}
 use Rattle.cm_base.specs.Configuration.{Configuration}
@@ -15,11 +15,11 @@ use Rattle.cm_history.specs.declared.answer.Answer.{Answer}
 use Rattle.cm_history.specs.declared.answer.OpState.{OpState}
 use Rattle.cm_history.specs.Bounds.{piece_blocks}
 use Rattle.cm_history.specs.Senses.{over_quota}
-use Rattle.cm_history.specs.Deeds.{Deed, is_refusal, same_actor}
+use Rattle.cm_history.specs.Deeds.{Deed, same_actor}
 use Rattle.cm_history.specs.Blocks.{held, mapped_with}
-use Rattle.cm_history.specs.Operations.{Operation, Form, OfToken, OfCopy, same_form, form_of, id_of, has_key, operations, operation_after, makes_operation, made_operation, serves, would_serve, running, is_running, is_running_as, is_running_state, is_foreground, is_background, fits, written, list_of, next_piece, state, state_of, was_stopped, was_ended, is_failure, is_ending, result_or, count}
+use Rattle.cm_history.specs.Operations.{Operation, Form, OfToken, OfCopy, same_form, form_of, id_of, has_key, operations, operation_after, makes_operation, made_operation, serves, would_serve, running, is_running, is_running_as, is_running_state, is_foreground, is_background, fits, written, list_of, next_piece, state, state_of, was_stopped, was_ended, is_failure, is_ending, count}
 use Rattle.cm_history.specs.Answers.{deed, answer_after, writings, wrote_of, progress, progress_by, piece_of}
-use Rattle.cm_history.proofs.Lists.{In, Each, Each-in, Each-by, Each-map, Each-append, In-filter, find-in, find-none, find-some, filter-passes}
+use Rattle.cm_history.proofs.Lists.{In, Each, Each-in, Each-by, Each-map, Each-append, In-filter, find-in, find-none, filter-passes}
 use Rattle.cm_history.proofs.Counts.{IsPast, apart, same_place, IsBegun, begun}
 use Rattle.cm_history.proofs.Records.{and_first}
 use Rattle.unit_core.proofs.Finding.{find-passes}

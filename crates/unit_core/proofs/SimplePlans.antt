@@ -1,9 +1,8 @@
 -- Plans of acts on blocks alone
-use Rattle.std.proofs.Common.{◌≡◌, ℕ, ◌+◌, ◌<◌, ◌≤◌, List, [], ◌∷◌, length, refl, ap, sym, ◌∙◌, subst, arith, true, false, Bool, inl, inr}
-use Rattle.std.specs.Prelude.{◌⊎◌, ◌&&◌, map, not, if◌then◌else◌}
+use Rattle.std.proofs.Common.{◌≡◌, ℕ, ◌<◌, List, [], ◌∷◌, refl, ap, sym, ◌∙◌, subst, true, false, Bool, inl, inr}
+use Rattle.std.specs.Prelude.{map, if◌then◌else◌}
 use Rattle.std.specs.List.{AllByRecursion}
 use Rattle.cm_base.specs.Configuration.{Configuration}
-use Rattle.cm_base.specs.declared.config.UnitConfig.{UnitConfig}
 use Rattle.cm_base.specs.Units.{unit_of}
 use Rattle.lba_ranges.specs.declared.ranges.Range.{Range}
 use Rattle.lba_ranges.specs.Denoted.{blocks_of, is_within}
@@ -16,13 +15,13 @@ use Rattle.cm_history.specs.declared.answer.Answer.{Answer}
 use Rattle.cm_history.specs.Deeds.{Deed, is_refusal}
 use Rattle.cm_history.specs.Blocks.{held}
 use Rattle.cm_history.specs.Operations.{is_failure, running}
-use Rattle.cm_history.specs.Answers.{answer_after, answer_read, answer_write, answer_unmap, answer_status, put_at, writings, wrote_of}
+use Rattle.cm_history.specs.Answers.{answer_read, answer_write, answer_unmap, answer_status, put_at, wrote_of}
 use Rattle.cm_history.proofs.Lists.{find-none}
 use Rattle.unit_core.specs.declared.block_change.BlockChange.{BlockChange}
 use Rattle.unit_core.specs.declared.block_plans.BlockPlan.{BlockPlan}
 use Rattle.unit_core.specs.BlockChanges.{writings_of, MayChange}
 use Rattle.unit_core.specs.Planning.{of_blocks, IsPlan, Reads, Writes}
-use Rattle.unit_core.proofs.Planned.{plain-plan, LeavesTokens}
+use Rattle.unit_core.proofs.Planned.{plain-plan}
 
 wrote_none : (answer : Answer) → wrote_of answer [] ≡ []
 wrote_none answer = go (is_refusal answer) (is_failure answer)

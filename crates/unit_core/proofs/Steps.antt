@@ -1,13 +1,13 @@
 -- All that a unit keeps agrees with its record, also with one more entry
-use Rattle.std.proofs.Common.{◌≡◌, ℕ, ◌+◌, ◌<◌, ◌≤◌, List, [], ◌∷◌, ◌++◌, length, refl, ap, sym, ◌∙◌, subst, arith, true, false}
+use Rattle.std.proofs.Common.{◌≡◌, ℕ, ◌+◌, ◌<◌, ◌≤◌, List, [], ◌∷◌, ◌++◌, length, refl, ap, sym, ◌∙◌, arith, false}
 use Rattle.std.specs.Prelude.{max, None}
 use Rattle.lba_ranges.specs.HeldBlocks.{HeldBlocks}
-use Rattle.lba_ranges.specs.Writings.{Held, Writing, after}
+use Rattle.lba_ranges.specs.Writings.{Held, after}
 use Rattle.lba_ranges.proofs.WritingLemmas.{mapped-none}
 use Rattle.cm_base.specs.Configuration.{Configuration, IsUnit}
 use Rattle.cm_base.specs.Units.{unit_of}
 use Rattle.cm_history.specs.declared.act.Entry.{Entry}
-use Rattle.cm_history.specs.Deeds.{Deed, moment}
+use Rattle.cm_history.specs.Deeds.{moment}
 use Rattle.cm_history.specs.Answers.{deed, writings, wrote_of}
 use Rattle.cm_history.specs.Room.{is_full, bytes_in, need, reserved}
 use Rattle.cm_history.specs.History.{past_of}
@@ -19,11 +19,10 @@ use Rattle.unit_core.specs.Agreeing.{IsAsked, TokensAgree, JobsAgree, CountersAg
 use Rattle.unit_core.specs.BlockChanges.{writings_of}
 use Rattle.unit_core.specs.JobChanges.{jobs_after}
 use Rattle.unit_core.specs.TokenChanges.{tokens_after}
-use Rattle.unit_core.specs.Tables.{tokens_of, jobs_of}
 use Rattle.unit_core.specs.Planning.{IsDeed, IsPlan}
 use Rattle.unit_core.proofs.Pasts.{past_of-push, own-push}
 use Rattle.unit_core.proofs.Blocks.{blocks-step}
-use Rattle.unit_core.proofs.Rooms.{HasRoom, room-of, payload-step, reserved-step}
+use Rattle.unit_core.proofs.Rooms.{room-of, payload-step, reserved-step}
 use Rattle.unit_core.proofs.Quotas.{quota-step}
 use Rattle.unit_core.proofs.Planned.{IsKnown}
 

@@ -1,7 +1,7 @@
 -- The tokens of a past, and those that a store keeps
-use Rattle.std.proofs.Common.{◌≡◌, ℕ, zero, suc, ◌+◌, ◌<◌, ◌≤◌, List, [], ◌∷◌, ◌++◌, length, refl, ap, sym, ◌∙◌, subst, arith, true, false, Bool, inl, inr, append-nil}
-use Rattle.std.specs.List.{list_any, list_all}
-use Rattle.std.specs.Prelude.{Option, Some, None, ◌⊎◌, ◌==◌, ◌&&◌, ◌||◌, not, map, filter, cond, nat_le, nat_lt, if◌then◌else◌}
+use Rattle.std.proofs.Common.{◌≡◌, ℕ, List, [], ◌∷◌, ◌++◌, length, refl, ap, sym, ◌∙◌, arith, true, false, Bool, append-nil}
+use Rattle.std.specs.List.{list_all}
+use Rattle.std.specs.Prelude.{◌==◌, ◌&&◌, ◌||◌, not, map, filter, cond, nat_le, nat_lt, if◌then◌else◌}
 use Rattle.std.proofs.lemmas.Bool.Decides.{nat_tests}
 use Rattle.std.proofs.lemmas.List.{length-map}
 use Rattle.cm_base.specs.declared.config.UnitConfig.{UnitConfig}
@@ -14,7 +14,7 @@ use Rattle.cm_history.specs.declared.act.Act.{Act}
 use Rattle.cm_history.specs.Deeds.{Deed, is_answered}
 use Rattle.cm_history.specs.Blocks.{held, cut}
 use Rattle.cm_history.specs.Tokens.{Token, Fate, Live, Expired, Evicted, Deleted, tokens, token_after, made_token, rod, is_live, is_over, is_live_at, is_older, makes_room, is_populate, is_delete_of, is_redeem_of}
-use Rattle.cm_history.proofs.Lists.{In, In-filter, filter-passes}
+use Rattle.cm_history.proofs.Lists.{filter-passes}
 use Rattle.rod_store.specs.declared.kept.Kept.{Kept}
 use Rattle.rod_store.specs.declared.kept.Standing.{Standing}
 use Rattle.rod_store.specs.Kept as store

@@ -1,15 +1,13 @@
 -- What acts are answered, said of the tables
-use Rattle.std.proofs.Common.{◌≡◌, ℕ, zero, suc, ◌+◌, ◌-◌, ◌<◌, ◌≤◌, ◌^◌, List, [], ◌∷◌, length, take, drop, refl, ap, sym, ◌∙◌, subst, arith, true, false, Bool, inl, inr}
+use Rattle.std.proofs.Common.{◌≡◌, ℕ, zero, suc, ◌+◌, List, [], ◌∷◌, length, take, drop, refl, ap, sym, ◌∙◌, subst, arith, true, false, Bool, inl, inr}
 use Rattle.std.specs.Option.{option_map}
-use Rattle.std.specs.List.{list_any}
-use Rattle.std.specs.Prelude.{Option, Some, None, ◌⊎◌, ◌==◌, ◌&&◌, ◌||◌, not, find, min, max, is_some, nat_le, nat_lt, Result, Ok, Err, slice_get, map, if◌then◌else◌}
+use Rattle.std.specs.Prelude.{Option, Some, None, ◌==◌, ◌&&◌, ◌||◌, not, find, max, is_some, Result, Ok, Err, slice_get, map, if◌then◌else◌}
 use Rattle.std.specs.Str.{bytes_eq}
 use Rattle.cm_base.specs.Configuration.{Configuration}
 use Rattle.cm_base.specs.declared.config.UnitConfig.{UnitConfig}
 use Rattle.cm_base.specs.Units.{unit_of}
 use Rattle.scsi_sense.specs.SenseCode.{SenseCode}
-use Rattle.lba_ranges.specs.declared.ranges.Range.{Range}
-use Rattle.lba_ranges.specs.Denoted.{blocks_of, total, is_within, is_overlapping}
+use Rattle.lba_ranges.specs.Denoted.{blocks_of, total}
 use Rattle.lba_ranges.specs.HeldBlocks.{HeldBlocks}
 use Rattle.lba_ranges.specs.Writings.{Held, Writing as Pair, paired}
 use Rattle.rod_token.specs.TokenText.{token_text, serial_of}
@@ -17,31 +15,28 @@ use Rattle.cm_history.specs.declared.act.Act.{Act}
 use Rattle.cm_history.specs.declared.act.Actor.{Actor}
 use Rattle.cm_history.specs.declared.act.CopyEnd.{CopyEnd}
 use Rattle.cm_history.specs.declared.answer.Answer.{Answer}
-use Rattle.cm_history.specs.declared.answer.OpState.{OpState}
 use Rattle.cm_history.specs.declared.answer.OpReport.{OpReport}
 use Rattle.cm_history.specs.Bounds.{piece_blocks}
-use Rattle.cm_history.specs.Senses.{no_such_operation, not_made, wrong_unit, altered, deleted, evicted, expired}
-use Rattle.cm_history.specs.Deeds.{Deed, moment, is_refusal, same_actor}
+use Rattle.cm_history.specs.Senses.{no_such_operation, wrong_unit, altered, expired}
+use Rattle.cm_history.specs.Deeds.{Deed, moment, same_actor}
 use Rattle.cm_history.specs.Limits.{within_limits}
 use Rattle.cm_history.specs.Legal.{may_ask}
-use Rattle.cm_history.specs.Tokens.{Token, Fate, Live, Expired, Evicted, Deleted, tokens, rod, is_live, is_over}
-use Rattle.cm_history.specs.Redeeming.{redeemed, named_token, are_alike, answer_by_fate, fate_at}
-use Rattle.cm_history.specs.Operations.{Operation, Form, OfToken, OfCopy, form_of, same_form, id_of, state, has_key, would_serve, running, is_foreground, is_background, is_ending, fits, kept, operations, written, list_of, next_piece, count, result_of}
-use Rattle.cm_history.specs.Answers.{answer_after, answer_report, answer_recall, answer_end, done_if, report_of, writings, progress, piece_of}
-use Rattle.cm_history.proofs.Lists.{In, Each, Each-in, find-in, find-none}
+use Rattle.cm_history.specs.Tokens.{Token, Fate, Live, Expired, Evicted, Deleted, tokens, rod, is_over}
+use Rattle.cm_history.specs.Redeeming.{redeemed, are_alike, answer_by_fate, fate_at}
+use Rattle.cm_history.specs.Operations.{Operation, Form, OfToken, OfCopy, form_of, same_form, id_of, state, has_key, would_serve, running, is_foreground, is_background, fits, kept, operations, written, list_of, next_piece, count, result_of}
+use Rattle.cm_history.specs.Answers.{answer_after, answer_report, answer_recall, answer_end, done_if, report_of, progress, piece_of}
+use Rattle.cm_history.proofs.Lists.{In, Each-in, find-in, find-none}
 use Rattle.cm_history.proofs.Keys.{same_form-is, record-found}
 use Rattle.cm_history.proofs.Counts.{IsBegun, begun}
 use Rattle.cm_history.proofs.Records.{kept_in}
 use Rattle.copy_jobs.specs.declared.key.Key.{Key}
 use Rattle.copy_jobs.specs.declared.job.Job.{Job}
-use Rattle.copy_jobs.specs.declared.job.Work.{Work}
-use Rattle.copy_jobs.specs.declared.job.Work.TheVariants.{Populated, Writing, Copying}
+use Rattle.copy_jobs.specs.declared.job.Work.TheVariants.{Writing}
 use Rattle.copy_jobs.specs.declared.job.WriteJob.{WriteJob}
 use Rattle.copy_jobs.specs.declared.piece.NextPiece.{NextPiece}
 use Rattle.copy_jobs.specs.Jobs as jobs
 use Rattle.copy_jobs.specs.Pieces as next
 use Rattle.copy_jobs.specs.Reports as reports
-use Rattle.rod_store.specs.declared.kept.Kept.{Kept}
 use Rattle.rod_store.specs.Judging.{judged, judged_token, judged_standing}
 use Rattle.unit_core.specs.Tables.{key_of, kept_of, tokens_of, standing_of, job_of, jobs_of, work_of}
 use Rattle.cm_history.specs.History.{past_of}
@@ -54,10 +49,10 @@ use Rattle.unit_core.proofs.Operating.{starts_within}
 use Rattle.unit_core.proofs.Finding.{find-passes, find-map}
 use Rattle.unit_core.proofs.Serving.{few-written, length-next}
 use Rattle.unit_core.proofs.Jobs.{IsNexus, IsOwn, own-nexus, found-job, is-next-key, is-next-pump, work-foreground, work-background}
-use Rattle.unit_core.proofs.Keeping.{own_key, served-there, found-own}
+use Rattle.unit_core.proofs.Keeping.{own_key, served-there}
 use Rattle.unit_core.proofs.Becoming.{start-total, start-length, start-alike, start-few, length-paired}
 use Rattle.unit_core.proofs.Asking.{asker, found-key, job-report, job-result}
-use Rattle.unit_core.proofs.Planned.{IsKnown, own-of, plain-plan, refused-plan, LeavesTokens}
+use Rattle.unit_core.proofs.Planned.{IsKnown, own-of, plain-plan, refused-plan}
 use Rattle.unit_core.proofs.ServePlans.{IsPieceOf, IsForPiece}
 
 -- ---- a redeem

@@ -1,5 +1,5 @@
 -- What is to be changed in the operations
-use Rattle.std.specs.Prelude.{◌≡◌, ℕ, ◌≤◌, ◌^◌, List, length, Some, Bool, true, false, ⊤}
+use Rattle.std.specs.Prelude.{◌≡◌, ◌≤◌, ◌^◌, List, length, Some, Bool, true, false, ⊤}
 use Rattle.lba_ranges.specs.Denoted.{total, is_within, is_overlapping}
 use Rattle.cm_history.specs.Senses.{over_quota}
 use Rattle.cm_history.specs.Operations.{is_running_copy}

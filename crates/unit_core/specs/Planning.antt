@@ -1,5 +1,5 @@
 -- What is planned for an act: its answer, and what it is to change
-use Rattle.std.specs.Prelude.{◌≡◌, ◌⊎◌, ℕ, ◌+◌, ◌≤◌, List, ◌∷◌, length, max, Option, Some, None, Bool, true, false, ◌&&◌, not, nat_lt, if◌then◌else◌}
+use Rattle.std.specs.Prelude.{◌≡◌, ◌⊎◌, ℕ, ◌+◌, ◌≤◌, List, ◌∷◌, length, max, Option, Some, None, Bool, true, ◌&&◌, not, nat_lt, if◌then◌else◌}
 use Rattle.cm_base.specs.declared.config.UnitConfig.{UnitConfig}
 use Rattle.lba_ranges.specs.Denoted.{blocks_of}
 use Rattle.lba_ranges.specs.HeldBlocks.{HeldBlocks}

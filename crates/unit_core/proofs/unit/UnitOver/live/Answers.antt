@@ -1,4 +1,4 @@
-use Rattle.std.proofs.Common.{◌≡◌, ◌∙◌, ap, length}
+use Rattle.std.proofs.Common.{◌∙◌, ap, length}
 use Rattle.cm_base.specs.Units.{unit_of}
 use Rattle.cm_history.specs.History.{past_of}
 use Rattle.cm_history.specs.Tokens.{tokens}

@@ -1,4 +1,4 @@
-use Rattle.std.proofs.Common.{◌≡◌, ℕ}
+use Rattle.std.proofs.Common.{ℕ}
 use Rattle.std.proofs.lemmas.Result.{IfOk-weaker}
 use Rattle.cm_history.specs.declared.act.Act.{Act}
 use Rattle.cm_history.specs.declared.act.Actor.{Actor}

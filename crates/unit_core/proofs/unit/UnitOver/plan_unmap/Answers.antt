@@ -1,6 +1,5 @@
-use Rattle.std.proofs.Common.{◌≡◌, ◌∙◌, ap, subst}
+use Rattle.std.proofs.Common.{◌∙◌, ap, subst}
 use Rattle.cm_base.specs.declared.config.UnitConfig.{UnitConfig}
-use Rattle.cm_base.specs.Units.{unit_of}
 use Rattle.cm_history.specs.Answers.{answer_unmap}
 use Rattle.cm_history.specs.History.{past_of}
 use Rattle.unit_core.specs.BlockChanges.{MayChange}

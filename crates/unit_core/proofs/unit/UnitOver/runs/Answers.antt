@@ -1,9 +1,7 @@
-use Rattle.std.proofs.Common.{◌≡◌, ℕ, List, Bool, true, false, ◌∙◌, ap, sym, refl}
-use Rattle.cm_base.specs.Configuration.{Configuration}
+use Rattle.std.proofs.Common.{◌≡◌, ℕ, Bool, true, false, ◌∙◌, ap, refl}
 use Rattle.cm_history.specs.declared.act.Act.{Act}
 use Rattle.cm_history.specs.declared.act.Actor.{Actor}
 use Rattle.cm_history.specs.Operations.{OfToken, OfCopy}
-use Rattle.cm_history.specs.History.{past_of}
 use Rattle.copy_jobs.specs.declared.key.Key.{Key}
 use Rattle.copy_jobs.specs.Jobs.{is_busy}
 use Rattle.unit_core.specs.Standing.{Standing}
