@@ -32,6 +32,7 @@ use Rattle.unit_core.proofs.Finding.{any-some, find-map, find-same, filter-map, 
 use Rattle.unit_core.proofs.Jobs.{IsNexus, IsOwn, own-nexus, job-key, job-runs_as, is-next-key, is-next-pump, found-job, work-background}
 use Rattle.unit_core.proofs.Tokens.{live-standing}
 use Rattle.unit_core.proofs.Planned.{IsKnown, own-of}
+use Rattle.unit_core.proofs.Bools.{and-assoc, and_first, and_second}
 
 abbrev pub is_pump : Act → Bool
 is_pump Act.Pump = true
@@ -66,10 +67,6 @@ pub serves-pump : (config : Configuration) (unit : ℕ) (past : List Deed) (acto
     → list_any (next.is_next None) (jobs_of past) ≡ is_some (would_serve past actor Act.Pump)
 serves-pump config unit past actor known = serves-by config unit past actor Act.Pump (next.is_next None) known (λ o i. is-next-pump actor o)
 
-and-assoc : (a b c : Bool) → ((a && b) && c) ≡ (a && (b && c))
-and-assoc true b c = refl
-and-assoc false b c = refl
-
 is-behind-key : (actor : Actor) (id : ℕ) (o : Operation) → IsNexus actor → IsNexus o.made.entry.actor
     → next.runs_behind (key_of actor OfToken id) (job_of o) ≡ (is_running o && fits actor (Act.Abort id) o)
 is-behind-key actor id o mine its =
@@ -103,14 +100,6 @@ key-own actor form id o e =
     ap (λ a. key_of a (form_of o.made.entry.act) (id_of o.made.entry.act)) who
     ∙ ap (λ f. key_of actor f (id_of o.made.entry.act)) what
     ∙ ap (key_of actor form) name
-  where
-    and_first : (a b : Bool) → (a && b) ≡ true → a ≡ true
-    and_first true b h = refl
-    and_first false b h = cc
-
-    and_second : (a b : Bool) → (a && b) ≡ true → b ≡ true
-    and_second true b h = h
-    and_second false b h = cc
 
 -- what is kept of a key among the operations, and among the jobs
 pub found-key : (config : Configuration) (unit : ℕ) (past : List Deed) (actor : Actor) (form : Form) (id : ℕ) → IsKnown config unit past → IsNexus actor

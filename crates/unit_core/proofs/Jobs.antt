@@ -25,6 +25,8 @@ use Rattle.unit_core.specs.Tables.{number_of, is_copy, key_of, work_of, job_of, 
 use Rattle.unit_core.proofs.Finding.{find-filter, find-map, find-same, any-filter, any-map, any-same, filter-map, filter-same}
 use Rattle.unit_core.proofs.Operating.{IsMadeBy, all-made_by}
 use Rattle.unit_core.specs.Agreeing.{AllAsked}
+use Rattle.unit_core.proofs.Bools.{and-assoc, eqb-turned}
+use Rattle.std.proofs.lemmas.List.{length-map}
 
 -- ---- a nexus makes operations
 
@@ -72,9 +74,6 @@ number-is (Nexus a) (Nexus b) x y = grind (arith, nat_tests)
 number-is (Pump a) b x y = absurd x
 number-is (Nexus a) (Pump b) x y = absurd y
 
-eqb-turned : (a b : ℕ) → (a == b) ≡ (b == a)
-eqb-turned a b = grind (arith, nat_tests)
-
 -- the job has the key exactly where the operation has it
 pub job-key : (actor : Actor) (form : Form) (id : ℕ) (o : Operation) → IsNexus actor → IsNexus o.made.entry.actor
     → jobs.has_key (key_of actor form id) (job_of o) ≡ has_key actor form id o
@@ -105,10 +104,6 @@ work-background o _ = refl
 -- the key of an act that serves by it
 abbrev pub next_key : Actor → ℕ → Option Key
 next_key actor id = Some (key_of actor OfToken id)
-
-and-assoc : (a b c : Bool) → ((a && b) && c) ≡ (a && (b && c))
-and-assoc true b c = refl
-and-assoc false b c = refl
 
 pub is-next-key : (actor : Actor) (id : ℕ) (o : Operation) → IsNexus actor → IsNexus o.made.entry.actor
     → next.is_next (next_key actor id) (job_of o) ≡ (is_running o && fits actor (Act.Advance id) o)
@@ -143,15 +138,11 @@ busy-is config unit past actor form id is own mine =
     ∙ sym (any-filter is_running (has_key actor form id) (kept past))
     ∙ sym (ap (list_any (has_key actor form id)) (running_kept config unit past is))
 
-length-map : {X Y : Type 0} (f : X → Y) (xs : List X) → length (map f xs) ≡ length xs
-length-map f [] = refl
-length-map f (x ∷ xs) = ap suc (length-map f xs)
-
 -- so many jobs run as operations do
 pub running-is : (config : Configuration) (unit : ℕ) (past : List Deed) → IsPast config unit past → length (jobs.running (jobs_of past)) ≡ length (running past)
 running-is config unit past is =
     ap length (filter-map job_of jobs.is_running (kept past) ∙ ap (map job_of) (filter-same (λ o. jobs.is_running (job_of o)) is_running (kept past) (λ o i. job-runs o)))
-    ∙ length-map job_of (filter is_running (kept past)) ∙ sym (ap length (running_kept config unit past is))
+    ∙ length-map (filter is_running (kept past)) job_of ∙ sym (ap length (running_kept config unit past is))
 
 pub crowded-is : (config : Configuration) (unit : ℕ) (past : List Deed) → IsPast config unit past → jobs.is_crowded (jobs_of past) ≡ is_crowded past
 crowded-is config unit past is = ap (nat_le running_operations) (running-is config unit past is)

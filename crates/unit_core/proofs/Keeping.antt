@@ -25,6 +25,7 @@ use Rattle.unit_core.specs.Tables.{job_of, jobs_of}
 use Rattle.unit_core.proofs.Finding.{find-map, filter-map, filter-same, map-append, map-map, map-same}
 use Rattle.unit_core.proofs.Jobs.{IsNexus, IsOwn, own-nexus, job-runs, job-key}
 use Rattle.unit_core.proofs.Serving.{served-or-not}
+use Rattle.unit_core.proofs.Bools.{and_second}
 
 -- ---- a deed that makes an operation
 
@@ -102,14 +103,6 @@ change-map p g h (o ∷ os) only on off = go (p (job_of o)) refl (change-map p g
 -- the key of an operation
 abbrev pub own_key : Operation → Key
 own_key o = (job_of o).key
-
-and_first : (a b : Bool) → (a && b) ≡ true → a ≡ true
-and_first true b e = refl
-and_first false b e = cc
-
-and_second : (a b : Bool) → (a && b) ≡ true → b ≡ true
-and_second true b e = e
-and_second false b e = cc
 
 abbrev Nexuses : List Operation → Type 0
 Nexuses os = Each (λ (x : Operation). IsNexus x.made.entry.actor) os

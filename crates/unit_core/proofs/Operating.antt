@@ -16,7 +16,7 @@ use Rattle.cm_history.specs.Operations.{Operation, OfToken, OfCopy, operations, 
 use Rattle.cm_history.specs.Answers.{answer_after, serial_made, is_busy, is_crowded}
 use Rattle.cm_history.proofs.Lists.{Each, Each-in, Each-by, Each-map, Each-append}
 use Rattle.cm_history.proofs.Counts.{IsPast, made-after}
-use Rattle.cm_history.proofs.Records.{and_first}
+use Rattle.unit_core.proofs.Bools.{and_first, and_second}
 
 -- the blocks that a Start writes lie in the unit
 abbrev pub starts_within : ℕ → Act → Bool
@@ -29,10 +29,6 @@ pub record IsMadeBy (config : Configuration) (unit : ℕ) (d : Deed) : Type 0 wh
   pub makes : is_making d.entry.act ≡ true
   pub serial : is_some (serial_made d.answer) ≡ is_populate d.entry.act
   pub within : starts_within (unit_of config unit).blocks d.entry.act ≡ true
-
-and_second : (a b : Bool) → (a && b) ≡ true → b ≡ true
-and_second true b e = e
-and_second false b e = cc
 
 -- a token is made by a Populate alone
 serial-made : (config : Configuration) (unit : ℕ) (past : List Deed) (actor : Actor) (now : ℕ) (act : Act) → is_making act ≡ true

@@ -45,7 +45,7 @@ unmap_within unit now ranges low = go (is_within unit.blocks ranges)
     go true = let f = fewer in omega arith
     go false = low
 
-wrote_none : (answer : Answer) → wrote_of answer [] ≡ []
+pub wrote_none : (answer : Answer) → wrote_of answer [] ≡ []
 wrote_none answer = go (is_refusal answer) (is_failure answer)
   where
     none : List Writing

@@ -24,6 +24,7 @@ use Rattle.unit_core.specs.Agreeing.{IsAsked}
 use Rattle.unit_core.proofs.Serving.{IsPaced, all-paced, few-written, Serves, token-runs, paced-after}
 use Rattle.unit_core.proofs.Jobs.{IsOwn}
 use Rattle.unit_core.proofs.Becoming.{start-length}
+use Rattle.unit_core.proofs.Bools.{off}
 
 sum-filter : {X : Type 0} (f : X → ℕ) (p : X → Bool) (xs : List X) → sum_by f (filter p xs) ≡ sum_by (λ x. if p x then f x else 0) xs
 sum-filter f p [] = refl
@@ -128,10 +129,6 @@ change-reserves p g (x ∷ js) j found less = rw (sum_by-cons of_job x js) (go (
     go true f ih = let same : x ≡ j = cc in let fewer : of_job (g x) + 1 ≤ of_job x = rw same less in rw (sum_by-cons of_job (g x) js) (omega (arith, fewer))
     go false f ih = rw (sum_by-cons of_job x (change p g js)) (omega (arith, ih f))
 
-not-true : (t : Bool) → not t ≡ true → t ≡ false
-not-true true e = cc
-not-true false e = refl
-
 few-pieces : (n blocks : ℕ) → piece_blocks * n ≤ blocks → n ≤ pieces blocks
 few-pieces n blocks few = omega (arith, few)
 
@@ -179,7 +176,7 @@ serving-reserves config unit limits past d o asked serves own runs begun paced =
     opened id is (inr (inl stops)) = let no : (is_foreground (Act.Open id) || is_background (Act.Open id)) ≡ true = sym (ap (λ a. is_foreground a || is_background a) is) ∙ stops.start in cc
     opened id is (inr (inr (inl ends))) = let no : (is_foreground (Act.Open id) || is_background (Act.Open id)) ≡ true = sym (ap (λ a. is_foreground a || is_background a) is) ∙ ends.start in cc
     opened id is (inr (inr (inr closes))) =
-        let ended : is_running_copy closes.result.state ≡ false = not-true (is_running_copy closes.result.state) (sym (ap (within_limits config unit) closes.act) ∙ asked.limits) in
+        let ended : is_running_copy closes.result.state ≡ false = off (is_running_copy closes.result.state) (sym (ap (within_limits config unit) closes.act) ∙ asked.limits) in
         let form : is_running o' ≡ is_running_copy (result_or (result_of o.servers) d.entry.act).state = ap (is_running_as o') (ap form_of is) in
         let over : is_running o' ≡ false = form ∙ ap (λ a. is_running_copy (result_or (result_of o.servers) a).state) closes.act ∙ ended in
         let none : of_job (job_of o') ≡ 0 = after ∙ ap (λ t. if t then needs o' else 0) over in

@@ -42,6 +42,8 @@ use Rattle.unit_core.proofs.Keeping.{own_key, served-there, served-runs, serving
 use Rattle.unit_core.proofs.Becoming.{moves-work, stops-work, ends-work, closes-work}
 use Rattle.unit_core.proofs.Asking.{key-own}
 use Rattle.unit_core.proofs.Planned.{IsKnown, own-of, deed-answer, deed-serves, deed-makes, idle-step, LeavesTokens}
+use Rattle.unit_core.proofs.Bools.{and_first, and_second, off}
+use Rattle.std.proofs.lemmas.Bool.{or_left, or_right}
 
 pub deed-wrote : (config : Configuration) (unit : ℕ) (past : List Deed) (actor : Actor) (at : ℕ) (act : Act) (d : Deed) → IsDeed config unit past actor at act d
     → d.wrote ≡ wrote_of (answer_after config unit past actor at act) (writings past actor act)
@@ -90,22 +92,6 @@ served-plan config unit past actor at act o answer blocks j g known found told w
 
 -- ---- an operation is ended
 
-and_first : (a b : Bool) → (a && b) ≡ true → a ≡ true
-and_first true b e = refl
-and_first false b e = cc
-
-and_second : (a b : Bool) → (a && b) ≡ true → b ≡ true
-and_second true b e = e
-and_second false b e = cc
-
-or_first : (a b : Bool) → a ≡ true → (a || b) ≡ true
-or_first true b e = refl
-or_first false b e = cc
-
-or_second : (a b : Bool) → b ≡ true → (a || b) ≡ true
-or_second true b e = refl
-or_second false b e = e
-
 busy-own : (config : Configuration) (unit : ℕ) (past : List Deed) (actor : Actor) (act : Act) (o : Operation) → IsKnown config unit past → would_serve past actor act ≡ Some o
     → jobs.is_busy (own_key o) (jobs_of past) ≡ true
 busy-own config unit past actor act o known found =
@@ -138,7 +124,7 @@ end-plan config unit past actor at id o known found =
       on = ap is_ending is.act;
       answer = ap is_failure (deed-answer config unit past actor at (Act.End id) d is ∙ sym told);
       wrote = deed-wrote config unit past actor at (Act.End id) d is ∙ ap (λ a. wrote_of a []) (sym told);
-      start = or_first (is_foreground o.made.entry.act) _ (and_second (has_key actor OfToken id o) _ fit);
+      start = or_left (is_foreground o.made.entry.act) _ (and_second (has_key actor OfToken id o) _ fit);
     })
 
 pub abort-plan : (config : Configuration) (unit : ℕ) (past : List Deed) (actor : Actor) (at id : ℕ) (o : Operation) → IsKnown config unit past → would_serve past actor (Act.Abort id) ≡ Some o
@@ -162,16 +148,12 @@ abort-plan config unit past actor at id o known found =
       on = ap is_ending is.act;
       answer = ap is_failure (deed-answer config unit past actor at (Act.Abort id) d is ∙ sym told);
       wrote = deed-wrote config unit past actor at (Act.Abort id) d is ∙ ap (λ a. wrote_of a []) (sym told);
-      start = or_second (is_foreground o.made.entry.act) _ (and_second (has_key actor OfToken id o) _ fit);
+      start = or_right (is_foreground o.made.entry.act) _ (and_second (has_key actor OfToken id o) _ fit);
     })
 
 copy-form : (f : Form) → is_copy f ≡ true → f ≡ OfCopy
 copy-form OfCopy e = refl
 copy-form OfToken e = cc
-
-not-running : (t : Bool) → not t ≡ true → t ≡ false
-not-running true e = cc
-not-running false e = refl
 
 pub close-plan : (config : Configuration) (unit : ℕ) (past : List Deed) (actor : Actor) (at id : ℕ) (result : CopyEnd) (o : Operation) → IsKnown config unit past
     → within_limits config unit (Act.Close id result) ≡ true → would_serve past actor (Act.Close id result) ≡ Some o
@@ -179,7 +161,7 @@ pub close-plan : (config : Configuration) (unit : ℕ) (past : List Deed) (actor
 close-plan config unit past actor at id result o known limits found =
     served-plan config unit past actor at (Act.Close id result) o Answer.Done BlockChange.Nothing (JobChange.Close (key_of actor OfCopy id) result) (with_work (closed_by result))
     known found told refl tt
-    (refl, subst (λ k. jobs.is_busy k (jobs_of past) ≡ true) key (busy-own config unit past actor (Act.Close id result) o known found), not-running (is_running_copy result.state) limits)
+    (refl, subst (λ k. jobs.is_busy k (jobs_of past) ≡ true) key (busy-own config unit past actor (Act.Close id result) o known found), off (is_running_copy result.state) limits)
     (ap (λ k. change (jobs.runs_as k) (with_work (closed_by result)) (jobs_of past)) (sym key)) refl becomes (λ e. refl)
   where
     fit : has_key actor OfCopy id o ≡ true

@@ -21,12 +21,9 @@ use Rattle.cm_history.specs.Operations.{Operation, Form, OfToken, OfCopy, same_f
 use Rattle.cm_history.specs.Answers.{deed, answer_after, writings, wrote_of, progress, progress_by, piece_of}
 use Rattle.cm_history.proofs.Lists.{In, Each, Each-in, Each-by, Each-map, Each-append, In-filter, find-in, find-none, filter-passes}
 use Rattle.cm_history.proofs.Counts.{IsPast, apart, same_place, IsBegun, begun}
-use Rattle.cm_history.proofs.Records.{and_first}
 use Rattle.unit_core.proofs.Finding.{find-passes}
-
-pub and_second : (a b : Bool) → (a && b) ≡ true → b ≡ true
-and_second true b e = e
-and_second false b e = cc
+use Rattle.unit_core.proofs.Bools.{and_first, and_second}
+use Rattle.std.proofs.lemmas.Bool.{or_left, or_right}
 
 -- the next piece was written
 pub record Moves (unit : UnitConfig) (past : List Deed) (o : Operation) (told : Answer) (ws : List Writing) (asked : Act) : Type 0 where
@@ -62,14 +59,6 @@ pub record Closes (o : Operation) (told : Answer) (ws : List Writing) (asked : A
 abbrev pub Serves : UnitConfig → List Deed → Operation → Answer → List Writing → Act → Type 0
 Serves unit past o answer wrote act = Moves unit past o answer wrote act ⊎ (Stops unit past o answer wrote act ⊎ (Ends o answer wrote act ⊎ Closes o answer wrote act))
 
-or_first : (a b : Bool) → a ≡ true → (a || b) ≡ true
-or_first true b e = refl
-or_first false b e = cc
-
-or_second : (a b : Bool) → b ≡ true → (a || b) ≡ true
-or_second true b e = refl
-or_second false b e = e
-
 -- a piece is written or stopped
 piece-serves : (unit : UnitConfig) (past : List Deed) (o : Operation) (act : Act) → is_ending act ≡ false
     → (is_foreground o.made.entry.act || is_background o.made.entry.act) ≡ true → (otherwise : Answer) (w : Option Operation) → w ≡ Some o
@@ -102,10 +91,10 @@ how-serves config unit past actor now act o e = go act e (fit act e)
 
     go : (act : Act) → would_serve past actor act ≡ Some o → fits actor act o ≡ true
         → Serves (unit_of config unit) past o (answer_after config unit past actor now act) (wrote_of (answer_after config unit past actor now act) (writings past actor act)) act
-    go (Act.Advance id) e f = piece-serves (unit_of config unit) past o (Act.Advance id) refl (or_first _ _ (and_second (has_key actor OfToken id o) _ f)) _ _ e
-    go Act.Pump e f = piece-serves (unit_of config unit) past o Act.Pump refl (or_second (is_foreground o.made.entry.act) _ f) _ _ e
-    go (Act.End id) e f = inr (inr (inl (record { on = refl; answer = rw e refl; wrote = rw e refl; start = or_first _ _ (and_second (has_key actor OfToken id o) _ f) })))
-    go (Act.Abort id) e f = inr (inr (inl (record { on = refl; answer = rw e refl; wrote = rw e refl; start = or_second (is_foreground o.made.entry.act) _ (and_second (has_key actor OfToken id o) _ f) })))
+    go (Act.Advance id) e f = piece-serves (unit_of config unit) past o (Act.Advance id) refl (or_left _ _ (and_second (has_key actor OfToken id o) _ f)) _ _ e
+    go Act.Pump e f = piece-serves (unit_of config unit) past o Act.Pump refl (or_right (is_foreground o.made.entry.act) _ f) _ _ e
+    go (Act.End id) e f = inr (inr (inl (record { on = refl; answer = rw e refl; wrote = rw e refl; start = or_left _ _ (and_second (has_key actor OfToken id o) _ f) })))
+    go (Act.Abort id) e f = inr (inr (inl (record { on = refl; answer = rw e refl; wrote = rw e refl; start = or_right (is_foreground o.made.entry.act) _ (and_second (has_key actor OfToken id o) _ f) })))
     go (Act.Close id result) e f = inr (inr (inr (record { id = id; result = result; act = refl; answer = rw e refl; wrote = rw e refl; copy = copies id f })))
       where
         copies : (id : ℕ) → has_key actor OfCopy id o ≡ true → form_of o.made.entry.act ≡ OfCopy

@@ -23,17 +23,6 @@ use Rattle.unit_core.specs.BlockChanges.{writings_of, MayChange}
 use Rattle.unit_core.specs.Planning.{of_blocks, IsPlan, Reads, Writes}
 use Rattle.unit_core.proofs.Planned.{plain-plan}
 
-wrote_none : (answer : Answer) → wrote_of answer [] ≡ []
-wrote_none answer = go (is_refusal answer) (is_failure answer)
-  where
-    none : List Writing
-    none = []
-
-    go : (t u : Bool) → (if t then none else if u then none else none) ≡ none
-    go true u = refl
-    go false true = refl
-    go false false = refl
-
 pub read-plan : (config : Configuration) (unit : ℕ) (past : List Deed) (actor : Actor) (at : ℕ) (act : Act) (lba count : ℕ) (p : BlockPlan) → Reads lba count act
     → p.answer ≡ answer_read (unit_of config unit) (held past) lba count → p.change ≡ BlockChange.Nothing → IsPlan config unit past actor at act (of_blocks p)
 read-plan config unit past actor at act lba count p reads told none = go reads

@@ -20,6 +20,7 @@ use Rattle.rod_store.specs.declared.kept.Standing.{Standing}
 use Rattle.rod_store.specs.Kept as store
 use Rattle.unit_core.specs.Tables.{standing_of, kept_of, tokens_of}
 use Rattle.unit_core.proofs.Finding.{filter-map, filter-same, map-append, map-map, map-same, all-map, all-same}
+use Rattle.unit_core.proofs.Bools.{and_first, eqb-turned}
 
 -- ---- one token
 
@@ -104,10 +105,6 @@ older-kept : (unit : UnitConfig) (a b : Token) → is_live a.fate ≡ true → i
 older-kept unit a b x y =
     ap (λ n. nat_lt n (store.used_last (kept_of unit b).standing) || (n == store.used_last (kept_of unit b).standing && nat_le a.serial b.serial)) (last-kept unit a x)
     ∙ ap (λ n. nat_lt a.last_use n || (a.last_use == n && nat_le a.serial b.serial)) (last-kept unit b y)
-
-and_first : (a b : Bool) → (a && b) ≡ true → a ≡ true
-and_first true b e = refl
-and_first false b e = cc
 
 -- a live token makes room in the store exactly where it does in the past
 room-kept : (unit : UnitConfig) (now : ℕ) (ts : List Token) (t : Token) → is_live_at now t ≡ true
@@ -197,9 +194,6 @@ unmade unit d past g none dead lives =
     ap (λ l. map (kept_of unit) (map (token_after d (tokens past)) (tokens past) ++ l)) (none-made d past (length (tokens past)) d.entry.act none)
     ∙ ap (map (kept_of unit)) (append-nil (map (token_after d (tokens past)) (tokens past)))
     ∙ steps-kept unit d (tokens past) g dead lives
-
-eqb-turned : (a b : ℕ) → (a == b) ≡ (b == a)
-eqb-turned a b = grind (arith, nat_tests)
 
 map-own : {X : Type 0} (xs : List X) → map (λ x. x) xs ≡ xs
 map-own [] = refl

@@ -54,6 +54,8 @@ use Rattle.unit_core.proofs.Becoming.{start-total, start-length, start-alike, st
 use Rattle.unit_core.proofs.Asking.{asker, found-key, job-report, job-result}
 use Rattle.unit_core.proofs.Planned.{IsKnown, own-of, plain-plan, refused-plan}
 use Rattle.unit_core.proofs.ServePlans.{IsPieceOf, IsForPiece}
+use Rattle.unit_core.proofs.Bools.{and_first, and_second}
+use Rattle.std.proofs.lemmas.Bool.{or_left, or_right}
 
 -- ---- a redeem
 
@@ -114,22 +116,6 @@ redeem-given s actor at text target t may =
     by_fate f = answer_by_fate (unit_of s.config s.unit) t (fate_at (max at (moment (past_of s.config s.unit s.entries))) t f)
 
 -- ---- a report
-
-and_first : (a b : Bool) → (a && b) ≡ true → a ≡ true
-and_first true b e = refl
-and_first false b e = cc
-
-and_second : (a b : Bool) → (a && b) ≡ true → b ≡ true
-and_second true b e = e
-and_second false b e = cc
-
-or_first : (a b : Bool) → a ≡ true → (a || b) ≡ true
-or_first true b e = refl
-or_first false b e = cc
-
-or_second : (a b : Bool) → b ≡ true → (a || b) ≡ true
-or_second true b e = refl
-or_second false b e = e
 
 form-is : (actor : Actor) (form : Form) (id : ℕ) (o : Operation) → has_key actor form id o ≡ true → form_of o.made.entry.act ≡ form
 form-is actor form id o e =
@@ -248,10 +234,10 @@ piece-of config unit past o k p known there n same start =
 -- a job that is next writes blocks
 next-starts : (k : Option Key) (o : Operation) → next.is_next k (job_of o) ≡ true → (is_foreground o.made.entry.act || is_background o.made.entry.act) ≡ true
 next-starts (Some key) o e =
-    or_first (is_foreground o.made.entry.act) (is_background o.made.entry.act)
+    or_left (is_foreground o.made.entry.act) (is_background o.made.entry.act)
     (sym (work-foreground o o.made.entry.act) ∙ and_second (jobs.runs_as key (job_of o)) (next.is_foreground (work_of o o.made.entry.act)) e)
 next-starts None o e =
-    or_second (is_foreground o.made.entry.act) (is_background o.made.entry.act)
+    or_right (is_foreground o.made.entry.act) (is_background o.made.entry.act)
     (sym (work-background o o.made.entry.act) ∙ and_second (jobs.is_running (job_of o)) (next.is_background (work_of o o.made.entry.act)) e)
 
 -- the operation of a piece that is next
@@ -291,7 +277,7 @@ for-piece config unit past actor at act key otherwise o (asked, inl adv) found =
       found = e;
       answer = ap (progress (unit_of config unit) past (Answer.Refused no_such_operation)) e;
       writes = ap piece_of e;
-      start = or_first (is_foreground o.made.entry.act) (is_background o.made.entry.act) (and_second (has_key actor OfToken id o) (is_foreground o.made.entry.act) (find-passes (fits actor (Act.Advance id)) (running past) o e));
+      start = or_left (is_foreground o.made.entry.act) (is_background o.made.entry.act) (and_second (has_key actor OfToken id o) (is_foreground o.made.entry.act) (find-passes (fits actor (Act.Advance id)) (running past) o e));
       on = refl;
       ends = refl;
     }
@@ -303,7 +289,7 @@ for-piece config unit past actor at act key otherwise o (asked, inr pump) found 
       found = e;
       answer = ap (progress (unit_of config unit) past Answer.Idle) e;
       writes = ap piece_of e;
-      start = or_second (is_foreground o.made.entry.act) (is_background o.made.entry.act) (find-passes (fits actor Act.Pump) (running past) o e);
+      start = or_right (is_foreground o.made.entry.act) (is_background o.made.entry.act) (find-passes (fits actor Act.Pump) (running past) o e);
       on = refl;
       ends = refl;
     }
@@ -325,14 +311,6 @@ no-piece config unit past actor at act key otherwise (asked, inr pump) none =
         (record { making = refl; deletes = λ s. refl; redeems = λ s. refl }) e
 
 -- ---- operations that are ended
-
-pub off : (t : Bool) → not t ≡ true → t ≡ false
-off true e = cc
-off false e = refl
-
-pub on : (t : Bool) → not t ≡ false → t ≡ true
-on true e = refl
-on false e = cc
 
 pub none-some : {X : Type 0} (w : Option X) → is_some w ≡ false → w ≡ None
 none-some None e = refl
