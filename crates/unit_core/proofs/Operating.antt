@@ -1,6 +1,6 @@
 -- What holds of each operation of a unit
 use Rattle.std.proofs.Common.{◌≡◌, ℕ, List, [], ◌∷◌, length, refl, ap, sym, ◌∙◌, subst, true, false, Bool}
-use Rattle.std.specs.Prelude.{◌==◌, ◌&&◌, not, map, is_some, nat_le, ◌^◌, if◌then◌else◌}
+use Rattle.std.specs.Prelude.{◌==◌, not, map, is_some, nat_le, ◌^◌, if◌then◌else◌}
 use Rattle.cm_base.specs.Configuration.{Configuration}
 use Rattle.cm_base.specs.Units.{unit_of}
 use Rattle.cm_history.specs.declared.act.Act.{Act}

@@ -1,6 +1,6 @@
 -- The entries that are kept free for operations, and those for jobs
 use Rattle.std.proofs.Common.{◌≡◌, ℕ, zero, suc, ◌+◌, ◌-◌, ◌*◌, ◌≤◌, List, [], ◌∷◌, ◌++◌, length, refl, ap, sym, ◌∙◌, arith, true, false, Bool, inl, inr}
-use Rattle.std.specs.Prelude.{Some, ◌==◌, ◌||◌, not, map, filter, find, cond, sum_by, if◌then◌else◌}
+use Rattle.std.specs.Prelude.{Some, ◌==◌, ◌||◌, map, filter, find, cond, sum_by, if◌then◌else◌}
 use Rattle.std.proofs.lemmas.List.Sums.{sum_by-append, sum_by-cons}
 use Rattle.cm_base.specs.Configuration.{Configuration}
 use Rattle.cm_base.specs.declared.config.UnitConfig.{UnitConfig}

@@ -1,6 +1,6 @@
 -- Plans of acts on blocks alone
-use Rattle.std.proofs.Common.{◌≡◌, ℕ, ◌<◌, List, [], ◌∷◌, refl, ap, sym, ◌∙◌, subst, true, false, Bool, inl, inr}
-use Rattle.std.specs.Prelude.{map, if◌then◌else◌}
+use Rattle.std.proofs.Common.{◌≡◌, ℕ, ◌<◌, List, [], ◌∷◌, refl, ap, sym, ◌∙◌, subst, true, inl, inr}
+use Rattle.std.specs.Prelude.{map}
 use Rattle.std.specs.List.{AllByRecursion}
 use Rattle.cm_base.specs.Configuration.{Configuration}
 use Rattle.cm_base.specs.Units.{unit_of}
@@ -8,13 +8,12 @@ use Rattle.lba_ranges.specs.declared.ranges.Range.{Range}
 use Rattle.lba_ranges.specs.Denoted.{blocks_of, is_within}
 use Rattle.lba_ranges.proofs.Rows.{blocks_of-below}
 use Rattle.lba_ranges.specs.HeldBlocks.{HeldBlocks}
-use Rattle.lba_ranges.specs.Writings.{Held, Writing, unmapped}
+use Rattle.lba_ranges.specs.Writings.{Held, unmapped}
 use Rattle.cm_history.specs.declared.act.Act.{Act}
 use Rattle.cm_history.specs.declared.act.Actor.{Actor}
-use Rattle.cm_history.specs.declared.answer.Answer.{Answer}
-use Rattle.cm_history.specs.Deeds.{Deed, is_refusal}
+use Rattle.cm_history.specs.Deeds.{Deed}
 use Rattle.cm_history.specs.Blocks.{held}
-use Rattle.cm_history.specs.Operations.{is_failure, running}
+use Rattle.cm_history.specs.Operations.{running}
 use Rattle.cm_history.specs.Answers.{answer_read, answer_write, answer_unmap, answer_status, put_at, wrote_of}
 use Rattle.cm_history.proofs.Lists.{find-none}
 use Rattle.unit_core.specs.declared.block_change.BlockChange.{BlockChange}
@@ -22,6 +21,7 @@ use Rattle.unit_core.specs.declared.block_plans.BlockPlan.{BlockPlan}
 use Rattle.unit_core.specs.BlockChanges.{writings_of, MayChange}
 use Rattle.unit_core.specs.Planning.{of_blocks, IsPlan, Reads, Writes}
 use Rattle.unit_core.proofs.Planned.{plain-plan}
+use Rattle.unit_core.proofs.Quotas.{wrote_none}
 
 pub read-plan : (config : Configuration) (unit : ℕ) (past : List Deed) (actor : Actor) (at : ℕ) (act : Act) (lba count : ℕ) (p : BlockPlan) → Reads lba count act
     → p.answer ≡ answer_read (unit_of config unit) (held past) lba count → p.change ≡ BlockChange.Nothing → IsPlan config unit past actor at act (of_blocks p)
