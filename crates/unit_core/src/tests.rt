@@ -134,6 +134,45 @@ fn redeem(
     ask(config, unit, moment, Act::Redeem { text, target: 0 })
 }
 
+/// Begins to write one block in the background, by the identifier 2.
+fn start_one(
+    alloc: Global,
+    config: &Config,
+    unit: &mut Unit,
+    lba: u64,
+) -> Result<Option<Answer>, Fail>
+    requires config { unit.old.config ≡ config.now }
+    requires unit { unit.old.unit ≡ 0 }
+    requires one { length config.now.units ≡ 1 }
+    ensures config { unit.new.config ≡ unit.old.config }
+    ensures unit { unit.new.unit ≡ unit.old.unit }
+{
+    let ranges = row(alloc, lba, 1)?;
+    let rod = blocks(alloc, 0x33, 1)?;
+    let background = true;
+    ask(
+        config,
+        unit,
+        0,
+        Act::Start {
+            id: 2,
+            background,
+            ranges,
+            rod,
+        },
+    )
+}
+
+/// The operation has written so many blocks, and runs or is done.
+fn is_progress(answer: &Option<Answer>, is_running: bool, blocks: u32) -> bool {
+    match answer {
+        Some(Answer::Progress { state, count }) => {
+            *count == blocks && matches!(state, OpState::Running) == is_running
+        }
+        _ => false,
+    }
+}
+
 /// A write is put, read, told and unmapped; what is outside, or over the quota, is refused.
 #[test]
 fn acts_on_blocks(rt: HostRuntime) -> Result<(), Fail> {
@@ -273,42 +312,14 @@ fn entries_are_kept_free(rt: HostRuntime) -> Result<(), Fail> {
     ask(&config, &mut unit, 0, Act::Write { lba: 0, list })?;
     populate(alloc, &config, &mut unit, 0, 1, 0)?;
     redeem(&config, &mut unit, 0, 0)?;
-    let ranges = row(alloc, 9, 1)?;
-    let rod = blocks(alloc, 0x33, 1)?;
-    let started = ask(
-        &config,
-        &mut unit,
-        0,
-        Act::Start {
-            id: 2,
-            background: true,
-            ranges,
-            rod,
-        },
-    )?;
-    assert!(rt;
-        matches!(
-            started,
-            Some(Answer::Progress {
-                state: OpState::Running,
-                count: 0
-            })
-        )
-    );
+    let started = start_one(alloc, &config, &mut unit, 9)?;
+    assert!(rt; is_progress(&started, true, 0));
     assert!(rt; unit.kept() == 4 && unit.runs(Actor::Nexus(1), false, 2));
     let list = blocks(alloc, 0x44, 1)?;
     let full = ask(&config, &mut unit, 0, Act::Write { lba: 0, list })?;
     assert!(rt; full.is_none());
     let moved = pump(&mut unit)?;
-    assert!(rt;
-        matches!(
-            moved,
-            Some(Answer::Progress {
-                state: OpState::Done,
-                count: 1
-            })
-        )
-    );
+    assert!(rt; is_progress(&moved, false, 1));
     let told = ask(&config, &mut unit, 0, Act::Report { id: 2 })?;
     assert!(rt;
         matches!(&told, Some(Answer::Report(report)) if report.background && report.count == 1)
