@@ -1,13 +1,14 @@
-ghost use Rattle.std.specs.Prelude.{◌≡◌, Bool};
+ghost use Rattle.std.specs.Prelude.{◌≡◌, Bool, IfOk};
+ghost use Rattle.scsi_sense.specs.declared.fault.ParamFault.{ParamFault};
 ghost use Rattle.cmd_program.specs.Meaning.{reply_of};
 ghost use Rattle.cmd_program.specs.Program.{next, give_up, unless_refused, done};
 ghost use Rattle.token_cmds.specs.Meaning.{by_ended};
 
-use cm_base::Payload;
+use cm_base::{OutOfMemory, Payload};
 use cm_frame::Reply;
 use cm_history::Answer;
 use cmd_program::Step;
-use scsi_sense::Sense;
+use scsi_sense::{ParamFault, Sense};
 
 /// How a command ended.
 #[derive(Drop, Clone, Copy)]
@@ -25,6 +26,16 @@ fn given_up_reply(full: bool) -> Reply
     ensures { result ≡ reply_of full }
 {
     if full { Reply::Full } else { Reply::Busy }
+}
+
+/// The sense by which a list is refused.
+pub(crate) fn refusal(fault: ParamFault) -> Result<Sense, OutOfMemory>
+    ensures { IfOk result (λ sense. fault ≡ ParamFault.Refused sense) }
+{
+    match fault {
+        ParamFault::Refused(sense) => Ok(sense),
+        ParamFault::OutOfMemory => Err(OutOfMemory),
+    }
 }
 
 impl Ended {

@@ -6,13 +6,13 @@ ghost use Rattle.cmd_program.specs.Program.{next, refused};
 ghost use Rattle.cmd_program.specs.SingleActs.{populate};
 ghost use Rattle.token_cmds.specs.Meaning.{by_phase, by_populate, IsSoundPhase};
 
-use crate::ended::Ended;
+use crate::ended::{Ended, refusal};
 use crate::phase::Phase;
 use block_params::{PopulateList, read_populate};
 use cm_base::{OutOfMemory, Payload};
 use cm_history::Act;
 use cmd_program::Step;
-use scsi_sense::{ParamFault, Sense};
+use scsi_sense::Sense;
 use std::alloc::Global;
 
 /// A POPULATE TOKEN whose list was read.
@@ -31,9 +31,9 @@ pub(crate) fn begin(
     listed: u32,
     out: &Payload,
 ) -> Result<Phase, OutOfMemory>
-    ensures program { (config : Configuration) → IfOk result (λ p. by_phase config p
+    ensures program { IfOk result (λ p. (config : Configuration) → by_phase config p
         ≡ (if length out.now == listed then populate unit id (populate_read out.now) else refused bad_list_length)) }
-    ensures sound { (config : Configuration) → unit < length config.units → IfOk result (λ p. IsSoundPhase config p) }
+    ensures sound { IfOk result (λ p. (config : Configuration) → unit < length config.units → IsSoundPhase config p) }
 {
     if out.len() as u64 != u64::from(listed) {
         let sense = Sense::parameter_list_length_error();
@@ -41,8 +41,7 @@ pub(crate) fn begin(
     }
     match read_populate(alloc, out.as_slice()) {
         Ok(list) => Ok(Phase::Populating(Populate { unit, id, list })),
-        Err(ParamFault::Refused(sense)) => Ok(Phase::Ended(Ended::Refused(sense))),
-        Err(ParamFault::OutOfMemory) => Err(OutOfMemory),
+        Err(fault) => Ok(Phase::Ended(Ended::Refused(refusal(fault)?))),
     }
 }
 

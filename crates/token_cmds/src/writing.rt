@@ -15,7 +15,7 @@ ghost use Rattle.cmd_program.specs.Program.{next, refused, give_up, go_on_by, as
 ghost use Rattle.cmd_program.specs.TokenWrite.{wanted, deleting, advancing, started, redeemed, starting, zero_rod, write_by, write_using_token};
 ghost use Rattle.token_cmds.specs.Meaning.{by_phase, by_writing, given, IsGiven, IsRod, IsAskable, IsAnswerToWriting, IsSoundPhase, IsSoundWriting};
 
-use crate::ended::Ended;
+use crate::ended::{Ended, refusal};
 use crate::phase::Phase;
 use block_params::{WriteList, read_write_token};
 use cm_base::{Config, OutOfMemory, Payload};
@@ -24,7 +24,7 @@ use cm_history::{Act, Answer, OpState};
 use cmd_program::Step;
 use lba_ranges::{BlockList, Fill, Piece};
 use rod_token::{TokenKind, classify};
-use scsi_sense::{ParamFault, Sense};
+use scsi_sense::Sense;
 use std::alloc::Global;
 
 /// Blocks that one Advance writes.
@@ -76,8 +76,7 @@ pub(crate) fn begin(
     }
     match read_write_token(alloc, out.as_slice()) {
         Ok(list) => Ok(Write { unit, id, list }.by_token(config)),
-        Err(ParamFault::Refused(sense)) => Ok(Phase::Ended(Ended::Refused(sense))),
-        Err(ParamFault::OutOfMemory) => Err(OutOfMemory),
+        Err(fault) => Ok(Phase::Ended(Ended::Refused(refusal(fault)?))),
     }
 }
 
