@@ -176,3 +176,11 @@ abbrev pub HasLastStep : Phase → Type 0
 HasLastStep (Phase.Writing (Writing.Ending unit id full)) = Unit {0}
 HasLastStep (Phase.Ended (Ended.GaveUp full)) = Unit {0}
 HasLastStep _ = ⊥
+
+-- the command is that of some request after some outcomes, and what it asks for may be asked
+pub record IsCommand (config : Configuration) (command : TokenCommand) : Type 0 where
+  pub sound : IsSound config command
+  pub nexus : ℕ
+  pub request : Request
+  pub outcomes : List Outcome
+  pub stands : StandsFor config command nexus request outcomes

@@ -12,3 +12,6 @@ mod status;
 mod writing;
 
 pub use command::TokenCommand;
+
+#[cfg(test)]
+mod tests;
