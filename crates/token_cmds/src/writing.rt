@@ -92,7 +92,7 @@ impl Write {
             TokenKind::BadLength => Phase::Ended(Ended::Refused(Sense::invalid_token_length())),
             TokenKind::BadType => Phase::Ended(Ended::Refused(Sense::unsupported_token_type())),
             TokenKind::Zero => Phase::Writing(Writing::Zeroing { write: self }),
-            TokenKind::Names { unit, serial: _ } => self.by_creator(config, unit),
+            TokenKind::Names { unit, .. } => self.by_creator(config, unit),
         }
     }
 
@@ -207,7 +207,7 @@ impl Write {
         ensures sound { (config : Configuration) → IsGiven config self → IsSoundPhase config result }
     {
         match answer {
-            Answer::Progress { state, count: _ } => match state {
+            Answer::Progress { state, .. } => match state {
                 OpState::Done => self.deleting(),
                 OpState::Failed(sense) => Phase::Ended(Ended::Refused(sense)),
                 OpState::Terminated => Phase::Ended(Ended::Refused(Sense::copy_aborted())),
@@ -279,7 +279,7 @@ impl Writing {
             }),
             Writing::Redeemed { write, rod } => write.start_part(alloc, rod),
             Writing::Zeroing { write } => write.start_zeros(alloc, config),
-            Writing::Advancing { write, left: _ } => Ok(Step::Do {
+            Writing::Advancing { write, .. } => Ok(Step::Do {
                 unit: write.unit,
                 act: Act::Advance { id: write.id },
             }),
@@ -287,7 +287,7 @@ impl Writing {
                 unit: *creator,
                 act: Act::Delete { serial: *serial },
             }),
-            Writing::Ending { unit, id, full: _ } => Ok(Step::Do {
+            Writing::Ending { unit, id, .. } => Ok(Step::Do {
                 unit: *unit,
                 act: Act::End { id: *id },
             }),
@@ -301,19 +301,12 @@ impl Writing {
             → IsSoundPhase config result }
     {
         match self {
-            Writing::Redeeming { write, creator: _ } => write.redeemed(answer),
+            Writing::Redeeming { write, .. } => write.redeemed(answer),
             Writing::Redeemed { write, rod } => write.started_part(&rod, answer),
             Writing::Zeroing { write } => write.started(answer),
             Writing::Advancing { write, left } => write.advanced(left, answer),
-            Writing::Deleting {
-                creator: _,
-                serial: _,
-            } => Phase::Ended(Ended::unless_refused(answer)),
-            Writing::Ending {
-                unit: _,
-                id: _,
-                full,
-            } => Phase::Ended(Ended::GaveUp { full }),
+            Writing::Deleting { .. } => Phase::Ended(Ended::unless_refused(answer)),
+            Writing::Ending { full, .. } => Phase::Ended(Ended::GaveUp { full }),
         }
     }
 
@@ -324,16 +317,12 @@ impl Writing {
         ensures sound { (config : Configuration) → IsSoundWriting config self → IsSoundPhase config result }
     {
         match self {
-            Writing::Advancing { write, left: _ } => Phase::Writing(Writing::Ending {
+            Writing::Advancing { write, .. } => Phase::Writing(Writing::Ending {
                 unit: write.unit,
                 id: write.id,
                 full,
             }),
-            Writing::Ending {
-                unit: _,
-                id: _,
-                full: first,
-            } => Phase::Ended(Ended::GaveUp { full: first }),
+            Writing::Ending { full: first, .. } => Phase::Ended(Ended::GaveUp { full: first }),
             _ => Phase::Ended(Ended::GaveUp { full }),
         }
     }
