@@ -1,0 +1,4 @@
+pub mod Joined
+pub mod Open
+pub mod Lists
+pub mod Phases

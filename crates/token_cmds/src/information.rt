@@ -1,0 +1,79 @@
+ghost use Rattle.std.specs.Prelude.{◌≡◌, ◌<◌, ◌≤◌, ◌^◌, ◌==◌, length, IfOk, IfSome, if◌then◌else◌};
+ghost use Rattle.std.specs.Option.{option_map};
+ghost use Rattle.cm_base.specs.Configuration.{Configuration};
+ghost use Rattle.scsi_sense.specs.Codes.{bad_cdb};
+ghost use Rattle.rod_token.specs.TokenText.{token_text};
+ghost use Rattle.cm_history.specs.declared.act.Act.{Act};
+ghost use Rattle.cm_history.specs.declared.answer.Answer.{Answer};
+ghost use Rattle.cm_history.specs.declared.answer.OpReport.{OpReport};
+ghost use Rattle.cmd_program.specs.Meaning.{IsWritable};
+ghost use Rattle.cmd_program.specs.Program.{next, refused, ask_then};
+ghost use Rattle.cmd_program.specs.SingleActs.{told_token};
+ghost use Rattle.token_cmds.specs.Meaning.{by_phase, IsReport, IsSoundPhase};
+
+use crate::ended::Ended;
+use crate::phase::Phase;
+use crate::report::{Asked, Told, fields, in_room};
+use cm_base::{Config, OutOfMemory, Payload};
+use cm_frame::Reply;
+use cm_history::{Answer, OpReport};
+use cmd_program::Step;
+use copy_status::token_information;
+use scsi_sense::Sense;
+use std::alloc::Global;
+
+/// A RECEIVE ROD TOKEN INFORMATION, whose data-out has to be empty. It takes no memory.
+pub(crate) fn begin(unit: u16, id: u32, room: u32, out: &Payload) -> Phase
+    ensures program { (config : Configuration) → by_phase config result
+        ≡ (if length out.now == 0 then ask_then unit (Act.Report id) (told_token config unit room) else refused bad_cdb) }
+    ensures sound { (config : Configuration) → unit < length config.units → IsSoundPhase config result }
+{
+    if out.len() == 0 {
+        Phase::InformationAsked(Asked { unit, id, room })
+    } else {
+        Phase::Ended(Ended::Refused(Sense::invalid_field_in_cdb()))
+    }
+}
+
+/// A RECEIVE ROD TOKEN INFORMATION whose act was answered.
+pub(crate) fn after(asked: Asked, answer: &Answer) -> Phase
+    ensures program { (config : Configuration) → by_phase config result
+        ≡ told_token config asked.unit asked.room answer.now }
+    ensures sound { (config : Configuration) → asked.unit < length config.units
+        → ((report : OpReport) → answer.now ≡ Answer.Report report → IsReport report) → IsSoundPhase config result }
+{
+    match answer {
+        Answer::Report(report) => Phase::InformationTold(Told {
+            unit: asked.unit,
+            room: asked.room,
+            report: *report,
+        }),
+        Answer::Refused(sense) => Phase::Ended(Ended::Refused(*sense)),
+        _ => Phase::Ended(Ended::Odd),
+    }
+}
+
+/// The token that a reported operation made.
+fn token(config: &Config, unit: u16, report: &OpReport) -> Option<[u8; 512]>
+    requires configured { unit < length config.now.units }
+    requires serial { IfSome report.now.serial (λ serial. serial < 2 ^ 48) }
+    ensures { result ≡ option_map (λ serial. token_text config.now unit serial report.now.count) report.now.serial }
+{
+    match report.serial {
+        Some(serial) => Some(rod_token::text(config, unit, serial, report.count)),
+        None => None,
+    }
+}
+
+/// Tells the report, with the token that the operation made.
+pub(crate) fn tell(alloc: Global, config: &Config, told: &Told) -> Result<Step, OutOfMemory>
+    requires configured { told.now.unit < length config.now.units }
+    requires report { IsReport told.now.report }
+    ensures next { IfOk result (λ s. s
+        ≡ next (told_token config.now told.now.unit told.now.room (Answer.Report told.now.report))) }
+    ensures fits { IfOk result IsWritable }
+{
+    let token = token(config, told.unit, &told.report);
+    let bytes = token_information(alloc, &fields(&told.report), token.as_ref())?;
+    Ok(Step::Done(Reply::Good(in_room(bytes, told.room)?)))
+}
