@@ -177,10 +177,44 @@ fn is_check(step: &Step, key: u8, asc: u8, ascq: u8) -> bool {
     }
 }
 
+/// The first step of a command.
+fn first(rt: &HostRuntime, cdb: [u8; 16], list: &[u8]) -> Result<Step, Fail> {
+    let config = two_units(rt)?;
+    let (_, step) = begun(rt, &config, cdb, list)?;
+    Ok(step)
+}
+
+/// The step after an answer.
+fn second(rt: &HostRuntime, cdb: [u8; 16], list: &[u8], answer: Answer) -> Result<Step, Fail> {
+    let config = two_units(rt)?;
+    let (command, _) = begun(rt, &config, cdb, list)?;
+    let (_, step) = answered(rt, &config, command, answer)?;
+    Ok(step)
+}
+
+/// The command of a WRITE USING TOKEN that was answered twice, and its step.
+fn third(
+    rt: &HostRuntime,
+    config: &Config,
+    list: &[u8],
+    one: Answer,
+    two: Answer,
+) -> Result<(TokenCommand, Step), Fail>
+    ensures { IfOk result (λ r. IsCommand config.now r.0) }
+{
+    let (command, _) = begun(rt, config, WRITE, list)?;
+    let (command, _) = answered(rt, config, command, one)?;
+    answered(rt, config, command, two)
+}
+
+/// The text of the token of unit 0 with serial 0, of 4 blocks.
+fn token_of_four(rt: &HostRuntime) -> Result<[u8; 512], Fail> {
+    let config = two_units(rt)?;
+    Ok(rod_token::text(&config, 0, 0, 4))
+}
+
 #[test]
-fn populate_token(rt: HostRuntime) -> Result<(), Fail> {
-    let config = two_units(&rt)?;
-    let (command, asked) = begun(&rt, &config, POPULATE, &POPULATE_LIST)?;
+fn populate_token_is_asked(rt: HostRuntime) -> Result<(), Fail> {
     let Step::Do {
         unit,
         act: Act::Populate {
@@ -188,7 +222,7 @@ fn populate_token(rt: HostRuntime) -> Result<(), Fail> {
             timeout,
             ranges,
         },
-    } = asked
+    } = first(&rt, POPULATE, &POPULATE_LIST)?
     else {
         return Err(Fail::new("no Populate"));
     };
@@ -197,21 +231,24 @@ fn populate_token(rt: HostRuntime) -> Result<(), Fail> {
         let range = ranges.at(place);
         assert!(rt; range.lba == 5 && range.count == 1);
     }
-    let (_, told) = answered(&rt, &config, command, Answer::Made { serial: 7 })?;
-    assert!(rt; is_good(&told, b""));
-    let (command, _) = begun(&rt, &config, POPULATE, &POPULATE_LIST)?;
+    Ok(())
+}
+
+#[test]
+fn populate_token_ends(rt: HostRuntime) -> Result<(), Fail> {
+    let made = Answer::Made { serial: 7 };
+    assert!(rt; is_good(&second(&rt, POPULATE, &POPULATE_LIST, made)?, b""));
     let refused = Answer::Refused(Sense::new(0x05, 0x21, 0x00));
-    let (_, told) = answered(&rt, &config, command, refused)?;
+    let told = second(&rt, POPULATE, &POPULATE_LIST, refused)?;
     assert!(rt; is_check(&told, 0x05, 0x21, 0x00));
-    let (_, told) = begun(&rt, &config, POPULATE, &POPULATE_LIST[..31])?;
-    assert!(rt; is_check(&told, 0x05, 0x1a, 0x00));
+    let short = first(&rt, POPULATE, &POPULATE_LIST[..31])?;
+    assert!(rt; is_check(&short, 0x05, 0x1a, 0x00));
     Ok(())
 }
 
 #[test]
 fn copy_operation_abort(rt: HostRuntime) -> Result<(), Fail> {
-    let config = two_units(&rt)?;
-    let (command, asked) = begun(&rt, &config, ABORT, b"")?;
+    let asked = first(&rt, ABORT, b"")?;
     assert!(rt;
         matches!(
             &asked,
@@ -221,18 +258,15 @@ fn copy_operation_abort(rt: HostRuntime) -> Result<(), Fail> {
             }
         )
     );
-    let (_, told) = answered(&rt, &config, command, Answer::Done)?;
-    assert!(rt; is_good(&told, b""));
-    let (_, told) = begun(&rt, &config, ABORT, b"\0")?;
-    assert!(rt; is_check(&told, 0x05, 0x24, 0x00));
+    assert!(rt; is_good(&second(&rt, ABORT, b"", Answer::Done)?, b""));
+    assert!(rt; is_check(&first(&rt, ABORT, b"\0")?, 0x05, 0x24, 0x00));
     Ok(())
 }
 
 /// A WRITE USING TOKEN that failed, by SPACE ALLOCATION FAILED WRITE PROTECT.
 #[test]
 fn receive_copy_status(rt: HostRuntime) -> Result<(), Fail> {
-    let config = two_units(&rt)?;
-    let (command, asked) = begun(&rt, &config, STATUS, b"")?;
+    let asked = first(&rt, STATUS, b"")?;
     assert!(rt;
         matches!(
             &asked,
@@ -242,52 +276,37 @@ fn receive_copy_status(rt: HostRuntime) -> Result<(), Fail> {
             }
         )
     );
-    let report = OpReport {
+    let report = Answer::Report(OpReport {
         populate: false,
         background: true,
         state: OpState::Failed(Sense::new(0x07, 0x27, 0x07)),
         count: 1024,
         serial: None,
-    };
-    let (_, told) = answered(&rt, &config, command, Answer::Report(report))?;
+    });
     let wanted =
         b"\x00\x00\x00\x2e\x11\x02\0\0\0\0\0\0\x02\x12\x12\xf1\0\0\0\0\0\0\x04\0\0\0\0\0\0\0\0\0\x70\0\x07\0\0\0\0\x0a\0\0\0\0\x27\x07\0\0\0\0";
-    assert!(rt; is_good(&told, wanted));
-    let (command, _) = begun(&rt, &config, STATUS, b"")?;
+    assert!(rt; is_good(&second(&rt, STATUS, b"", report)?, wanted));
     let refused = Answer::Refused(Sense::new(0x05, 0x24, 0x00));
-    let (_, told) = answered(&rt, &config, command, refused)?;
+    let told = second(&rt, STATUS, b"", refused)?;
     assert!(rt; is_check(&told, 0x05, 0x24, 0x00));
     Ok(())
 }
 
-/// A POPULATE TOKEN that made the token of serial 0.
-fn populated() -> OpReport
-    ensures { IsReport result }
-{
-    OpReport {
+/// A POPULATE TOKEN that made the token of serial 0, of 1 block.
+fn populated() -> Answer {
+    Answer::Report(OpReport {
         populate: true,
         background: false,
         state: OpState::Done,
         count: 1,
         serial: Some(0),
-    }
+    })
 }
 
-/// The token of unit 1 with serial 0, of 1 block: what its first 64 bytes and its last are.
+/// The token of unit 1 with serial 0, of 1 block: its first 64 bytes, and all of it.
 #[test]
 fn receive_rod_token_information(rt: HostRuntime) -> Result<(), Fail> {
-    let config = two_units(&rt)?;
-    let (command, asked) = begun(&rt, &config, INFORMATION, b"")?;
-    assert!(rt;
-        matches!(
-            &asked,
-            Step::Do {
-                unit: 1,
-                act: Act::Report { id: 1 }
-            }
-        )
-    );
-    let (_, told) = answered(&rt, &config, command, Answer::Report(populated()))?;
+    let told = second(&rt, INFORMATION, b"", populated())?;
     let Step::Done(Reply::Good(data)) = told else {
         return Err(Fail::new("not GOOD"));
     };
@@ -299,39 +318,40 @@ fn receive_rod_token_information(rt: HostRuntime) -> Result<(), Fail> {
     assert_eq!(rt; bytes.len(), 550);
     assert!(rt; bytes.starts_with(header.as_slice()));
     assert!(rt; bytes[38..].starts_with(token.as_slice()));
-    assert!(rt; bytes[38..].starts_with(&rod_token::text(&config, 1, 0, 1)));
     Ok(())
 }
 
-/// A WRITE USING TOKEN that runs in the background has no token; only the bytes that have room are
-/// told.
-#[test]
-fn receive_rod_token_information_of_a_write(rt: HostRuntime) -> Result<(), Fail> {
-    let config = two_units(&rt)?;
-    let report = OpReport {
+/// A WRITE USING TOKEN that runs in the background.
+fn running_write() -> Answer {
+    Answer::Report(OpReport {
         populate: false,
         background: true,
         state: OpState::Running,
         count: 1024,
         serial: None,
-    };
+    })
+}
+
+/// A WRITE USING TOKEN has no token; only the bytes that have room are told.
+#[test]
+fn receive_rod_token_information_of_a_write(rt: HostRuntime) -> Result<(), Fail> {
     let wanted =
         b"\x00\x00\x00\x20\x11\x12\0\0\0\0\0\x64\0\0\0\xf1\0\0\0\0\0\0\x04\0\0\0\0\0\0\0\0\0\0\0\0\0";
-    let (command, _) = begun(&rt, &config, INFORMATION, b"")?;
-    let (_, told) = answered(&rt, &config, command, Answer::Report(report))?;
+    let told = second(&rt, INFORMATION, b"", running_write())?;
     assert!(rt; is_good(&told, wanted));
     let mut short = INFORMATION;
-    short[12..14].copy_from_slice(&[0, 6]);
-    let (command, _) = begun(&rt, &config, short, b"")?;
-    let (_, told) = answered(&rt, &config, command, Answer::Report(report))?;
+    short[12] = 0;
+    short[13] = 6;
+    let told = second(&rt, short, b"", running_write())?;
     assert!(rt; is_good(&told, b"\x00\x00\x00\x20\x11\x12"));
     Ok(())
 }
 
-/// Four blocks, of which the last one holds these bytes.
-fn four_blocks(rt: &HostRuntime, last: &'static [u8; 512]) -> Result<BlockList, Fail>
-    ensures { IfOk result (λ list. list.block_length ≡ 512) }
-{
+/// The bytes of a block.
+const BLOCK: [u8; 512] = [0x33; 512];
+
+/// Four blocks, of which the last one is mapped.
+fn four_blocks(rt: &HostRuntime) -> Result<Answer, Fail> {
     let mut rod = BlockList::empty(rt.alloc(), 512);
     rod.push(Piece {
         count: 3,
@@ -339,13 +359,10 @@ fn four_blocks(rt: &HostRuntime, last: &'static [u8; 512]) -> Result<BlockList, 
     })?;
     rod.push(Piece {
         count: 1,
-        fill: Fill::Bytes(Payload::from_static(last)),
+        fill: Fill::Bytes(Payload::from_static(&BLOCK)),
     })?;
-    Ok(rod)
+    Ok(Answer::Rod(rod))
 }
-
-/// The bytes of a block.
-const BLOCK: [u8; 512] = [0x33; 512];
 
 /// The step asks unit 1 to write block 20 in the foreground, and the block holds those bytes.
 fn starts_block_20(step: &Step) -> bool {
@@ -371,25 +388,31 @@ fn starts_block_20(step: &Step) -> bool {
         && rod.held(0) == Some(BLOCK.as_slice())
 }
 
-/// The last of four blocks is written, and the token deleted where it was made.
+/// The token is redeemed where it was made, and the last of its four blocks written.
 #[test]
-fn write_using_token(rt: HostRuntime) -> Result<(), Fail> {
-    let config = two_units(&rt)?;
-    let token = rod_token::text(&config, 0, 0, 4);
+fn write_using_token_starts(rt: HostRuntime) -> Result<(), Fail> {
+    let token = token_of_four(&rt)?;
     let list = write_list(2, 3, &token, 20, 1);
-    let (command, asked) = begun(&rt, &config, WRITE, &list)?;
     let Step::Do {
         unit: 0,
         act: Act::Redeem { text, target: 1 },
-    } = asked
+    } = first(&rt, WRITE, &list)?
     else {
         return Err(Fail::new("no Redeem"));
     };
     assert!(rt; text == token);
-    let rod = four_blocks(&rt, &BLOCK)?;
-    let (command, asked) = answered(&rt, &config, command, Answer::Rod(rod))?;
-    assert!(rt; starts_block_20(&asked));
-    let (command, asked) = answered(&rt, &config, command, running(0))?;
+    let rod = four_blocks(&rt)?;
+    assert!(rt; starts_block_20(&second(&rt, WRITE, &list, rod)?));
+    Ok(())
+}
+
+/// The token is deleted where it was made, when all was written.
+#[test]
+fn write_using_token_deletes(rt: HostRuntime) -> Result<(), Fail> {
+    let config = two_units(&rt)?;
+    let list = write_list(2, 3, &token_of_four(&rt)?, 20, 1);
+    let rod = four_blocks(&rt)?;
+    let (command, asked) = third(&rt, &config, &list, rod, running(0))?;
     assert!(rt;
         matches!(
             &asked,
@@ -418,22 +441,32 @@ fn write_using_token(rt: HostRuntime) -> Result<(), Fail> {
     Ok(())
 }
 
-/// Zeros need no token; two pieces are two Advances, and then the operation should have ended.
+/// Zeros need no token.
 #[test]
 fn write_using_token_of_zeros(rt: HostRuntime) -> Result<(), Fail> {
-    let config = two_units(&rt)?;
-    let list = write_list(0, 9, &zero_token(), 0, 2048);
-    let (command, asked) = begun(&rt, &config, WRITE, &list)?;
     let Step::Do {
         unit: 1,
-        act: Act::Start { rod, .. },
-    } = asked
+        act: Act::Start {
+            background: true,
+            rod,
+            ..
+        },
+    } = first(&rt, WRITE, &write_list(1, 9, &zero_token(), 0, 2048))?
     else {
         return Err(Fail::new("no Start"));
     };
     assert!(rt; rod.blocks() == 2048 && rod.held(0).is_none());
-    let (command, _) = answered(&rt, &config, command, running(0))?;
-    let (command, asked) = answered(&rt, &config, command, running(1024))?;
+    let list = write_list(1, 9, &zero_token(), 0, 2048);
+    assert!(rt; is_good(&second(&rt, WRITE, &list, running(0))?, b""));
+    Ok(())
+}
+
+/// Two pieces are two Advances, and then the operation should have ended.
+#[test]
+fn write_using_token_of_two_pieces(rt: HostRuntime) -> Result<(), Fail> {
+    let config = two_units(&rt)?;
+    let list = write_list(0, 0, &zero_token(), 0, 2048);
+    let (command, asked) = third(&rt, &config, &list, running(0), running(1024))?;
     assert!(rt;
         matches!(
             &asked,
@@ -445,34 +478,25 @@ fn write_using_token_of_zeros(rt: HostRuntime) -> Result<(), Fail> {
     );
     let (_, told) = answered(&rt, &config, command, running(1024))?;
     assert!(rt; is_check(&told, 0x0a, 0x00, 0x00));
-    let list = write_list(1, 0, &zero_token(), 0, 2048);
-    let (command, asked) = begun(&rt, &config, WRITE, &list)?;
-    assert!(rt;
-        matches!(
-            &asked,
-            Step::Do {
-                unit: 1,
-                act: Act::Start {
-                    background: true,
-                    ..
-                }
-            }
-        )
-    );
-    let (_, told) = answered(&rt, &config, command, running(0))?;
-    assert!(rt; is_good(&told, b""));
     Ok(())
 }
 
-/// Before the operation runs the command just ends; then it ends its operation first, and the
-/// first want is told.
+/// Before its operation runs the command just ends.
 #[test]
-fn write_using_token_gives_up(rt: HostRuntime) -> Result<(), Fail> {
+fn write_using_token_gives_up_early(rt: HostRuntime) -> Result<(), Fail> {
     let config = two_units(&rt)?;
     let list = write_list(0, 0, &zero_token(), 0, 1);
     let (command, _) = begun(&rt, &config, WRITE, &list)?;
     let (_, told) = gave_up(&rt, &config, command, true)?;
     assert!(rt; matches!(&told, Step::Done(Reply::Full)));
+    Ok(())
+}
+
+/// A running operation is ended first, once, and the first want is told.
+#[test]
+fn write_using_token_gives_up(rt: HostRuntime) -> Result<(), Fail> {
+    let config = two_units(&rt)?;
+    let list = write_list(0, 0, &zero_token(), 0, 1);
     let (command, _) = begun(&rt, &config, WRITE, &list)?;
     let (command, _) = answered(&rt, &config, command, running(0))?;
     let (command, asked) = gave_up(&rt, &config, command, false)?;
@@ -485,28 +509,27 @@ fn write_using_token_gives_up(rt: HostRuntime) -> Result<(), Fail> {
             }
         )
     );
-    let (command, told) = gave_up(&rt, &config, command, true)?;
-    assert!(rt; matches!(&told, Step::Done(Reply::Busy)));
-    let (_, told) = answered(&rt, &config, command, Answer::Done)?;
+    let (_, told) = gave_up(&rt, &config, command, true)?;
     assert!(rt; matches!(&told, Step::Done(Reply::Busy)));
     Ok(())
 }
 
-/// A token of a wrong length, of a wrong type and of no unit, and one of too few blocks.
+/// A token of a wrong length, of a wrong type, and of no unit.
 #[test]
 fn tokens_are_refused(rt: HostRuntime) -> Result<(), Fail> {
-    let config = two_units(&rt)?;
     for (place, byte, ascq) in [(7, 0xf7, 0x0a), (3, 0x01, 0x01), (9, 0x09, 0x04)] {
-        let mut token = rod_token::text(&config, 0, 0, 4);
+        let mut token = token_of_four(&rt)?;
         token[place] = byte;
-        let list = write_list(0, 0, &token, 20, 1);
-        let (_, told) = begun(&rt, &config, WRITE, &list)?;
+        let told = first(&rt, WRITE, &write_list(0, 0, &token, 20, 1))?;
         assert!(rt; is_check(&told, 0x05, 0x23, ascq), "{ascq}");
     }
-    let token = rod_token::text(&config, 0, 0, 4);
-    let (command, _) = begun(&rt, &config, WRITE, &write_list(0, 3, &token, 30, 2))?;
-    let rod = four_blocks(&rt, &BLOCK)?;
-    let (_, told) = answered(&rt, &config, command, Answer::Rod(rod))?;
+    Ok(())
+}
+
+#[test]
+fn a_token_of_too_few_blocks_is_refused(rt: HostRuntime) -> Result<(), Fail> {
+    let list = write_list(0, 3, &token_of_four(&rt)?, 30, 2);
+    let told = second(&rt, WRITE, &list, four_blocks(&rt)?)?;
     assert!(rt; is_check(&told, 0x05, 0x26, 0x00));
     Ok(())
 }
