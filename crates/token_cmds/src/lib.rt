@@ -12,6 +12,3 @@ mod status;
 mod writing;
 
 pub use command::TokenCommand;
-
-#[cfg(test)]
-mod tests;
