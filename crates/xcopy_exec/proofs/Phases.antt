@@ -1,6 +1,5 @@
 -- What the phase of a command tells
-use Rattle.std.proofs.Common.{◌≡◌, subst, sym, Bool, true, false}
-use Rattle.std.specs.Prelude.{cond}
+use Rattle.std.proofs.Common.{◌≡◌, subst, sym}
 use Rattle.cm_base.specs.Configuration.{Configuration}
 use Rattle.cm_history.specs.declared.answer.Answer.{Answer}
 use Rattle.cmd_program.specs.declared.step.Outcome.{Outcome}
@@ -10,7 +9,10 @@ use Rattle.xcopy_exec.specs.declared.command.CopyCommand.{CopyCommand}
 use Rattle.xcopy_exec.specs.declared.phase.Phase.{Phase}
 use Rattle.xcopy_exec.specs.declared.ended.Ended.{Ended}
 use Rattle.xcopy_exec.specs.declared.stage.Stage.{Stage}
-use Rattle.xcopy_exec.specs.Meaning.{by_phase, by_stage, HasLastStep, IsAnswerTo, IsAnswerToStage, IsNotable, MayFollow}
+use Rattle.xcopy_exec.specs.declared.list_copy.ListCopy.{ListCopy}
+use Rattle.seg_parse.specs.declared.list.Segment.{Segment}
+use Rattle.lba_ranges.specs.HeldBlocks.{HeldBlocks}
+use Rattle.xcopy_exec.specs.Meaning.{by_phase, by_stage, HasLastStep, IsAnswerTo, IsAnswerToStage, IsNotable, MayFollow, AreBlocksOf, move}
 
 -- ---- a command that gave up
 
@@ -50,3 +52,9 @@ pub notable-answer : (config : Configuration) (command : CopyCommand) (answer : 
     → IsNotable config command (Outcome.Answered answer) → IsAnswerTo config command.phase answer
 notable-answer config command answer is =
     phase-answer config command.phase answer (subst (λ (p : Program). MayFollow config (next p) (Outcome.Answered answer)) (sym is.stands) is.follows)
+
+pub capturing-answer : (config : Configuration) (stage : Stage) (c : ListCopy) (s : Segment) (a : Answer) (blocks : HeldBlocks)
+    → stage ≡ Stage.Capturing c s → a ≡ Answer.Blocks blocks → IsAnswerToStage config stage a
+    → AreBlocksOf config (move config c s).source s.count blocks
+capturing-answer config stage c s a blocks at told is =
+    subst (IsAnswerToStage config (Stage.Capturing c s)) told (subst (λ (x : Stage). IsAnswerToStage config x a) at is)

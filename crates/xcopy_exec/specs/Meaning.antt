@@ -1,6 +1,6 @@
 -- Which program a copy that has come so far stands for
 use Rattle.std.specs.Prelude.{◌≡◌, ℕ, suc, ◌+◌, ◌-◌, ◌*◌, ◌<◌, ◌≤◌, ◌==◌, List, length, drop, map, sum_by, Option, Some, None, Bool, true, not, All}
-use Rattle.cm_base.specs.Configuration.{Configuration}
+use Rattle.cm_base.specs.Configuration.{Configuration, AreUnits}
 use Rattle.cm_base.specs.Units.{unit_of}
 use Rattle.scsi_sense.specs.SenseCode.{SenseCode}
 use Rattle.cm_frame.specs.declared.frame.Request.{Request}
@@ -126,6 +126,7 @@ pub record IsMove (config : Configuration) (m : Move) : Type 0 where
 
 -- the copy of a list that is not refused
 pub record IsCopy (config : Configuration) (c : ListCopy) : Type 0 where
+  pub units : AreUnits config.units
   pub configured : c.unit < length config.units
   pub list : IsCopyList c.list
   pub moves : All (λ s. IsMove config (move config c s)) c.list.segments

@@ -1,5 +1,5 @@
 ghost use Rattle.std.specs.Prelude.{◌≡◌, ◌<◌, ◌++◌, ◌∷◌, [], ℕ, List, Ok, Bool, length, IfOk, IsOk, true};
-ghost use Rattle.cm_base.specs.Configuration.{Configuration};
+ghost use Rattle.cm_base.specs.Configuration.{AreUnits};
 ghost use Rattle.scsi_cdb.specs.Decoded.{decoded};
 ghost use Rattle.cm_frame.specs.declared.frame.Request.{Request};
 ghost use Rattle.cmd_program.specs.declared.step.Outcome.{Outcome};
@@ -49,7 +49,7 @@ impl CopyCommand {
     {
         let _nexus = nexus;
         let Request { unit, cdb, out } = request;
-        if !config.is_configured(unit) {
+        if unit >= config.units() {
             let sense = Sense::logical_unit_not_supported();
             return Ok(CopyCommand {
                 phase: Phase::Ended(Ended::Refused(sense)),
@@ -97,6 +97,7 @@ fn judged(
     cdb: &[u8; 16],
     out: &Payload,
 ) -> Result<Phase, OutOfMemory>
+    requires units { AreUnits config.now.units }
     requires configured { unit < length config.now.units }
     ensures program { IfOk result (λ p. by_phase config.now p
         ≡ judged_copy config.now (record { unit = unit; cdb = cdb.now; out = out.now }) (decoded cdb.now)) }
@@ -116,6 +117,7 @@ fn coded(
     cdb: Cdb,
     out: &Payload,
 ) -> Result<Phase, OutOfMemory>
+    requires units { AreUnits config.now.units }
     requires configured { unit < length config.now.units }
     ensures program { (bytes : List ℕ) → IfOk result (λ p. by_phase config.now p
         ≡ judged_copy config.now (record { unit = unit; cdb = bytes; out = out.now }) (Ok cdb)) }

@@ -1,5 +1,5 @@
 ghost use Rattle.std.specs.Prelude.{◌≡◌, ◌<◌, ◌==◌, length, None, IfOk, if◌then◌else◌};
-ghost use Rattle.cm_base.specs.Configuration.{Configuration};
+ghost use Rattle.cm_base.specs.Configuration.{AreUnits};
 ghost use Rattle.scsi_sense.specs.Codes.{bad_list_length};
 ghost use Rattle.seg_parse.specs.ListRead.{lid1_read};
 ghost use Rattle.seg_parse.specs.CopyLists.{IsCopyList};
@@ -26,6 +26,7 @@ pub(crate) fn begin(
     listed: u32,
     out: &Payload,
 ) -> Result<Phase, OutOfMemory>
+    requires units { AreUnits config.now.units }
     requires configured { unit < length config.now.units }
     ensures program { IfOk result (λ p. by_phase config.now p
         ≡ (if length out.now == listed then extended_copy config.now unit listed (lid1_read out.now)
@@ -47,6 +48,7 @@ pub(crate) fn begin(
 
 /// The first phase of the copy of a list. It takes no memory.
 fn begin_list(config: &Config, unit: u16, list: CopyList) -> Phase
+    requires units { AreUnits config.now.units }
     requires configured { unit < length config.now.units }
     requires list { IsCopyList list }
     ensures program { by_phase config.now result ≡ copy_by config.now unit list (copy_fault config.now list) }

@@ -8,3 +8,6 @@ returns-clause-sound c =
     c.noted.ensures.sound c.args.config.now (rw c.replace-phase.ensures.value c.requires.sound)
     (λ answer is. rw c.replace-phase.ensures.value
     (notable-answer c.args.config.now c.args.self.now answer (subst (IsNotable c.args.config.now c.args.self.now) is c.requires.notable)))
+
+pub noted-requires : goal.noted-requires
+noted-requires c = (c.args.config.now, rw c.replace-phase.ensures.value c.requires.sound)
