@@ -1,5 +1,5 @@
 -- A command that brings a list, by what was read of it
-use Rattle.std.proofs.Common.{◌≡◌, ℕ, zero, suc, List, length, refl, true, false, nat_eq, subst}
+use Rattle.std.proofs.Common.{◌≡◌, ℕ, zero, suc, List, length, refl, true, subst}
 use Rattle.std.specs.Prelude.{◌==◌, Result, Err, if◌then◌else◌}
 use Rattle.std.proofs.lemmas.Bool.{eq-eqb}
 use Rattle.scsi_sense.specs.SenseCode.{SenseCode}
@@ -27,7 +27,7 @@ list-refused listed out by_list read fault sense long refuses is program =
     list-read listed out by_list read (Err sense) (refused sense) long (subst (Refuses read) is refuses) program
 
 -- a list of some bytes is copied as it was read
-pub extended-some : (config : Configuration) (unit listed : ℕ) (read : Result CopyList SenseCode) → nat_eq listed 0 ≡ false
+pub extended-some : (config : Configuration) (unit listed : ℕ) (read : Result CopyList SenseCode) → (listed ≡ 0 → ⊥)
     → copy_read config unit read ≡ extended_copy config unit listed read
-extended-some config unit zero read some = cc
+extended-some config unit zero read some = absurd (some refl)
 extended-some config unit (suc n) read some = refl

@@ -66,6 +66,18 @@ put-on config c s p a no-refusal some =
     ap (λ n. putting (given c) (move config c s) p.blocks (later config c) n (p.at + 1024) (piece_put t p.blocks p.at)) on
     ∙ sym (goes-on (given c) t (putting (given c) (move config c s) p.blocks (later config c) p.left (p.at + 1024) (piece_put t p.blocks p.at)) a no-refusal)
 
+-- the same, where the piece was counted by other names
+pub put-on-as : (config : Configuration) (c : ListCopy) (s : Segment) (p q : Pieces) (count size : ℕ) (a : Answer)
+    → ((sense : SenseCode) → a ≡ Answer.Refused sense → ⊥) → 0 < p.left
+    → count ≡ piece_count p.blocks p.at → size ≡ p.blocks.block_length → q ≡ next_piece p
+    → by_stage config (Stage.Putting (record c { counted = record { segments = c.counted.segments; bytes = c.counted.bytes + count * size } }) s q)
+    ≡ go_on_by (by_stage config (Stage.Putting c s p)) a
+put-on-as config c s p q count size a no-refusal some counted sized is =
+    let put : ℕ → ℕ → Pieces → Program = λ n k r. by_stage config
+    (Stage.Putting (record c { counted = record { segments = c.counted.segments; bytes = c.counted.bytes + n * k } }) s r) in
+    ap (λ n. put n size q) counted ∙ ap (λ k. put (piece_count p.blocks p.at) k q) sized
+    ∙ ap (λ r. put (piece_count p.blocks p.at) p.blocks.block_length r) is ∙ put-on config c s p a no-refusal some
+
 -- bytes of the piece, and of the blocks behind it
 split-piece : (n at size : ℕ) → at + 1024 < n → (n - at) * size ≡ min 1024 (n - at) * size + (n - (at + 1024)) * size
 split-piece n at size within =
