@@ -1,0 +1,5 @@
+pub mod Lists
+pub mod Segments
+pub mod Putting
+pub mod Begun
+pub mod Phases
