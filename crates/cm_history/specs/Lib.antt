@@ -9,6 +9,7 @@ pub mod Status
 pub mod Redeeming
 pub mod Answers
 pub mod History
+pub mod Forms
 pub mod Limits
 pub mod Room
 pub mod Legal

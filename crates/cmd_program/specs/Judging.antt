@@ -5,7 +5,7 @@ use Rattle.cm_base.specs.declared.config.UnitConfig.{UnitConfig}
 use Rattle.cm_base.specs.Units.{unit_of, is_configured}
 use Rattle.scsi_sense.specs.SenseCode.{SenseCode}
 use Rattle.scsi_sense.specs.SenseBytes.{sense_bytes}
-use Rattle.scsi_sense.specs.Codes.{no_sense, no_such_unit, unknown_operation, bad_cdb, bad_list_length}
+use Rattle.scsi_sense.specs.Codes.{no_sense, no_such_unit, bad_cdb, bad_list_length}
 use Rattle.scsi_cdb.specs.declared.cdb.Cdb.{Cdb}
 use Rattle.scsi_cdb.specs.Decoded.{decoded}
 use Rattle.cm_frame.specs.declared.frame.Request.{Request}
@@ -15,7 +15,6 @@ use Rattle.scsi_inquiry.specs.UnitData.{capacity10, capacity16, report_luns, cop
 use Rattle.cm_history.specs.declared.act.Act.{Act}
 use Rattle.cmd_program.specs.declared.step.Outcome.{Outcome}
 use Rattle.cmd_program.specs.declared.step.Step.{Step}
-use Rattle.cmd_program.specs.Coded.{has_code}
 use Rattle.cmd_program.specs.Program.{Program, good, done, refused, ask_then, next, moved}
 use Rattle.cmd_program.specs.SingleActs.{inquiry, write, unmap, populate, act_alone, told_read, told_map, told_report, told_token, told_copy}
 use Rattle.cmd_program.specs.TokenWrite.{write_using_token}
@@ -63,8 +62,7 @@ judged_out config r cdb None = program_of config r.unit r.out cdb
 -- a CDB as it was decoded
 abbrev pub judged_cdb : Configuration → Request → Result Cdb SenseCode → Program
 judged_cdb config r (Err sense) = refused sense
-judged_cdb config r (Ok cdb) =
-    if has_code cdb then judged_out config r cdb (out_fault (unit_of config r.unit) r.out cdb) else refused unknown_operation
+judged_cdb config r (Ok cdb) = judged_out config r cdb (out_fault (unit_of config r.unit) r.out cdb)
 
 -- the program of a request: the first refusal is its reply
 abbrev pub program : Configuration → Request → Program

@@ -4,6 +4,6 @@ pub mod Told
 pub mod SingleActs
 pub mod TokenWrite
 pub mod ExtendedCopy
-pub mod Coded
+pub mod Kinds
 pub mod Judging
 pub mod Meaning

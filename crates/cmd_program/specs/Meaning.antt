@@ -10,6 +10,7 @@ use Rattle.cm_history.specs.declared.answer.MapRun.{MapRun}
 use Rattle.cm_history.specs.Bounds.{told_runs}
 use Rattle.lba_ranges.specs.HeldBlocks.{HeldBlocks}
 use Rattle.cm_frame.specs.Grammar.{data_limit}
+use Rattle.cm_history.specs.Forms.{HasForm}
 use Rattle.cm_history.specs.Limits.{within_limits}
 use Rattle.cm_history.specs.Legal.{may_ask}
 use Rattle.cmd_program.specs.declared.command.Command.{Command}
@@ -96,15 +97,14 @@ abbrev pub IsWritable : Step → Type 0
 IsWritable (Step.Done reply) = IsOfLength reply
 IsWritable (Step.Do unit act) = Unit {0}
 
--- an outcome that an act can have: the blocks of a Read fit into one reply, and the runs of a MapStatus are few
-abbrev pub IsOutcomeOf : Act → Outcome → Type 0
-IsOutcomeOf (Act.Read lba count) (Outcome.Answered (Answer.Blocks list)) = FitsReply list
-IsOutcomeOf (Act.MapStatus lba) (Outcome.Answered (Answer.Status runs)) = AreTold runs
-IsOutcomeOf _ _ = Unit {0}
+-- an outcome that an act of the unit can have: an answer has its form
+abbrev pub IsOutcomeOf : Configuration → ℕ → Act → Outcome → Type 0
+IsOutcomeOf config unit act (Outcome.Answered answer) = HasForm config unit act answer
+IsOutcomeOf config unit act _ = Unit {0}
 
-abbrev pub MayFollow : Step → Outcome → Type 0
-MayFollow (Step.Do unit act) outcome = IsOutcomeOf act outcome
-MayFollow (Step.Done reply) outcome = Unit {0}
+abbrev pub MayFollow : Configuration → Step → Outcome → Type 0
+MayFollow config (Step.Do unit act) outcome = IsOutcomeOf config unit act outcome
+MayFollow config (Step.Done reply) outcome = Unit {0}
 
 -- the outcome may be that of the act which the command asks for
 pub record IsNotable (config : Configuration) (command : Command) (outcome : Outcome) : Type 0 where
@@ -112,4 +112,4 @@ pub record IsNotable (config : Configuration) (command : Command) (outcome : Out
   pub request : Request
   pub outcomes : List Outcome
   pub stands : StandsFor config command nexus request outcomes
-  pub follows : MayFollow (step config nexus request outcomes) outcome
+  pub follows : MayFollow config (step config nexus request outcomes) outcome

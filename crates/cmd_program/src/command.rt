@@ -1,7 +1,9 @@
 ghost use Rattle.std.specs.Prelude.{◌≡◌, ◌++◌, ◌∷◌, [], ℕ, List, IfOk, IsOk, true};
+ghost use Rattle.scsi_cdb.specs.Decoded.{decoded};
 ghost use Rattle.cm_frame.specs.declared.frame.Request.{Request};
 ghost use Rattle.cmd_program.specs.declared.step.Outcome.{Outcome};
 ghost use Rattle.cmd_program.specs.Stepping.{gave_up};
+ghost use Rattle.cmd_program.specs.Kinds.{asks_single};
 ghost use Rattle.cmd_program.specs.Judging.{step};
 ghost use Rattle.cmd_program.specs.Meaning.{StandsFor, IsSound, IsAskable, IsWritable, IsNotable};
 
@@ -21,7 +23,7 @@ pub struct Command {
 }
 
 impl Command {
-    /// The command of a request of a nexus. It takes the data-out over, which stays shared. The reply
+    /// The command of a request of a nexus, which is neither one with tokens nor a copy of segments. It takes the data-out over, which stays shared. The reply
     /// of a command that asks for no act is built here.
     pub fn begin(
         alloc: Global,
@@ -29,6 +31,7 @@ impl Command {
         nexus: u32,
         request: Request,
     ) -> Result<Command, OutOfMemory>
+        requires single { asks_single (decoded request.cdb) ≡ true }
         ensures stands { IfOk result (λ c. StandsFor config.now c nexus request []) }
         ensures sound { IfOk result (λ c. IsSound config.now c) }
     {

@@ -1,5 +1,5 @@
 -- Which program a command with tokens that has come so far stands for
-use Rattle.std.specs.Prelude.{◌≡◌, ℕ, ◌<◌, ◌≤◌, ◌^◌, List, length, Some, None, Ok, Bool, true, is_some, IfSome}
+use Rattle.std.specs.Prelude.{◌≡◌, ℕ, ◌<◌, List, length, Some, None, Ok, true}
 use Rattle.cm_base.specs.Configuration.{Configuration}
 use Rattle.cm_base.specs.Units.{unit_of}
 use Rattle.cm_frame.specs.declared.frame.Request.{Request}
@@ -10,11 +10,11 @@ use Rattle.cm_history.specs.declared.act.Act.{Act}
 use Rattle.cm_history.specs.declared.act.Actor.{Actor}
 use Rattle.cm_history.specs.declared.answer.Answer.{Answer}
 use Rattle.cm_history.specs.declared.answer.OpReport.{OpReport}
-use Rattle.cm_history.specs.Limits.{within_limits}
-use Rattle.cm_history.specs.Legal.{may_ask}
+use Rattle.cm_history.specs.Forms.{IsReport}
 use Rattle.cmd_program.specs.declared.step.Outcome.{Outcome}
 use Rattle.cmd_program.specs.declared.step.Step.{Step}
-use Rattle.cmd_program.specs.Meaning.{reply_of}
+use Rattle.cmd_program.specs.Meaning.{reply_of, IsAskedOf, MayFollow}
+use Rattle.cmd_program.specs.Judging.{program_after, step}
 use Rattle.cmd_program.specs.Program.{Program, Asks, GivesUp, done, refused, never, ask_then}
 use Rattle.cmd_program.specs.SingleActs.{act_alone, populate, told_report, told_token}
 use Rattle.cmd_program.specs.TokenWrite.{TokenWrite, end_of, advancing, starting, redeemed, zero_rod}
@@ -27,7 +27,6 @@ use Rattle.token_cmds.specs.declared.report.Asked.{Asked}
 use Rattle.token_cmds.specs.declared.report.Told.{Told}
 use Rattle.token_cmds.specs.declared.writing.Write.{Write}
 use Rattle.token_cmds.specs.declared.writing.Writing.{Writing}
-use Rattle.token_cmds.specs.Judging.{token_program_after, token_step}
 
 -- ---- programs
 
@@ -71,28 +70,9 @@ meaning config c = by_phase config c.phase
 
 -- the command is that of this nexus and request, after these outcomes
 abbrev pub StandsFor : Configuration → TokenCommand → ℕ → Request → List Outcome → Type 0
-StandsFor config command nexus request outcomes = meaning config command ≡ token_program_after config request outcomes
-
--- ---- what may be asked
-
--- an act that may be asked of a unit by a nexus
-pub record IsAskedOf (config : Configuration) (unit : ℕ) (act : Act) : Type 0 where
-  pub configured : unit < length config.units
-  pub limits : within_limits config unit act ≡ true
-  pub asked : (nexus : ℕ) → may_ask unit (Actor.Nexus nexus) act ≡ true
-
--- what the step asks may be asked
-abbrev pub IsAskable : Configuration → Step → Type 0
-IsAskable config (Step.Do unit act) = IsAskedOf config unit act
-IsAskable config (Step.Done reply) = Unit {0}
+StandsFor config command nexus request outcomes = meaning config command ≡ program_after config request outcomes
 
 -- ---- what may be told
-
--- a report of a token operation: a serial exactly where it made a token
-pub record IsReport (r : OpReport) : Type 0 where
-  pub count : r.count ≤ 1_048_576
-  pub token : is_some r.serial ≡ r.populate
-  pub serial : IfSome r.serial (λ serial. serial < 2 ^ 48)
 
 -- what a WRITE USING TOKEN was given may be written
 pub record IsGiven (config : Configuration) (w : Write) : Type 0 where
@@ -135,28 +115,13 @@ IsSound config command = IsSoundPhase config command.phase
 
 -- ---- outcomes
 
--- what an act of a command with tokens may be answered; a token is redeemed for blocks of the target's length
-abbrev pub IsAnswerOf : Configuration → Act → Answer → Type 0
-IsAnswerOf config (Act.Report id) (Answer.Report report) = IsReport report
-IsAnswerOf config (Act.Redeem text target) (Answer.Rod rod) = rod.block_length ≡ (unit_of config target).block_length
-IsAnswerOf config _ _ = Unit {0}
-
--- an outcome that an act can have
-abbrev pub IsOutcomeOf : Configuration → Act → Outcome → Type 0
-IsOutcomeOf config act (Outcome.Answered answer) = IsAnswerOf config act answer
-IsOutcomeOf config act _ = Unit {0}
-
-abbrev pub MayFollow : Configuration → Step → Outcome → Type 0
-MayFollow config (Step.Do unit act) outcome = IsOutcomeOf config act outcome
-MayFollow config (Step.Done reply) outcome = Unit {0}
-
 -- the outcome may be that of the act which the command asks for
 pub record IsNotable (config : Configuration) (command : TokenCommand) (outcome : Outcome) : Type 0 where
   pub nexus : ℕ
   pub request : Request
   pub outcomes : List Outcome
   pub stands : StandsFor config command nexus request outcomes
-  pub follows : MayFollow config (token_step config nexus request outcomes) outcome
+  pub follows : MayFollow config (step config nexus request outcomes) outcome
 
 -- the answers that a phase can be given
 abbrev pub IsAnswerToWriting : Configuration → Writing → Answer → Type 0

@@ -3,10 +3,11 @@ ghost use Rattle.cm_base.specs.Configuration.{Configuration};
 ghost use Rattle.scsi_cdb.specs.Decoded.{decoded};
 ghost use Rattle.cm_frame.specs.declared.frame.Request.{Request};
 ghost use Rattle.cmd_program.specs.declared.step.Outcome.{Outcome};
-ghost use Rattle.cmd_program.specs.Meaning.{IsWritable};
+ghost use Rattle.cmd_program.specs.Meaning.{IsWritable, IsAskable};
 ghost use Rattle.cmd_program.specs.Stepping.{gave_up};
-ghost use Rattle.token_cmds.specs.Judging.{asks_token, judged_token, token_step};
-ghost use Rattle.token_cmds.specs.Meaning.{by_phase, StandsFor, IsSound, IsSoundPhase, IsAskable, IsNotable};
+ghost use Rattle.cmd_program.specs.Kinds.{asks_token};
+ghost use Rattle.cmd_program.specs.Judging.{judged_cdb, step};
+ghost use Rattle.token_cmds.specs.Meaning.{by_phase, StandsFor, IsSound, IsSoundPhase, IsNotable};
 
 use crate::ended::Ended;
 use crate::phase::Phase;
@@ -43,14 +44,14 @@ impl TokenCommand {
         )
     }
 
-    /// The command of a request of a nexus; any other command than these is refused with INVALID
-    /// COMMAND OPERATION CODE.
+    /// The command of a request of a nexus, whose CDB asks for one of these.
     pub fn begin(
         alloc: Global,
         config: &Config,
         nexus: u32,
         request: Request,
     ) -> Result<TokenCommand, OutOfMemory>
+        requires asked { asks_token (decoded request.cdb) ≡ true }
         ensures stands { IfOk result (λ c. StandsFor config.now c nexus request []) }
         ensures sound { IfOk result (λ c. IsSound config.now c) }
     {
@@ -71,7 +72,7 @@ impl TokenCommand {
         requires { IsSound config.now self.now }
         ensures next { (nexus : ℕ) (request : Request) (outcomes : List Outcome)
             → StandsFor config.now self.now nexus request outcomes
-            → IfOk result (λ s. s ≡ token_step config.now nexus request outcomes) }
+            → IfOk result (λ s. s ≡ step config.now nexus request outcomes) }
         ensures asks { IfOk result (λ s. IsAskable config.now s) }
         ensures fits { IfOk result IsWritable }
         ensures free { (nexus : ℕ) (request : Request) (outcomes : List Outcome)
@@ -106,7 +107,7 @@ fn judged(
 ) -> Result<Phase, OutOfMemory>
     requires configured { unit < length config.now.units }
     ensures program { IfOk result (λ p. by_phase config.now p
-        ≡ judged_token config.now (record { unit = unit; cdb = cdb.now; out = out.now }) (decoded cdb.now)) }
+        ≡ judged_cdb config.now (record { unit = unit; cdb = cdb.now; out = out.now }) (decoded cdb.now)) }
     ensures sound { IfOk result (λ p. IsSoundPhase config.now p) }
 {
     match decode(cdb) {
@@ -125,7 +126,7 @@ fn coded(
 ) -> Result<Phase, OutOfMemory>
     requires configured { unit < length config.now.units }
     ensures program { (bytes : List ℕ) → IfOk result (λ p. by_phase config.now p
-        ≡ judged_token config.now (record { unit = unit; cdb = bytes; out = out.now }) (Ok cdb)) }
+        ≡ judged_cdb config.now (record { unit = unit; cdb = bytes; out = out.now }) (Ok cdb)) }
     ensures sound { IfOk result (λ p. IsSoundPhase config.now p) }
 {
     match cdb {

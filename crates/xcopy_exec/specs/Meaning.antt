@@ -12,11 +12,11 @@ use Rattle.cm_history.specs.declared.act.Act.{Act}
 use Rattle.cm_history.specs.declared.act.Actor.{Actor}
 use Rattle.cm_history.specs.declared.act.CopyState.{CopyState}
 use Rattle.cm_history.specs.declared.answer.Answer.{Answer}
-use Rattle.cm_history.specs.Limits.{within_limits}
-use Rattle.cm_history.specs.Legal.{may_ask}
+use Rattle.cm_history.specs.Forms.{AreBlocksOf}
 use Rattle.cmd_program.specs.declared.step.Outcome.{Outcome}
 use Rattle.cmd_program.specs.declared.step.Step.{Step}
-use Rattle.cmd_program.specs.Meaning.{reply_of}
+use Rattle.cmd_program.specs.Meaning.{reply_of, IsAskedOf, MayFollow}
+use Rattle.cmd_program.specs.Judging.{program_after, step}
 use Rattle.cmd_program.specs.Program.{Program, Asks, GivesUp, done, refused, never, unless_refused, ask_then}
 use Rattle.cmd_program.specs.SingleActs.{told_copy}
 use Rattle.cmd_program.specs.ExtendedCopy.{Copying, Tally, Move, places, move_of, move_fault, close_as, left_of, closing, putting, captured, copying}
@@ -30,7 +30,6 @@ use Rattle.xcopy_exec.specs.declared.list_copy.ListCopy.{ListCopy}
 use Rattle.xcopy_exec.specs.declared.open_record.OpenRecord.{OpenRecord}
 use Rattle.xcopy_exec.specs.declared.pieces.Pieces.{Pieces}
 use Rattle.xcopy_exec.specs.declared.stage.Stage.{Stage}
-use Rattle.xcopy_exec.specs.Judging.{copy_program_after, copy_step}
 
 -- ---- programs
 
@@ -89,20 +88,7 @@ meaning config c = by_phase config c.phase
 
 -- the command is that of this nexus and request, after these outcomes
 abbrev pub StandsFor : Configuration → CopyCommand → ℕ → Request → List Outcome → Type 0
-StandsFor config command nexus request outcomes = meaning config command ≡ copy_program_after config request outcomes
-
--- ---- what may be asked
-
--- an act that may be asked of a unit by a nexus
-pub record IsAskedOf (config : Configuration) (unit : ℕ) (act : Act) : Type 0 where
-  pub configured : unit < length config.units
-  pub limits : within_limits config unit act ≡ true
-  pub asked : (nexus : ℕ) → may_ask unit (Actor.Nexus nexus) act ≡ true
-
--- what the step asks may be asked
-abbrev pub IsAskable : Configuration → Step → Type 0
-IsAskable config (Step.Do unit act) = IsAskedOf config unit act
-IsAskable config (Step.Done reply) = Unit {0}
+StandsFor config command nexus request outcomes = meaning config command ≡ program_after config request outcomes
 
 -- ---- what a copy may go on with
 
@@ -146,11 +132,6 @@ pub record IsWithin (config : Configuration) (c : ListCopy) (s : Segment) (to_co
   pub some : 0 < s.count
   pub bytes : c.counted.bytes + to_come + bytes_from config c (c.counted.segments + 1) ≤ copy_limit
 
--- as many blocks of a unit's length as were asked for
-pub record AreBlocksOf (config : Configuration) (unit count : ℕ) (list : HeldBlocks) : Type 0 where
-  pub size : list.block_length ≡ (unit_of config unit).block_length
-  pub whole : length list.items ≡ count
-
 -- the blocks of a segment, from one of them on, are to be put
 pub record IsPutting (config : Configuration) (c : ListCopy) (s : Segment) (p : Pieces) : Type 0 where
   pub segment : IsWithin config c s ((s.count - p.at) * p.blocks.block_length)
@@ -176,27 +157,13 @@ IsSound config command = IsSoundPhase config command.phase
 
 -- ---- outcomes
 
--- what an act of such a command may be answered: a Capture is answered all blocks
-abbrev pub IsAnswerOf : Configuration → ℕ → Act → Answer → Type 0
-IsAnswerOf config unit (Act.Capture lba count) (Answer.Blocks list) = AreBlocksOf config unit count list
-IsAnswerOf config unit _ _ = Unit {0}
-
--- an outcome that an act of a unit can have
-abbrev pub IsOutcomeOf : Configuration → ℕ → Act → Outcome → Type 0
-IsOutcomeOf config unit act (Outcome.Answered answer) = IsAnswerOf config unit act answer
-IsOutcomeOf config unit act _ = Unit {0}
-
-abbrev pub MayFollow : Configuration → Step → Outcome → Type 0
-MayFollow config (Step.Do unit act) outcome = IsOutcomeOf config unit act outcome
-MayFollow config (Step.Done reply) outcome = Unit {0}
-
 -- the outcome may be that of the act which the command asks for
 pub record IsNotable (config : Configuration) (command : CopyCommand) (outcome : Outcome) : Type 0 where
   pub nexus : ℕ
   pub request : Request
   pub outcomes : List Outcome
   pub stands : StandsFor config command nexus request outcomes
-  pub follows : MayFollow config (copy_step config nexus request outcomes) outcome
+  pub follows : MayFollow config (step config nexus request outcomes) outcome
 
 -- the answers that a phase can be given
 abbrev pub IsAnswerToStage : Configuration → Stage → Answer → Type 0
