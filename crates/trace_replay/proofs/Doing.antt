@@ -13,6 +13,7 @@ use Rattle.cm_history.specs.declared.act.Actor.{Actor}
 use Rattle.cm_history.specs.declared.act.Entry.{Entry}
 use Rattle.cm_history.specs.declared.answer.Answer.{Answer}
 use Rattle.cm_history.specs.Answers.{answer_after}
+use Rattle.cm_history.specs.Forms.{HasForm}
 use Rattle.cm_history.specs.Deeds.{last_stamp, same_actor}
 use Rattle.cm_history.specs.History.{on, one_more, past_of, answer}
 use Rattle.cm_history.specs.Room.{is_full}
@@ -140,6 +141,9 @@ module _ (config : Configuration) (entries : List Entry) (units : Units) (u : �
   answer-is moment found is =
       is ∙ ap (λ (v : unit.Standing). answer v.config v.entries v.unit actor moment act) is-its
       ∙ ap (λ p. answer_after config u p actor moment act) (same-past config entries u)
+
+  pub form-is : (found : Answer) → HasForm value.config value.unit act found → HasForm config u act found
+  form-is found has = subst (λ (v : unit.Standing). HasForm v.config v.unit act found) is-its has
 
   pub refuses : (refused : ActRefused) → (refused ≡ ActRefused.Full → acting.is_full_at value actor units.stamp act ≡ true)
       → (refused ≡ ActRefused.OutOfMemory → acting.ends_operation value actor act ≡ false) → Refuses config entries u actor act refused

@@ -3,32 +3,22 @@ use Rattle.std.proofs.Common.{◌≡◌, ℕ, List, [], ◌∷◌, ◌++◌, ref
 use Rattle.std.specs.Prelude.{◌||◌, Option}
 use Rattle.cm_base.specs.Configuration.{Configuration}
 use Rattle.cm_frame.specs.declared.frame.Request.{Request}
-use Rattle.cm_history.specs.declared.act.Act.{Act}
-use Rattle.cmd_program.specs.declared.command.Command.{Command}
 use Rattle.cmd_program.specs.declared.step.Step.{Step}
 use Rattle.cmd_program.specs.declared.step.Outcome.{Outcome}
 use Rattle.cmd_program.specs.Stepping.{gave_up, gives_up}
-use Rattle.cmd_program.specs.Meaning.{StandsFor, IsOutcomeOf, MayFollow}
+use Rattle.cmd_program.specs.Meaning.{MayFollow}
 use Rattle.cmd_program.specs.Judging.{step}
 use Rattle.cm_frame.specs.declared.frame.Reply.{Reply}
+use Rattle.trace_replay.specs.declared.any_command.AnyCommand.{AnyCommand}
+use Rattle.trace_replay.specs.Commands.{StandsFor}
 use Rattle.trace_replay.specs.declared.nexus.Waiting.{Waiting}
 use Rattle.trace_replay.specs.Standing.{Pending, Mark, NoMark, AtStep, noted, noted_at_step, next_step}
 use Rattle.trace_replay.specs.Machines.{IsCommandOf, IsNext, WentOn, HasBegun, mark_of}
 use Rattle.trace_replay.proofs.Telling.{any-append}
 
-none-of : (act : Act) → IsOutcomeOf act Outcome.NoMemory
-none-of (Act.Read lba count) = tt
-none-of (Act.MapStatus lba) = tt
-none-of _ = tt
-
-pub full-of : (act : Act) → IsOutcomeOf act Outcome.Full
-full-of (Act.Read lba count) = tt
-full-of (Act.MapStatus lba) = tt
-full-of _ = tt
-
-pub none-follows : (s : Step) → MayFollow s Outcome.NoMemory
-none-follows (Step.Do unit act) = none-of act
-none-follows (Step.Done reply) = tt
+pub none-follows : (config : Configuration) (s : Step) → MayFollow config s Outcome.NoMemory
+none-follows config (Step.Do unit act) = tt
+none-follows config (Step.Done reply) = tt
 
 pub gave-up-more : (outcomes : List Outcome) (outcome : Outcome) → gave_up (outcomes ++ outcome ∷ []) ≡ (gave_up outcomes || gives_up outcome)
 gave-up-more outcomes outcome = any-append gives_up outcomes (outcome ∷ []) ∙ ap (λ b. gave_up outcomes || b) (or-false (gives_up outcome))
@@ -45,7 +35,7 @@ pub gave-up-none : (outcomes : List Outcome) → gave_up (outcomes ++ Outcome.No
 gave-up-none outcomes = gave-up-more outcomes Outcome.NoMemory ∙ or-true (gave_up outcomes)
 
 -- memory was there for the step
-pub next-there : (config : Configuration) (c : Command) (p : Pending) (next : Step) (given : Bool) → IsCommandOf config c given p
+pub next-there : (config : Configuration) (c : AnyCommand) (p : Pending) (next : Step) (given : Bool) → IsCommandOf config c given p
     → next ≡ next_step step config p → IsNext config c p next given
 next-there config c p next given is same =
     let none : p.outcomes ++ [] ≡ p.outcomes = append-nil p.outcomes in
@@ -60,7 +50,7 @@ next-there config c p next given is same =
     }
 
 -- memory was wanted for it, and the command gave up
-pub next-wanted : (config : Configuration) (c : Command) (p : Pending) (next : Step) → (gave_up p.outcomes ≡ true → ⊥)
+pub next-wanted : (config : Configuration) (c : AnyCommand) (p : Pending) (next : Step) → (gave_up p.outcomes ≡ true → ⊥)
     → StandsFor config c p.initiator p.request (p.outcomes ++ Outcome.NoMemory ∷ [])
     → next ≡ step config p.initiator p.request (p.outcomes ++ Outcome.NoMemory ∷ []) → IsNext config c p next true
 next-wanted config c p next first stands same = record {

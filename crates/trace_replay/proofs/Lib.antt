@@ -4,7 +4,6 @@ pub mod Exits
 pub mod Telling
 pub mod Written
 pub mod Doing
-pub mod Forms
 pub mod Going
 pub mod Running
 pub mod Sizes

@@ -4,6 +4,7 @@ pub mod Played
 pub mod Marks
 pub mod Replayed
 pub mod Laws
+pub mod Commands
 pub mod Machines
 pub mod Counting
 pub mod Faults

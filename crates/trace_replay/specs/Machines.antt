@@ -16,12 +16,13 @@ use Rattle.std.specs.BTreeMap.{get}
 use Rattle.cm_frame.specs.declared.frame.Request.{Request}
 use Rattle.cm_frame.specs.declared.frame.Reply.{Reply}
 use Rattle.cm_frame.specs.declared.item.TraceItem.{TraceItem}
-use Rattle.cmd_program.specs.declared.command.Command.{Command}
 use Rattle.cmd_program.specs.declared.step.Step.{Step}
 use Rattle.cmd_program.specs.declared.step.Outcome.{Outcome}
 use Rattle.cmd_program.specs.Stepping.{gave_up}
-use Rattle.cmd_program.specs.Meaning.{StandsFor, IsSound, IsAskedOf, IsOfLength, IsOutcomeOf}
+use Rattle.cmd_program.specs.Meaning.{IsAskedOf, IsOfLength, IsOutcomeOf}
 use Rattle.cmd_program.specs.Judging.{step}
+use Rattle.trace_replay.specs.declared.any_command.AnyCommand.{AnyCommand}
+use Rattle.trace_replay.specs.Commands.{StandsFor, IsSound}
 use Rattle.trace_replay.specs.declared.units.Units.{Units}
 use Rattle.trace_replay.specs.declared.nexus.Waiting.{Waiting}
 use Rattle.trace_replay.specs.declared.nexus.Nexus.{Nexus}
@@ -83,12 +84,12 @@ DoesAct Have config entries u actor n moment act (Err refused) = Have entries ×
 -- ---- one nexus
 
 -- a command, and whether it gave up, is what a pending command is
-pub record IsCommandOf (config : Configuration) (command : Command) (given : Bool) (p : Pending) : Type 0 where
+pub record IsCommandOf (config : Configuration) (command : AnyCommand) (given : Bool) (p : Pending) : Type 0 where
   pub stands : StandsFor config command p.initiator p.request p.outcomes
   pub gave_up : given ≡ gave_up p.outcomes
 
 -- it is what some pending command is
-pub record IsCommand (config : Configuration) (command : Command) (given : Bool) : Type 0 where
+pub record IsCommand (config : Configuration) (command : AnyCommand) (given : Bool) : Type 0 where
   pub p : Pending
   pub is : IsCommandOf config command given p
 
@@ -104,7 +105,7 @@ abbrev pub mark_of : Bool → Mark
 mark_of wanted = if wanted then AtStep else NoMark
 
 -- the next step of a command, which gave up where it wanted memory for it
-pub record IsNext (config : Configuration) (c : Command) (p : Pending) (next : Step) (given : Bool) : Type 0 where
+pub record IsNext (config : Configuration) (c : AnyCommand) (p : Pending) (next : Step) (given : Bool) : Type 0 where
   pub wanted : Bool
   pub once : gave_up p.outcomes ≡ true → wanted ≡ false
   pub command : IsCommandOf config c given (noted p (noted_at_step (mark_of wanted)))
@@ -130,7 +131,7 @@ pub record HasActed (config : Configuration) (entries : List Entry) (initiator u
   pub units : HaveCounted config (entries_at mark entries (entries_after config entries (Actor.Nexus initiator) u moment act)) after
   pub seq : n ≡ seq (Actor.Nexus initiator) (entries_at mark entries (entries_after config entries (Actor.Nexus initiator) u moment act))
   pub outcome : outcomes_at mark (outcome_of config entries (Actor.Nexus initiator) u moment act) ≡ found ∷ []
-  pub follows : IsOutcomeOf act found
+  pub follows : IsOutcomeOf config u act found
 
 -- some entries were done, and a nexus with so many of them may ask the unit for the act
 pub record MayAct (units : Units) (n u initiator : ℕ) (act : Act) : Type 0 where

@@ -1,6 +1,7 @@
 // A trace, played item after item.
 #![tactic(auto)]
 
+mod any_command;
 mod fault;
 mod machine;
 mod nexus;
@@ -10,6 +11,7 @@ mod summary;
 mod trace;
 mod units;
 
+pub use any_command::AnyCommand;
 pub use fault::ReplayFault;
 pub use summary::Summary;
 pub use trace::replay;

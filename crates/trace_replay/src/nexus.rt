@@ -2,23 +2,25 @@ ghost use Rattle.std.specs.Prelude.{◌≡◌, ◌||◌, None, is_some, List, If
 ghost use Rattle.cm_base.specs.Configuration.{Configuration};
 ghost use Rattle.cm_history.specs.declared.act.Actor.{Actor};
 ghost use Rattle.cm_history.specs.declared.act.Entry.{Entry};
-ghost use Rattle.cmd_program.specs.Meaning.{IsSound, IsAskable, IsWritable};
+ghost use Rattle.cmd_program.specs.Meaning.{IsAskable, IsWritable};
 ghost use Rattle.cmd_program.specs.Stepping.{gives_up, gave_up};
+ghost use Rattle.trace_replay.specs.Commands.{IsSound};
 ghost use Rattle.trace_replay.specs.Standing.{Pending, Mark, seq, noted, noted_at_step};
 ghost use Rattle.trace_replay.specs.Machines.{HaveCounted, IsCommandOf, IsCommand, IsWaiting, IsNext, WentOn, HasBegun, MayAct, HasActed, MayRun, HasRun, mark_of};
 
+use crate::any_command::AnyCommand;
 use crate::units::Units;
 use cm_base::{Config, OutOfMemory};
 use cm_frame::{Reply, Request};
 use cm_history::Act;
-use cmd_program::{Command, Outcome, Step};
+use cmd_program::{Outcome, Step};
 use std::alloc::Global;
 use unit_core::ActRefused;
 
 /// A command that waits to be run, with the act that it asks for.
 #[derive(Drop)]
 pub(crate) struct Waiting {
-    command: Command,
+    command: AnyCommand,
     unit: u16,
     act: Act,
     gave_up: bool,
@@ -43,7 +45,7 @@ fn has_given_up(given_up: bool, outcome: &Outcome) -> bool
 
 /// The next step of a command, and whether it has given up. It gives up where memory is wanted for
 /// the step, which is then another one.
-fn next_step(alloc: Global, config: &Config, command: &mut Command, given_up: bool) -> (Step, bool)
+fn next_step(alloc: Global, config: &Config, command: &mut AnyCommand, given_up: bool) -> (Step, bool)
     requires sound { IsSound config.now command.old }
     requires stands { IsCommand config.now command.old given_up }
     ensures sound { IsSound config.now command.new }
@@ -91,7 +93,7 @@ impl Nexus {
         &mut self,
         alloc: Global,
         config: &Config,
-        mut command: Command,
+        mut command: AnyCommand,
         given_up: bool,
     ) -> Option<Reply>
         requires sound { IsSound config.now command }
@@ -131,7 +133,7 @@ impl Nexus {
         ensures seq { self.new.seq ≡ self.old.seq }
         ensures begun { (mark : Mark) × HasBegun config.now initiator request mark self.new.waiting result }
     {
-        match Command::begin(alloc, config, initiator, request) {
+        match AnyCommand::begin(alloc, config, initiator, request) {
             Ok(command) => self.go_on(alloc, config, command, false),
             Err(OutOfMemory) => Some(Reply::Busy),
         }

@@ -1,6 +1,7 @@
 ghost use Rattle.std.specs.Prelude.{◌≡◌, [], List, IfOk, OnOk};
 ghost use Rattle.cm_base.specs.Configuration.{Configuration};
 ghost use Rattle.cm_history.specs.declared.act.Entry.{Entry};
+ghost use Rattle.cm_history.specs.Forms.{HasForm};
 ghost use Rattle.trace_replay.specs.Machines.{HaveDone, HaveCounted, DoesAct, MayDo, MayPump};
 ghost use Rattle.trace_replay.specs.Standing.{entries_after};
 
@@ -53,6 +54,8 @@ impl Units {
         requires { MayDo self.old unit actor act }
         ensures done { (config : Configuration) (entries : List Entry) → HaveDone config entries self.old
             → DoesAct (λ es. HaveDone config es self.new) config entries unit actor seq moment act result }
+        ensures form { (config : Configuration) (entries : List Entry) → HaveDone config entries self.old
+            → IfOk result (λ a. HasForm config unit act a) }
         ensures pumps { self.new.pumps ≡ self.old.pumps }
     {
         let answer = self.units[usize::from(unit)].act(actor, seq, self.stamp, moment, act)?;
@@ -70,8 +73,10 @@ impl Units {
         act: Act,
     ) -> Result<Answer, ActRefused>
         requires { MayDo self.old unit (Actor.Nexus nexus) act }
-        ensures { (config : Configuration) (entries : List Entry) → HaveCounted config entries self.old
+        ensures done { (config : Configuration) (entries : List Entry) → HaveCounted config entries self.old
             → DoesAct (λ es. HaveCounted config es self.new) config entries unit (Actor.Nexus nexus) seq moment act result }
+        ensures form { (config : Configuration) (entries : List Entry) → HaveCounted config entries self.old
+            → IfOk result (λ a. HasForm config unit act a) }
     {
         self.ask(unit, Actor::Nexus(nexus), seq, moment, act)
     }

@@ -12,7 +12,7 @@ note-requires-clause-notable c =
       request = p.request;
       outcomes = p.outcomes;
       stands = c.requires.stands.is.stands;
-      follows = none-follows (step c.args.config.now p.initiator p.request p.outcomes);
+      follows = none-follows c.args.config.now (step c.args.config.now p.initiator p.request p.outcomes);
     }
 
 pub unwrap-requires : goal.unwrap-requires

@@ -1,14 +1,12 @@
 use Rattle.std.proofs.Common.{refl, ap, sym, ◌∙◌, ◌≡◌, subst, true}
 use Rattle.std.specs.Prelude.{cond, ◌+◌, ◌∷◌, []}
 use Rattle.cm_history.specs.declared.act.Actor.{Actor}
-use Rattle.cm_history.specs.Limits.{within_limits}
 use Rattle.cm_history.specs.History.{answer}
 use Rattle.cmd_program.specs.declared.step.Outcome.{Outcome}
 use Rattle.std.proofs.lemmas.Bool.{eq-eqb}
 use Rattle.trace_replay.specs.Standing.{NoMark, seq, new_entry}
 use Rattle.trace_replay.specs.Machines.{HaveCounted}
-use Rattle.trace_replay.proofs.Doing.{after-done, seq-same, one-config}
-use Rattle.trace_replay.proofs.Forms.{answer-formed}
+use Rattle.trace_replay.proofs.Doing.{after-done, seq-same}
 use Rattle.trace_replay.proofs.nexus.Nexus.do_act.Goals as goal
 
 pub act-requires : goal.act-requires
@@ -24,9 +22,7 @@ act-requires c = record {
 pub returns-in-Ok : goal.returns-in-Ok
 returns-in-Ok c = λ config entries h right.
     let actor = Actor.Nexus c.args.initiator in
-    let d = c.in-Ok.ensures config entries h in
-    let same = one-config config c.requires.config entries c.requires.entries c.args.units.now c.args.unit h.done c.requires.counted.done c.requires.askable.configured in
-    let limits : within_limits config c.args.unit c.args.act ≡ true = subst (λ k. within_limits k c.args.unit c.args.act ≡ true) same c.requires.askable.limits in
+    let d = c.in-Ok.ensures.done config entries h in
     record {
       mark = NoMark;
       allowed = refl;
@@ -35,5 +31,5 @@ returns-in-Ok c = λ config entries h right.
           (ap (λ n. n + 1) right ∙ sym (seq-same actor entries (new_entry entries actor c.args.unit c.args.moment c.args.act) (eq-eqb c.args.initiator c.args.initiator refl)));
       outcome = ap (λ b. cond b Outcome.Full (Outcome.Answered (answer config entries c.args.unit actor c.args.moment c.args.act)) ∷ []) d.0
           ∙ ap (λ a. Outcome.Answered a ∷ []) (sym d.1);
-      follows = answer-formed config entries c.args.unit actor c.args.moment c.args.act c.in-Ok.answer h.done.limits limits d.1;
+      follows = c.in-Ok.ensures.form config entries h;
     }

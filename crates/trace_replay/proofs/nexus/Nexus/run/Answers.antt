@@ -17,7 +17,7 @@ note-requires-clause-notable c =
       request = p.request;
       outcomes = p.outcomes;
       stands = c.requires.waiting.command.stands;
-      follows = subst (λ s. MayFollow s c.in_ok-outcome.outcome) (sym c.requires.waiting.asks) d.follows;
+      follows = subst (λ s. MayFollow c.args.config.now s c.in_ok-outcome.outcome) (sym c.requires.waiting.asks) d.follows;
     }
 
 pub go_on-requires-clause-stands : goal.go_on-requires-clause-stands

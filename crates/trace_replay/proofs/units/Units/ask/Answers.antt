@@ -1,7 +1,7 @@
 use Rattle.std.proofs.Common.{refl, arith, ap, ◌≡◌, slice_set}
 use Rattle.std.specs.Prelude.{Some, slice_get}
 use Rattle.std.proofs.lemmas.Result.{err_from_is_err_and}
-use Rattle.trace_replay.proofs.Doing.{done-more, done-refused, stamp-fits, answer-is, refuses, room-left, seq-below, unit-at}
+use Rattle.trace_replay.proofs.Doing.{done-more, done-refused, stamp-fits, answer-is, refuses, room-left, form-is, seq-below, unit-at}
 use Rattle.trace_replay.proofs.units.Units.ask.Goals as goal
 
 pub overflow_add-self : goal.overflow_add-self
@@ -22,6 +22,12 @@ returns-clause-done c = λ config entries h.
       λ right. seq-below c.args.actor entries c.args.seq c.args.self.now.stamp _ right h.stamp
           (stamp-fits config entries c.args.self.now c.args.unit c.index_mut.result.now c.args.actor c.args.act h at (omega arith) c.in_ok-answer.ensures.room),
     )
+
+pub returns-clause-form : goal.returns-clause-form
+returns-clause-form c = λ config entries h.
+    let at : slice_get c.args.self.now.units.items c.args.unit ≡ Some c.index_mut.result.now =
+    unit-at _ _ c.args.self.now c.args.unit c.from.result _ c.requires.done c.requires.configured c.from.ensures c.index_mut.ensures.value in
+    form-is config entries c.args.self.now c.args.unit c.index_mut.result.now c.args.actor c.args.act h at _ c.in_ok-answer.ensures.form
 
 pub returns-in_err-answer-clause-done : goal.returns-in_err-answer-clause-done
 returns-in_err-answer-clause-done c = λ config entries h.
