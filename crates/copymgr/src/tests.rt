@@ -1,6 +1,7 @@
 ghost use Rattle.std.specs.Prelude.{◌<◌};
 
-use crate::rows::{ROWS, Row};
+use crate::rows::first_path::{HEADER, ROWS, RUN};
+use crate::rows::{Row, copies, evictions, generated, operations, tokens, usual_copy};
 use crate::status::Status;
 use crate::top::top;
 use cm_base::{Bytes, CallList, MemorySink, MemorySource, Word};
@@ -14,7 +15,7 @@ fn bytes_of(alloc: Global, pieces: &[&str]) -> Result<Bytes, Fail> {
         match piece.split_once('*') {
             Some((byte, count)) => {
                 let byte = hex::decode(alloc, byte)?;
-                for _ in 0..count.parse::<u16>()? {
+                for _ in 0..count.parse::<u32>()? {
                     bytes.extend(&byte)?;
                 }
             }
@@ -49,18 +50,107 @@ fn only(alloc: Global, call: u64) -> Result<CallList, Fail> {
     Ok(calls)
 }
 
+/// The trace gives its replies and its status by pulls and pushes of so many bytes.
+fn is_as_worked(alloc: Global, row: &Row, step: usize) -> Result<bool, Fail>
+    requires { 0 < step }
+{
+    let none = CallList::empty(alloc);
+    let (status, output) = played(alloc, row, step, none, CallList::empty(alloc))?;
+    let replies = bytes_of(alloc, row.replies)?;
+    Ok(status == row.status && output.as_slice() == replies.as_slice())
+}
+
 #[test]
 fn worked_traces(rt: HostRuntime) -> Result<(), Fail> {
-    let alloc = rt.alloc();
     for row in &ROWS {
         for step in [1, 7, 4096] {
-            let none = CallList::empty(alloc);
-            let (status, output) = played(alloc, row, step, none, CallList::empty(alloc))?;
-            let replies = bytes_of(alloc, row.replies)?;
-            assert!(rt; status == row.status, "{}: {status}", row.name);
-            assert!(rt; output.as_slice() == replies.as_slice(), "{}", row.name);
+            assert!(rt; is_as_worked(rt.alloc(), row, step)?, "{} by {step}", row.name);
         }
     }
+    Ok(())
+}
+
+#[test]
+fn worked_traces_of_tokens(rt: HostRuntime) -> Result<(), Fail> {
+    for row in &tokens::ROWS {
+        for step in [1, 7, 4096] {
+            assert!(rt; is_as_worked(rt.alloc(), row, step)?, "{} by {step}", row.name);
+        }
+    }
+    Ok(())
+}
+
+#[test]
+fn worked_traces_of_copies(rt: HostRuntime) -> Result<(), Fail> {
+    for row in &copies::ROWS {
+        assert!(rt; is_as_worked(rt.alloc(), row, 4096)?, "{}", row.name);
+    }
+    Ok(())
+}
+
+#[test]
+fn worked_traces_of_operations(rt: HostRuntime) -> Result<(), Fail> {
+    for row in &operations::ROWS {
+        assert!(rt; is_as_worked(rt.alloc(), row, 65_536)?, "{}", row.name);
+    }
+    Ok(())
+}
+
+#[test]
+fn worked_long_traces(rt: HostRuntime) -> Result<(), Fail> {
+    for rows in [&evictions::ROWS, &usual_copy::ROWS, &generated::ROWS] {
+        for row in rows {
+            assert!(rt; is_as_worked(rt.alloc(), row, 512)?, "{}", row.name);
+        }
+    }
+    Ok(())
+}
+
+/// A POPULATE TOKEN of one block with a list identifier, and its Run.
+fn populate(alloc: Global, trace: &mut Bytes, id: u32) -> Result<(), Fail> {
+    trace.extend(&hex::decode(alloc, "01000000010000000000000000000000200000831000000000")?)?;
+    trace.extend(&id.to_be_bytes())?;
+    trace.extend(&hex::decode(alloc, "000000200000001e02000000012c0080000000000010")?)?;
+    trace.extend(&hex::decode(alloc, "00000000000000000000000100000000")?)?;
+    trace.extend(&hex::decode(alloc, RUN)?)?;
+    Ok(())
+}
+
+/// A RECEIVE ROD TOKEN INFORMATION of a list identifier, and its Run.
+fn information(alloc: Global, trace: &mut Bytes, id: u32) -> Result<(), Fail> {
+    trace.extend(&hex::decode(alloc, "01000000010000000000000000000000000000840700000000")?)?;
+    trace.extend(&id.to_be_bytes())?;
+    trace.extend(&hex::decode(alloc, "000004000000")?)?;
+    trace.extend(&hex::decode(alloc, RUN)?)?;
+    Ok(())
+}
+
+/// Plays bytes, and says whether the replies begin with so many GOOD ones, and then are these.
+fn replies_are(alloc: Global, trace: Bytes, good: usize, last: &[&str]) -> Result<bool, Fail> {
+    let mut words = Vec::new(alloc);
+    words.push(Word::from_text(alloc, "replay")?)?;
+    let mut input = MemorySource::new(trace, 4096, CallList::empty(alloc));
+    let mut output = MemorySink::new(alloc, 4096, CallList::empty(alloc));
+    let status = top(alloc, &words, &mut input, &mut output);
+    let mut replies = Bytes::empty(alloc);
+    for _ in 0..good {
+        replies.extend(&hex::decode(alloc, "00000001000000000000")?)?;
+    }
+    replies.extend(bytes_of(alloc, last)?.as_slice())?;
+    Ok(status == Status::Done && output.as_slice() == replies.as_slice())
+}
+
+/// Of 257 populates the record of the first is gone, and that of the second is there.
+#[test]
+fn the_257th_record_drops_the_first(rt: HostRuntime) -> Result<(), Fail> {
+    let alloc = rt.alloc();
+    let mut trace = bytes_of(alloc, &[HEADER])?;
+    for id in 0..257 {
+        populate(alloc, &mut trace, id)?;
+    }
+    information(alloc, &mut trace, 0)?;
+    information(alloc, &mut trace, 1)?;
+    assert!(rt; replies_are(alloc, trace, 257, &operations::DROPPED)?);
     Ok(())
 }
 

@@ -301,18 +301,6 @@ pub after-done : (P : List Entry → Type 0) (config : Configuration) (entries :
 after-done P config entries actor u moment act room have =
     subst (λ b. P (cond b entries (entries ++ new_entry entries actor u moment act ∷ []))) (sym room) have
 
--- units are told of one configuration
-pub one-config : (config other : Configuration) (entries more : List Entry) (units : Units) (u : ℕ) → HaveDone config entries units → HaveDone other more units → u < length other.units
-    → other ≡ config
-one-config config other entries more units u have have' within = go (slice_get units.units.items u) refl
-  where
-    here : u < length units.units.items
-    here = omega (arith, have'.count, within)
-
-    go : (found : Option unit.Standing) → slice_get units.units.items u ≡ found → other ≡ config
-    go None e = absurd (none-within units.units.items u here e)
-    go (Some value) e = ap (λ (v : unit.Standing). v.config) (sym (have'.each u value e) ∙ have.each u value e)
-
 -- ---- one more unit
 
 pub pushed-each : {X : Type 0} (xs : List X) (x : X) (F : ℕ → X → Type 0) → ((u : ℕ) (v : X) → slice_get xs u ≡ Some v → F u v) → F (length xs) x

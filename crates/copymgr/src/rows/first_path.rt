@@ -1,17 +1,10 @@
-// Worked traces: what goes in, what comes out, and how the program ends.
+// Worked traces of reads and writes, of refusals, and of inputs that end too early.
 
+use super::Row;
 use crate::status::Status;
 
-/// One trace. Its bytes are pieces of hex text; `11*512` is the byte 11h 512 times.
-pub struct Row {
-    pub name: &'static str,
-    pub trace: &'static [&'static str],
-    pub replies: &'static [&'static str],
-    pub status: Status,
-}
-
 /// One unit of 100 blocks of 512 bytes; the secret is the bytes 00h to 1Fh.
-const HEADER: &str =
+pub const HEADER: &str =
     "434d545241434531000102030405060708090a0b0c0d0e0f101112131415161718191a1b1c1d1e1f0001\
 0000000000000064000002000010000000000000000000641000000000000000";
 
@@ -19,7 +12,7 @@ const HEADER: &str =
 const READ_BEGINS: &str = "0100000001000000000000000000000000000088000000000000000000000000010000";
 
 /// A Run of initiator 1.
-const RUN: &str = "02000000010000000000000000";
+pub const RUN: &str = "02000000010000000000000000";
 
 pub const ROWS: [Row; 25] = [
     Row {
