@@ -171,7 +171,9 @@ module _ (left rest taken given : Option (List ℕ)) (p : Player) (is : IsAt lef
       pulled = is.loop.pulled;
       marks = is.loop.marks ++ marks_of item h.mark;
       consumed = is.loop.consumed;
+      header = is.loop.header;
       stands = stood;
+      legal = h.standing.units.done.legal;
       written = written;
     }
       where

@@ -14,6 +14,8 @@ use Rattle.cm_history.specs.declared.act.Entry.{Entry}
 use Rattle.cm_history.specs.declared.answer.Answer.{Answer}
 use Rattle.cm_history.specs.Answers.{answer_after}
 use Rattle.cm_history.specs.Forms.{HasForm}
+use Rattle.cm_history.specs.Limits.{within_limits}
+use Rattle.cm_history.specs.Legal.{may_ask}
 use Rattle.cm_history.specs.Deeds.{last_stamp, same_actor}
 use Rattle.cm_history.specs.History.{on, one_more, past_of, answer}
 use Rattle.cm_history.specs.Room.{is_full}
@@ -24,6 +26,7 @@ use Rattle.unit_core.specs.Acting as acting
 use Rattle.trace_replay.specs.declared.units.Units.{Units}
 use Rattle.trace_replay.specs.Standing.{seq, new_entry, has_no_room, entries_after}
 use Rattle.trace_replay.specs.Marks.{ends_operation}
+use Rattle.trace_replay.proofs.Legally.{legal-more, low-more}
 use Rattle.trace_replay.specs.Machines.{HaveDone, HavePumped, HaveCounted, Refuses, DoesAct}
 
 -- ---- lists
@@ -161,18 +164,23 @@ module _ (config : Configuration) (entries : List Entry) (units : Units) (u : �
         count = ap length all ∙ have.count;
         each = λ v w e. have.each v w (ap (λ l. slice_get l v) (sym all) ∙ e);
         stamp = stamp ∙ have.stamp;
+        legal = have.legal;
+        low = have.low;
         stamps = have.stamps;
       }
 
   -- the unit has one more entry
   pub done-more : (units' : Units) (value' : unit.Standing) (n moment : ℕ) → units'.units.items ≡ slice_set units.units.items u value' → units'.stamp ≡ units.stamp + 1
       → value' ≡ record value { entries = value.entries ++ acting.entry_at value actor n units.stamp moment act ∷ [] }
+      → u < length config.units → within_limits config u act ≡ true → may_ask u actor act ≡ true
       → n ≡ seq actor entries → HaveDone config (entries ++ new_entry entries actor u moment act ∷ []) units'
-  done-more units' value' n moment list stamp grown right = record {
+  done-more units' value' n moment list stamp grown configured limits asked right = record {
     limits = have.limits;
     count = ap length list ∙ length-set units.units.items u value' ∙ have.count;
     each = λ v w e. each v w e (cases_eq u v);
     stamp = stamp ∙ omega (arith, have.stamp, length-append entries (new_entry entries actor u moment act ∷ []));
+    legal = legal-more config entries actor u moment act have.low have.legal configured limits asked;
+    low = low-more config entries actor u moment act have.low;
     stamps = λ v. stamps-more config entries (new_entry entries actor u moment act) v (omega arith) (have.stamps v);
   }
     where
@@ -226,6 +234,8 @@ done-beside config entries units units' list stamp have = record {
   count = ap length list ∙ have.count;
   each = λ v w e. have.each v w (ap (λ l. slice_get l v) (sym list) ∙ e);
   stamp = stamp ∙ have.stamp;
+  legal = have.legal;
+  low = have.low;
   stamps = have.stamps;
 }
 
@@ -300,6 +310,18 @@ pub after-done : (P : List Entry → Type 0) (config : Configuration) (entries :
     → has_no_room config entries actor u act ≡ false → P (entries ++ new_entry entries actor u moment act ∷ []) → P (entries_after config entries actor u moment act)
 after-done P config entries actor u moment act room have =
     subst (λ b. P (cond b entries (entries ++ new_entry entries actor u moment act ∷ []))) (sym room) have
+
+-- units are told of one configuration
+pub one-config : (config other : Configuration) (entries more : List Entry) (units : Units) (u : ℕ) → HaveDone config entries units → HaveDone other more units → u < length other.units
+    → other ≡ config
+one-config config other entries more units u have have' within = go (slice_get units.units.items u) refl
+  where
+    here : u < length units.units.items
+    here = omega (arith, have'.count, within)
+
+    go : (found : Option unit.Standing) → slice_get units.units.items u ≡ found → other ≡ config
+    go None e = absurd (none-within units.units.items u here e)
+    go (Some value) e = ap (λ (v : unit.Standing). v.config) (sym (have'.each u value e) ∙ have.each u value e)
 
 -- ---- one more unit
 

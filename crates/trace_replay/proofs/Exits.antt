@@ -9,6 +9,8 @@ use Rattle.cm_base.specs.declared.parsed.Parsed.TheVariants.{Whole, Short, Bad}
 use Rattle.cm_frame.specs.Laws.{IsJudged}
 use Rattle.cm_frame.proofs.Stays.{header-stays}
 use Rattle.cm_frame.specs.Reading.{read_header, read_item}
+use Rattle.cm_history.specs.Legal.{IsLegal}
+use Rattle.trace_replay.proofs.Legally.{legal-none, legal-by, history-at}
 use Rattle.trace_replay.specs.Items.{Done, BadRecord, Records, BadHeader, Torn, items_limit}
 use Rattle.trace_replay.specs.Standing.{at_first}
 use Rattle.trace_replay.specs.Played.{never_began, played_after}
@@ -117,6 +119,8 @@ exit-at step left rest taken given config pulled marks s n place buffered more e
       output = loop.written;
       allowed = may;
       ending = told;
+      legal = legal-by (pulled ++ more) (played step (pulled ++ more) marks) answer
+          (history-at config pulled more s (played step (pulled ++ more) marks) loop.header loop.legal (ap (λ (p : Played). p.standing) all));
       complete = complete-by step (pulled ++ more) marks (output_of s) answer tells may told;
     }
 
@@ -158,6 +162,7 @@ exit-early step left rest taken given config pulled marks s n place buffered pus
       output = written;
       allowed = may-all step config pulled marks s n place buffered (known rest) stands;
       ending = begun;
+      legal = tt;
       complete = tt;
     }
 
@@ -170,6 +175,7 @@ exit-early step left rest taken given config pulled marks s n place buffered pus
       output = written;
       allowed = may-all step config pulled marks s n place buffered (known rest) stands;
       ending = begun;
+      legal = tt;
       complete = tt;
     }
 
@@ -209,6 +215,8 @@ exit-header step left rest taken given bytes ending answer tells ends input writ
       output = written;
       allowed = none-may step bytes;
       ending = told;
+      legal = legal-by bytes (played step bytes []) answer
+          (λ config used header. subst (λ (p : Played). IsLegal config p.standing.entries) (sym ends) (legal-none config));
       complete = complete-by step bytes [] [] answer tells (none-may step bytes) told;
     }
 
@@ -223,6 +231,7 @@ memory-header step left rest taken given pulled consumed written = record {
   output = written;
   allowed = none-may step (pulled ++ known rest);
   ending = (output_of (played step (pulled ++ known rest) []).standing, refl);
+  legal = tt;
   complete = tt;
 }
 

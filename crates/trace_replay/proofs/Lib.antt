@@ -3,6 +3,7 @@ pub mod Grows
 pub mod Exits
 pub mod Telling
 pub mod Written
+pub mod Legally
 pub mod Doing
 pub mod Going
 pub mod Running

@@ -27,6 +27,7 @@ use Rattle.trace_replay.specs.Writing.{IsWritten, IsBegun, IsWriteFault}
 use Rattle.trace_replay.specs.Machines.{IsStanding}
 use Rattle.trace_replay.proofs.Sizes.{header-used}
 use Rattle.trace_replay.proofs.Steps.{begins, grows, play-unfit, play-bad, play-torn, play-done}
+use Rattle.trace_replay.proofs.Legally.{legal-none, header-more}
 use Rattle.trace_replay.proofs.Exits.{all-input, exit-at, exit-early, exit-done, exit-torn, exit-records, exit-read, exit-header, memory-header, header-bad, header-torn}
 use Rattle.trace_replay.proofs.Telling.{marks-tell}
 
@@ -41,7 +42,7 @@ module _ (left rest taken given : Option (List ℕ)) (config : Configuration) (s
   -- other bytes wait, after others were pushed
   pub loop-written : (given' : Option (List ℕ)) (waits' : List ℕ) → IsWritten taken given' waits' (output_of s)
       → IsLoopAt left rest taken given' config s n place input waits'
-  loop-written given' waits' w = record { pulled = l.pulled; marks = l.marks; consumed = l.consumed; stands = l.stands; written = w }
+  loop-written given' waits' w = record { pulled = l.pulled; marks = l.marks; consumed = l.consumed; header = l.header; stands = l.stands; legal = l.legal; written = w }
 
   -- more was pulled
   pub loop-more : (rest' : Option (List ℕ)) (more input' : List ℕ) → input' ≡ input ++ more → Consumes rest rest' more
@@ -50,13 +51,15 @@ module _ (left rest taken given : Option (List ℕ)) (config : Configuration) (s
     pulled = l.pulled ++ more;
     marks = l.marks;
     consumed = Consumes-trans left rest rest' l.pulled more l.consumed consumed;
+    header = header-more config l.pulled more l.header;
+    legal = l.legal;
     stands = subst (StandsAt step config (l.pulled ++ more) l.marks s n place) (sym is) (grows step config l.pulled l.marks s n place input more l.stands);
     written = l.written;
   }
 
   pub loop-kept : (rest' : Option (List ℕ)) → Keeps rest rest' → IsLoopAt left rest' taken given config s n place input waits
   loop-kept rest' kept =
-      record { pulled = l.pulled; marks = l.marks; consumed = Consumes-kept left rest rest' l.pulled l.consumed kept; stands = l.stands; written = l.written }
+      record { pulled = l.pulled; marks = l.marks; consumed = Consumes-kept left rest rest' l.pulled l.consumed kept; header = l.header; stands = l.stands; legal = l.legal; written = l.written }
 
   -- ---- the ends
 
@@ -78,7 +81,7 @@ module _ (left rest taken given : Option (List ℕ)) (config : Configuration) (s
 
   module _ (none : waits ≡ []) where
     pub stands : LoopStands step left rest taken given config l.pulled l.marks s n place input
-    stands = record { consumed = l.consumed; stands = l.stands; written = flushed taken given waits (output_of s) l.written none }
+    stands = record { consumed = l.consumed; header = l.header; stands = l.stands; legal = l.legal; written = flushed taken given waits (output_of s) l.written none }
 
     -- all of it was written
     pub ends-bad : EndsBad config s n place input → Replayed step left rest taken given (Err (ReplayFault.BadRecord place))
@@ -103,7 +106,7 @@ module _ (left rest taken given : Option (List ℕ)) (config : Configuration) (s
     pub ends-done : IsAtEnd rest → input ≡ [] → Replayed step left rest taken given (Ok (summary_of s))
     ends-done end empty =
         exit-done step left rest taken given config l.pulled l.marks s n place tells
-        (record { consumed = stands.consumed; stands = subst (StandsAt step config l.pulled l.marks s n place) empty l.stands; written = stands.written }) end
+        (record { consumed = stands.consumed; header = l.header; stands = subst (StandsAt step config l.pulled l.marks s n place) empty l.stands; legal = l.legal; written = stands.written }) end
 
 -- nothing was pulled
 pub ends-filling : (left rest taken given : Option (List ℕ)) (config : Configuration) (s : Standing) (n place : ℕ) (input waits : List ℕ)
@@ -222,7 +225,9 @@ begins-so left rest given config input used p consumed header machine summary in
         pulled = input;
         marks = [];
         consumed = consumed;
+        header = record { used = used; read = header };
         stands = stood;
+        legal = legal-none config;
         written = record { pushed = []; written = Appends-nil given; all = output };
       };
       machine = machine;
@@ -289,7 +294,9 @@ any-player rest given rest' given' p is = record {
     pulled = is.loop.pulled;
     marks = is.loop.marks;
     consumed = tt;
+    header = is.loop.header;
     stands = is.loop.stands;
+    legal = is.loop.legal;
     written = record { pushed = is.loop.written.pushed; written = tt; all = is.loop.written.all };
   };
   machine = is.machine;

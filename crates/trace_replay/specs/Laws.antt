@@ -2,6 +2,7 @@
 use Rattle.std.specs.Prelude.{◌≡◌, ℕ, ◌+◌, suc, List, [], ◌∷◌, ◌++◌, drop, true, ◌⊎◌, IsTrue, Option, Some, None}
 use Rattle.std.specs.Io.KnownBytes.{Consumes, Appends}
 use Rattle.cm_base.specs.Configuration.{Configuration}
+use Rattle.cm_history.specs.Legal.{IsLegal}
 use Rattle.cm_frame.specs.declared.item.TraceItem.{TraceItem}
 use Rattle.cm_base.specs.declared.parsed.Parsed.TheVariants.{Whole}
 use Rattle.cm_frame.specs.Reading.{read_item, read_header}
@@ -47,13 +48,20 @@ abbrev pub OutputGrows : Stepping → Type 0
 OutputGrows step = (config : Configuration) (s : Standing) (n place : ℕ) (bytes : List ℕ) (marks : List Mark)
     → IsBeginning (output_of s) (output_of (played_from step config s n place bytes marks).standing)
 
+-- the bytes begin with a header of this configuration
+pub record HasHeader (config : Configuration) (bytes : List ℕ) : Type 0 where
+  pub used : ℕ
+  pub read : read_header bytes ≡ Whole config used
+
 -- ---- what a loop knows between two items
 
 -- what was pulled and written, and how things stand
 pub record LoopStands (step : Stepping) (left rest taken given : Option (List ℕ)) (config : Configuration) (pulled : List ℕ) (marks : List Mark)
     (s : Standing) (n place : ℕ) (buffered : List ℕ) : Type 0 where
   pub consumed : Consumes left rest pulled
+  pub header : HasHeader config pulled
   pub stands : StandsAt step config pulled marks s n place buffered
+  pub legal : IsLegal config s.entries
   pub written : Appends taken given (output_of s)
 
 -- Where a mark stands, a reply or a waiting command shows it.

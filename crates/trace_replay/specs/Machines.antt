@@ -1,12 +1,12 @@
 -- How what a replay keeps stands for what was played. No public clause cites this module.
-use Rattle.std.specs.Prelude.{◌≡◌, ℕ, ◌-◌, ◌^◌, ◌<◌, ◌≤◌, List, [], ◌∷◌, ◌++◌, length, slice_get, slice_index, Option, Some, None, Result, Ok, Err, Bool, true, false, ◌&&◌, not, if◌then◌else◌}
+use Rattle.std.specs.Prelude.{◌≡◌, ℕ, ◌-◌, ◌^◌, ◌<◌, ◌≤◌, List, [], ◌∷◌, ◌++◌, length, slice_get, slice_index, Option, Some, None, Result, Ok, Err, Bool, true, false, ◌&&◌, not, if◌then◌else◌, All}
 use Rattle.cm_base.specs.Configuration.{Configuration, AreUnits}
 use Rattle.cm_history.specs.declared.act.Act.{Act}
 use Rattle.cm_history.specs.declared.act.Actor.{Actor}
 use Rattle.cm_history.specs.declared.act.Entry.{Entry}
 use Rattle.cm_history.specs.declared.answer.Answer.{Answer}
 use Rattle.cm_history.specs.Limits.{within_limits}
-use Rattle.cm_history.specs.Legal.{may_ask}
+use Rattle.cm_history.specs.Legal.{may_ask, IsLegal}
 use Rattle.cm_history.specs.Deeds.{last_stamp}
 use Rattle.cm_history.specs.History.{on, past_of, answer}
 use Rattle.unit_core.specs.declared.unit.ActRefused.{ActRefused}
@@ -41,6 +41,8 @@ pub record HaveDone (config : Configuration) (entries : List Entry) (units : Uni
   pub each : (u : ℕ) (value : unit.Standing) → slice_get units.units.items u ≡ Some value
       → value ≡ record { config = config; unit = u; entries = on u entries }
   pub stamp : units.stamp ≡ length entries
+  pub legal : IsLegal config entries
+  pub low : All (λ (e : Entry). e.stamp ≤ length entries) entries
   pub stamps : (u : ℕ) → last_stamp (past_of config u entries) ≤ length entries
 
 -- how many entries each unit's pump has made

@@ -3,6 +3,7 @@ use Rattle.std.specs.Prelude.{◌≡◌, ℕ, ◌+◌, ◌-◌, ◌*◌, ◌<◌
 use Rattle.std.specs.Io.KnownBytes.{Consumes, IsAtEnd}
 use Rattle.cm_base.specs.Configuration.{Configuration}
 use Rattle.cm_base.specs.declared.parsed.Parsed.TheVariants.{Whole, Short}
+use Rattle.cm_history.specs.Legal.{IsLegal}
 use Rattle.cm_frame.specs.Reading.{read_item}
 use Rattle.cmd_program.specs.Judging.{step}
 use Rattle.trace_replay.specs.declared.player.Player.{Player}
@@ -10,7 +11,7 @@ use Rattle.trace_replay.specs.declared.player.Found.{Found}
 use Rattle.trace_replay.specs.Items.{BadRecord, items_limit}
 use Rattle.trace_replay.specs.Standing.{Standing, Mark}
 use Rattle.trace_replay.specs.Played.{played_from, output_of, summary_of}
-use Rattle.trace_replay.specs.Laws.{StandsAt}
+use Rattle.trace_replay.specs.Laws.{StandsAt, HasHeader}
 use Rattle.trace_replay.specs.Machines.{IsStanding}
 use Rattle.trace_replay.specs.Writing.{IsWritten}
 
@@ -20,7 +21,9 @@ pub record IsLoopAt (left rest taken given : Option (List ℕ)) (config : Config
   pub pulled : List ℕ
   pub marks : List Mark
   pub consumed : Consumes left rest pulled
+  pub header : HasHeader config pulled
   pub stands : StandsAt step config pulled marks s n place input
+  pub legal : IsLegal config s.entries
   pub written : IsWritten taken given output (output_of s)
 
 -- nothing was counted beyond its limit

@@ -1,7 +1,11 @@
 -- What a replay owes, by its answer
 use Rattle.std.specs.Prelude.{◌≡◌, ℕ, List, [], Option, Result, Ok, Err, ◌⊎◌, IfSome, IsTrue}
 use Rattle.std.specs.Io.KnownBytes.{Consumes, Appends}
+use Rattle.cm_base.specs.Configuration.{Configuration}
+use Rattle.cm_base.specs.declared.parsed.Parsed.TheVariants.{Whole}
 use Rattle.cm_base.specs.Outside.{Faulted, IsBeginning}
+use Rattle.cm_history.specs.Legal.{IsLegal}
+use Rattle.cm_frame.specs.Reading.{read_header}
 use Rattle.cmd_program.specs.Stepping.{Stepping}
 use Rattle.trace_replay.specs.declared.summary.Summary.{Summary}
 use Rattle.trace_replay.specs.declared.fault.ReplayFault.{ReplayFault}
@@ -38,6 +42,16 @@ IsCompleteBy free marked pushed (Err WriteFault) = Unit {0}
 IsCompleteBy free marked pushed (Err OutOfMemory) = Unit {0}
 IsCompleteBy free marked pushed answer = free.ending ≡ Done → IsAnswer free pushed answer ⊎ IsTrue (met_want marked.standing)
 
+-- what was played is a legal history
+abbrev pub IsHistory : List ℕ → Played → Type 0
+IsHistory bytes p = (config : Configuration) (used : ℕ) → read_header bytes ≡ Whole config used → IsLegal config p.standing.entries
+
+-- that is said wherever all that was pulled was played
+abbrev pub IsLegalBy : List ℕ → Played → Result Summary ReplayFault → Type 0
+IsLegalBy bytes p (Err WriteFault) = Unit {0}
+IsLegalBy bytes p (Err OutOfMemory) = Unit {0}
+IsLegalBy bytes p answer = IsHistory bytes p
+
 -- The bytes, the marks and what was written, such that the answer is that of the trace.
 pub record Replayed (step : Stepping) (left rest taken given : Option (List ℕ)) (answer : Result Summary ReplayFault) : Type 0 where
   pub bytes : List ℕ
@@ -47,6 +61,7 @@ pub record Replayed (step : Stepping) (left rest taken given : Option (List ℕ)
   pub output : Appends taken given pushed
   pub allowed : IsTrue (may_mark step bytes marks)
   pub ending : IsAnswer (played step bytes marks) pushed answer
+  pub legal : IsLegalBy bytes (played step bytes marks) answer
   pub complete : IsCompleteBy (played step bytes []) (played step bytes marks) pushed answer
 
 -- ---- the faults of the outside

@@ -1,7 +1,8 @@
-use Rattle.std.proofs.Common.{refl, arith, ap, ◌≡◌, slice_set}
+use Rattle.std.proofs.Common.{refl, arith, ap, ◌≡◌, ◌<◌, length, subst, true, slice_set}
 use Rattle.std.specs.Prelude.{Some, slice_get}
+use Rattle.cm_history.specs.Limits.{within_limits}
 use Rattle.std.proofs.lemmas.Result.{err_from_is_err_and}
-use Rattle.trace_replay.proofs.Doing.{done-more, done-refused, stamp-fits, answer-is, refuses, room-left, form-is, seq-below, unit-at}
+use Rattle.trace_replay.proofs.Doing.{done-more, done-refused, stamp-fits, answer-is, refuses, room-left, one-config, form-is, seq-below, unit-at}
 use Rattle.trace_replay.proofs.units.Units.ask.Goals as goal
 
 pub overflow_add-self : goal.overflow_add-self
@@ -13,12 +14,14 @@ overflow_add-self c =
 
 pub returns-clause-done : goal.returns-clause-done
 returns-clause-done c = λ config entries h.
+    let same = one-config config c.requires.config entries c.requires.entries c.args.self.now c.args.unit h c.requires.done c.requires.configured in
     let at : slice_get c.args.self.now.units.items c.args.unit ≡ Some c.index_mut.result.now =
     unit-at _ _ c.args.self.now c.args.unit c.from.result _ c.requires.done c.requires.configured c.from.ensures c.index_mut.ensures.value in (
       room-left config entries c.args.self.now c.args.unit c.index_mut.result.now c.args.actor c.args.act h at c.in_ok-answer.ensures.room,
       answer-is config entries c.args.self.now c.args.unit c.index_mut.result.now c.args.actor c.args.act h at c.args.moment _ c.in_ok-answer.ensures.answer,
       λ right. done-more config entries c.args.self.now c.args.unit c.index_mut.result.now c.args.actor c.args.act h at _ c.act.new.self c.args.seq c.args.moment
-          (ap (λ i. slice_set c.args.self.now.units.items i c.act.new.self) c.from.ensures) refl c.in_ok-answer.ensures.added right,
+          (ap (λ i. slice_set c.args.self.now.units.items i c.act.new.self) c.from.ensures) refl c.in_ok-answer.ensures.added
+          (subst (λ k. c.args.unit < length k.units) same c.requires.configured) (subst (λ k. within_limits k c.args.unit c.args.act ≡ true) same c.requires.limits) c.requires.asked right,
       λ right. seq-below c.args.actor entries c.args.seq c.args.self.now.stamp _ right h.stamp
           (stamp-fits config entries c.args.self.now c.args.unit c.index_mut.result.now c.args.actor c.args.act h at (omega arith) c.in_ok-answer.ensures.room),
     )
