@@ -118,9 +118,9 @@ fn populate(alloc: Global, trace: &mut Bytes, id: u32) -> Result<(), Fail> {
 
 /// A RECEIVE ROD TOKEN INFORMATION of a list identifier, and its Run.
 fn information(alloc: Global, trace: &mut Bytes, id: u32) -> Result<(), Fail> {
-    trace.extend(&hex::decode(alloc, "01000000010000000000000000000000000000840700000000")?)?;
+    trace.extend(&hex::decode(alloc, "010000000100000000000000000000000000008407")?)?;
     trace.extend(&id.to_be_bytes())?;
-    trace.extend(&hex::decode(alloc, "000004000000")?)?;
+    trace.extend(&hex::decode(alloc, "00000000000004000000")?)?;
     trace.extend(&hex::decode(alloc, RUN)?)?;
     Ok(())
 }
