@@ -1,10 +1,9 @@
 -- A command that gave up for want of memory ends BUSY
 use Rattle.std.proofs.Common.{◌≡◌, List, [], ◌∷◌, ◌++◌, refl, subst, sym, false, true}
-use Rattle.std.specs.Prelude.{ℕ, ◌==◌, take, fold, cond, Bool, Option, Some, None, Result, Ok, Err}
-use Rattle.scsi_sense.specs.Codes.{no_such_unit, bad_cdb}
-use Rattle.lba_ranges.specs.declared.ranges.Range.{Range}
-use Rattle.block_params.specs.ListsRead.{unmap_read}
-use Rattle.scsi_inquiry.specs.UnitData.{vpd, standard}
+use Rattle.std.specs.Prelude.{fold, cond, Bool, Option, Some, None, Result, Ok, Err}
+use Rattle.scsi_sense.specs.Codes.{no_such_unit}
+use Rattle.block_params.specs.ListsRead.{unmap_read, populate_read, write_token_read}
+use Rattle.seg_parse.specs.ListRead.{lid1_read}
 use Rattle.cm_base.specs.Configuration.{Configuration}
 use Rattle.cm_base.specs.Units.{is_configured}
 use Rattle.scsi_sense.specs.SenseCode.{SenseCode}
@@ -12,18 +11,13 @@ use Rattle.scsi_cdb.specs.declared.cdb.Cdb.{Cdb}
 use Rattle.scsi_cdb.specs.Decoded.{decoded}
 use Rattle.cm_frame.specs.declared.frame.Request.{Request}
 use Rattle.cm_frame.specs.declared.frame.Reply.{Reply}
-use Rattle.cm_history.specs.declared.answer.Answer.{Answer}
 use Rattle.cmd_program.specs.declared.step.Outcome.{Outcome}
 use Rattle.cmd_program.specs.Stepping.{gave_up, IsBusyAtEnd, EndsBusy}
-use Rattle.cmd_program.specs.Program.{Ask, Program, Ends, Asks, GivesUp, next, moved, give_up, go_on_by, good, refused, unless_refused, done}
-use Rattle.cmd_program.specs.SingleActs.{told_read, told_map, inquiry, unmap, page_told}
+use Rattle.cmd_program.specs.Program.{Ask, Program, Ends, Asks, GivesUp, next, moved, give_up, go_on_by, refused, done}
 use Rattle.cmd_program.specs.Judging.{step, program, judged_cdb, judged_out}
-
--- the program has not given up, whatever it is answered
-abbrev pub IsOpen : Program → Type 0
-IsOpen (Ends reply) = Unit {0}
-IsOpen (Asks ask last go_on) = (answer : Answer) → IsOpen (go_on answer)
-IsOpen (GivesUp last reply) = ⊥
+use Rattle.cmd_program.proofs.Open.{IsOpen, read-open, unless_refused-open, map-open, inquiry-open, unmap-open}
+use Rattle.cmd_program.proofs.OpenTokens.{populate-open, report-open, information-open, write-open}
+use Rattle.cmd_program.proofs.OpenCopies.{copy-open, extended-open}
 
 -- while no outcome makes it give up, it has not
 pub stays-open : (p : Program) (outcomes : List Outcome) → IsOpen p → gave_up outcomes ≡ false → IsOpen (fold moved p outcomes)
@@ -79,40 +73,10 @@ fold-append p (x ∷ xs) ys = fold-append (moved p x) xs ys
 
 -- ---- no command gives up by itself
 
-read-open : (a : Answer) → IsOpen (told_read a)
-read-open (Answer.Blocks list) = tt
-read-open (Answer.Refused sense) = tt
-read-open _ = tt
-
-pub unless_refused-open : (p : Program) (a : Answer) → IsOpen p → IsOpen (unless_refused p a)
-unless_refused-open p (Answer.Refused sense) opens = tt
-unless_refused-open p _ opens = opens
-
 out-open : (config : Configuration) (r : Request) (cdb : Cdb) (fault : Option SenseCode)
     → IsOpen (judged_out config r cdb None) → IsOpen (judged_out config r cdb fault)
 out-open config r cdb (Some sense) opens = tt
 out-open config r cdb None opens = opens
-
-map-open : (room : ℕ) (a : Answer) → IsOpen (told_map room a)
-map-open room (Answer.Status runs) = tt
-map-open room (Answer.Refused sense) = tt
-map-open room _ = tt
-
-page-open : (room : ℕ) (page : Option (List ℕ)) → IsOpen (page_told room page)
-page-open room None = tt
-page-open room (Some page) = tt
-
-inquiry-open : (unit : ℕ) (evpd : Bool) (page room : ℕ) → IsOpen (inquiry unit evpd page room)
-inquiry-open unit true page room = page-open room (vpd unit page)
-inquiry-open unit false page room = go (page == 0)
-  where
-    go : (b : Bool) → IsOpen (cond b (good (take room standard)) (refused bad_cdb))
-    go true = tt
-    go false = tt
-
-unmap-open : (unit : ℕ) (ranges : Result (List Range) SenseCode) → IsOpen (unmap unit ranges)
-unmap-open unit (Err sense) = tt
-unmap-open unit (Ok ranges) = λ a. unless_refused-open done a tt
 
 cdb-open : (config : Configuration) (r : Request) (cdb : Result Cdb SenseCode) → IsOpen (judged_cdb config r cdb)
 cdb-open config r (Err sense) = tt
@@ -127,7 +91,15 @@ cdb-open config r (Ok (Cdb.ReadCapacity16 room)) = out-open config r (Cdb.ReadCa
 cdb-open config r (Ok (Cdb.GetLbaStatus lba room)) = out-open config r (Cdb.GetLbaStatus lba room) _ (map-open room)
 cdb-open config r (Ok (Cdb.ReportLuns room)) = out-open config r (Cdb.ReportLuns room) _ tt
 cdb-open config r (Ok (Cdb.CopyParameters room)) = out-open config r (Cdb.CopyParameters room) _ tt
-cdb-open config r (Ok _) = tt
+cdb-open config r (Ok (Cdb.PopulateToken id length)) = out-open config r (Cdb.PopulateToken id length) _ (populate-open r.unit id (populate_read r.out))
+cdb-open config r (Ok (Cdb.WriteUsingToken id length)) =
+    out-open config r (Cdb.WriteUsingToken id length) _ (write-open config r.unit id (write_token_read r.out))
+cdb-open config r (Ok (Cdb.CopyAbort id)) = out-open config r (Cdb.CopyAbort id) _ (λ a. unless_refused-open done a tt)
+cdb-open config r (Ok (Cdb.CopyStatus4 id room)) = out-open config r (Cdb.CopyStatus4 id room) _ (report-open room)
+cdb-open config r (Ok (Cdb.TokenInformation id room)) = out-open config r (Cdb.TokenInformation id room) _ (information-open config r.unit room)
+cdb-open config r (Ok (Cdb.ExtendedCopy length)) =
+    out-open config r (Cdb.ExtendedCopy length) _ (extended-open config r.unit length (lid1_read r.out))
+cdb-open config r (Ok (Cdb.CopyStatus1 id room)) = out-open config r (Cdb.CopyStatus1 id room) _ (copy-open room)
 
 pub program-open : (config : Configuration) (r : Request) → IsOpen (program config r)
 program-open config r = go (is_configured config r.unit)

@@ -23,8 +23,9 @@ pub struct Command {
 }
 
 impl Command {
-    /// The command of a request of a nexus, which is neither one with tokens nor a copy of segments. It takes the data-out over, which stays shared. The reply
-    /// of a command that asks for no act is built here.
+    /// The command of a request of a nexus, whose CDB is refused or asks for neither a command with
+    /// tokens nor a copy of segments. It takes the data-out over, which stays shared. The reply of a
+    /// command that asks for no act is built here.
     pub fn begin(
         alloc: Global,
         config: &Config,
@@ -70,7 +71,7 @@ impl Command {
             → StandsFor config.now self.old nexus request outcomes
             → StandsFor config.now self.new nexus request (outcomes ++ outcome ∷ []) }
     {
-        let _ = config;
+        let _units = config.units();
         let phase = mem::replace(&mut self.phase, Phase::Odd);
         self.phase = phase.noted(outcome);
     }

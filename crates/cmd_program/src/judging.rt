@@ -3,7 +3,7 @@ ghost use Rattle.cm_base.specs.Units.{unit_of};
 ghost use Rattle.cm_frame.specs.declared.frame.Request.{Request};
 ghost use Rattle.scsi_cdb.specs.Decoded.{decoded};
 ghost use Rattle.scsi_cdb.specs.Encoded.{moved as moved_blocks};
-ghost use Rattle.cmd_program.specs.Coded.{has_code};
+ghost use Rattle.cmd_program.specs.Kinds.{asks_single};
 ghost use Rattle.cmd_program.specs.Judging.{judged_cdb, out_fault, program_of};
 ghost use Rattle.cmd_program.specs.Meaning.{IsSoundPhase, by_phase};
 
@@ -26,18 +26,19 @@ pub(crate) fn judged(
     out: Payload,
 ) -> Result<Phase, OutOfMemory>
     requires configured { unit < length config.now.units }
+    requires single { asks_single (decoded cdb.now) ≡ true }
     ensures program { IfOk result (λ p. by_phase p
         ≡ judged_cdb config.now (record { unit = unit; cdb = cdb.now; out = out }) (decoded cdb.now)) }
     ensures sound { IfOk result (λ p. IsSoundPhase config.now p) }
 {
     match decode(cdb) {
-        Ok(decoded) => coded(alloc, config, unit, decoded, out),
+        Ok(decoded) => judged_out(alloc, config, unit, decoded, out),
         Err(sense) => Ok(Phase::Refused(sense)),
     }
 }
 
 /// A command of a configured unit, whose CDB was decoded.
-fn coded(
+fn judged_out(
     alloc: Global,
     config: &Config,
     unit: u16,
@@ -46,33 +47,15 @@ fn coded(
 ) -> Result<Phase, OutOfMemory>
     requires configured { unit < length config.now.units }
     requires transfer { moved_blocks cdb ≤ 2048 }
+    requires single { asks_single (Ok cdb) ≡ true }
     ensures program { (bytes : List ℕ) → IfOk result (λ p. by_phase p
         ≡ judged_cdb config.now (record { unit = unit; cdb = bytes; out = out }) (Ok cdb)) }
     ensures sound { IfOk result (λ p. IsSoundPhase config.now p) }
 {
-    if !has_code(&cdb) {
-        return Ok(Phase::Refused(Sense::invalid_operation_code()));
-    }
     match out_fault(&config.unit(unit), &out, &cdb) {
         Some(sense) => Ok(Phase::Refused(sense)),
         None => program_of(alloc, config, unit, cdb, out),
     }
-}
-
-/// The command has code.
-fn has_code(cdb: &Cdb) -> bool
-    ensures { result ≡ has_code cdb.now }
-{
-    !matches!(
-        cdb,
-        Cdb::ExtendedCopy { .. }
-            | Cdb::PopulateToken { .. }
-            | Cdb::WriteUsingToken { .. }
-            | Cdb::CopyAbort { .. }
-            | Cdb::CopyStatus1 { .. }
-            | Cdb::CopyStatus4 { .. }
-            | Cdb::TokenInformation { .. }
-    )
 }
 
 /// What is wrong with the length of the data-out: a WRITE has the bytes of its blocks, a command with
@@ -96,7 +79,7 @@ fn out_fault(unit: &UnitConfig, out: &Payload, cdb: &Cdb) -> Option<Sense>
     (out.len() as u64 != wanted).then_some(sense)
 }
 
-/// The program of a command that has code, and whose data-out has the right length.
+/// The program of a command of one act at most, whose data-out has the right length.
 fn program_of(
     alloc: Global,
     config: &Config,
@@ -106,7 +89,7 @@ fn program_of(
 ) -> Result<Phase, OutOfMemory>
     requires configured { unit < length config.now.units }
     requires transfer { moved_blocks cdb ≤ 2048 }
-    requires coded { has_code cdb ≡ true }
+    requires single { asks_single (Ok cdb) ≡ true }
     requires out { out_fault (unit_of config.now unit) out cdb ≡ None }
     ensures program { IfOk result (λ p. by_phase p ≡ program_of config.now unit out cdb) }
     ensures sound { IfOk result (λ p. IsSoundPhase config.now p) }
