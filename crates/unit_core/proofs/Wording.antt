@@ -117,7 +117,7 @@ redeem-given s actor at text target t may =
 
 -- ---- a report
 
-form-is : (actor : Actor) (form : Form) (id : ℕ) (o : Operation) → has_key actor form id o ≡ true → form_of o.made.entry.act ≡ form
+pub form-is : (actor : Actor) (form : Form) (id : ℕ) (o : Operation) → has_key actor form id o ≡ true → form_of o.made.entry.act ≡ form
 form-is actor form id o e =
     let keys : (same_actor o.made.entry.actor actor && same_form (form_of o.made.entry.act) form) ≡ true = and_first (same_actor o.made.entry.actor actor && same_form (form_of o.made.entry.act) form) (id_of o.made.entry.act == id) e in
     same_form-is (form_of o.made.entry.act) form (and_second (same_actor o.made.entry.actor actor) (same_form (form_of o.made.entry.act) form) keys)

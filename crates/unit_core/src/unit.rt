@@ -5,6 +5,7 @@ ghost use Rattle.cm_history.specs.Legal.{may_ask};
 ghost use Rattle.cm_history.specs.Deeds.{last_stamp};
 ghost use Rattle.cm_history.specs.Blocks.{mapped};
 ghost use Rattle.cm_history.specs.History.{on, answer};
+ghost use Rattle.cm_history.specs.Forms.{HasForm};
 ghost use Rattle.unit_core.specs.Standing.{Standing};
 ghost use Rattle.cm_history.specs.Tokens.{Token, rod};
 ghost use Rattle.unit_core.specs.Acting.{past, is_full_at, entry_at, serves_operation, ends_operation, MayRedeem};
@@ -101,6 +102,7 @@ impl<B: Blocks + Drop> UnitOver<B> {
         requires limits { within_limits self.old.config self.old.unit act ≡ true }
         requires asked { may_ask self.old.unit actor act ≡ true }
         ensures answer { IfOk result (λ a. a ≡ answer self.old.config self.old.entries self.old.unit actor moment act) }
+        ensures form { IfOk result (λ a. HasForm self.old.config self.old.unit act a) }
         ensures added { OnOk result (self.new
             ≡ record self.old { entries = self.old.entries ++ entry_at self.old actor seq stamp moment act ∷ [] }) }
         ensures room { OnOk result (is_full_at self.old actor stamp act ≡ false) }

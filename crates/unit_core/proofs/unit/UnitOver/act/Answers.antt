@@ -26,6 +26,8 @@ use Rattle.unit_core.proofs.Rooms.{full-serving, need-served, reserved-step}
 use Rattle.unit_core.proofs.Planned.{ends-serves}
 use Rattle.unit_core.proofs.Wording.{some-there, redeem-given}
 use Rattle.unit_core.proofs.Steps.{Done, agrees-step}
+use Rattle.unit_core.proofs.Forming.{answer-formed}
+use Rattle.cm_history.specs.Forms.{HasForm}
 use Rattle.unit_core.proofs.unit.UnitOver.act.Goals as goal
 
 if-err : {T F : Type 0} (r : Result T F) (P : F → Type 0) → ((e : F) → P e) → IfErr r P
@@ -133,3 +135,11 @@ returns-clause-redeems g c =
     λ text target t e may. (let may' : MayRedeem (record { config = u.config; unit = u.unit; entries = u.history.entries }) c.args.moment text target t = rw (← c.self.view_is) at may in
     rw (← c.self.view_is) (c.in_ok-answer.ensures.answer ∙ planned.answer ∙ ap (answer_after u.config u.unit past c.args.actor c.args.moment) e
     ∙ redeem-given (record { config = u.config; unit = u.unit; entries = u.history.entries }) c.args.actor c.args.moment text target t may'))
+
+pub returns-clause-form : goal.returns-clause-form
+returns-clause-form g c =
+    let u = c.self.inside in
+    let past = past_of u.config u.unit u.history.entries in
+    let planned : IsPlan u.config u.unit past c.args.actor c.args.moment c.args.act c.in_ok-plan.plan = rw (← c.self.view_is) at c.in_ok-plan.ensures.planned in
+    let told : c.in_ok-answer.answer ≡ answer_after u.config u.unit past c.args.actor c.args.moment c.args.act = c.in_ok-answer.ensures.answer ∙ planned.answer in
+    rw (← c.self.view_is) (subst (HasForm u.config u.unit c.args.act) (sym told) (answer-formed u.config u.history.entries u.unit c.args.actor c.args.moment c.args.act c.self.invariant.record_is))
