@@ -1,4 +1,2 @@
-pub mod Joined
-pub mod Open
 pub mod Lists
 pub mod Phases

@@ -1,5 +1,5 @@
 -- A command that brings a list, by what was read of it
-use Rattle.std.proofs.Common.{◌≡◌, ℕ, List, length, refl, true, subst}
+use Rattle.std.proofs.Common.{◌≡◌, ℕ, List, length, true, subst}
 use Rattle.std.specs.Prelude.{◌==◌, Result, Err, if◌then◌else◌}
 use Rattle.std.proofs.lemmas.Bool.{eq-eqb}
 use Rattle.scsi_sense.specs.SenseCode.{SenseCode}

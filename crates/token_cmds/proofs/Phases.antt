@@ -1,12 +1,14 @@
 -- What the phase of a command tells
-use Rattle.std.proofs.Common.{◌≡◌, ◌+◌, refl, subst, sym, Bool, true, false, length, nat_lt}
+use Rattle.std.proofs.Common.{◌≡◌, ◌+◌, subst, sym, Bool, true, false, length, nat_lt}
 use Rattle.std.specs.Prelude.{cond}
 use Rattle.scsi_sense.specs.Codes.{bad_list}
 use Rattle.lba_ranges.specs.HeldBlocks.{HeldBlocks}
 use Rattle.cm_base.specs.Configuration.{Configuration}
 use Rattle.cm_history.specs.declared.answer.Answer.{Answer}
 use Rattle.cm_history.specs.declared.answer.OpReport.{OpReport}
+use Rattle.cm_history.specs.Forms.{IsReport}
 use Rattle.cmd_program.specs.declared.step.Outcome.{Outcome}
+use Rattle.cmd_program.specs.Meaning.{MayFollow}
 use Rattle.cmd_program.specs.Program.{Program, next, refused}
 use Rattle.cmd_program.specs.TokenWrite.{starting, rod_part, wanted}
 use Rattle.cmd_program.proofs.Busy.{HasGivenUp}
@@ -16,7 +18,7 @@ use Rattle.token_cmds.specs.declared.ended.Ended.{Ended}
 use Rattle.token_cmds.specs.declared.report.Asked.{Asked}
 use Rattle.token_cmds.specs.declared.writing.Write.{Write}
 use Rattle.token_cmds.specs.declared.writing.Writing.{Writing}
-use Rattle.token_cmds.specs.Meaning.{by_phase, by_ended, by_writing, given, HasLastStep, IsAnswerTo, IsReport, IsNotable, MayFollow}
+use Rattle.token_cmds.specs.Meaning.{by_phase, by_writing, given, HasLastStep, IsAnswerTo, IsNotable}
 
 -- ---- a command that gave up
 
@@ -58,7 +60,7 @@ information-report config phase asked answer report at told is =
 
 writing-answer : (config : Configuration) (writing : Writing) (a : Answer)
     → MayFollow config (next (by_writing config writing)) (Outcome.Answered a) → IsAnswerTo config (Phase.Writing writing) a
-writing-answer config (Writing.Redeeming w creator) (Answer.Rod rod) follows = follows
+writing-answer config (Writing.Redeeming w creator) (Answer.Rod rod) follows = follows.size
 writing-answer config (Writing.Redeeming w creator) _ follows = tt
 writing-answer config (Writing.Redeemed w rod) a follows = tt
 writing-answer config (Writing.Zeroing w) a follows = tt

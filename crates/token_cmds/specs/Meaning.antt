@@ -7,12 +7,9 @@ use Rattle.block_params.specs.RangesRead.{range_fault}
 use Rattle.rod_token.specs.declared.kind.TokenKind.{TokenKind}
 use Rattle.rod_token.specs.TokenText.{classify, is_named}
 use Rattle.cm_history.specs.declared.act.Act.{Act}
-use Rattle.cm_history.specs.declared.act.Actor.{Actor}
 use Rattle.cm_history.specs.declared.answer.Answer.{Answer}
-use Rattle.cm_history.specs.declared.answer.OpReport.{OpReport}
 use Rattle.cm_history.specs.Forms.{IsReport}
 use Rattle.cmd_program.specs.declared.step.Outcome.{Outcome}
-use Rattle.cmd_program.specs.declared.step.Step.{Step}
 use Rattle.cmd_program.specs.Meaning.{reply_of, IsAskedOf, MayFollow}
 use Rattle.cmd_program.specs.Judging.{program_after, step}
 use Rattle.cmd_program.specs.Program.{Program, Asks, GivesUp, done, refused, never, ask_then}
@@ -23,8 +20,6 @@ use Rattle.token_cmds.specs.declared.phase.Phase.{Phase}
 use Rattle.token_cmds.specs.declared.ended.Ended.{Ended}
 use Rattle.token_cmds.specs.declared.populate.Populate.{Populate}
 use Rattle.token_cmds.specs.declared.abort.Abort.{Abort}
-use Rattle.token_cmds.specs.declared.report.Asked.{Asked}
-use Rattle.token_cmds.specs.declared.report.Told.{Told}
 use Rattle.token_cmds.specs.declared.writing.Write.{Write}
 use Rattle.token_cmds.specs.declared.writing.Writing.{Writing}
 
@@ -87,13 +82,13 @@ pub record IsCreator (config : Configuration) (w : Write) (creator : ℕ) : Type
   pub named : is_named creator w.list.token ≡ true
 
 -- blocks as long as those of the unit that they are to be written to
-pub record IsRod (config : Configuration) (w : Write) (size : ℕ) : Type 0 where
+pub record IsSized (config : Configuration) (w : Write) (size : ℕ) : Type 0 where
   pub given : IsGiven config w
   pub fits : size ≡ (unit_of config w.unit).block_length
 
 abbrev pub IsSoundWriting : Configuration → Writing → Type 0
 IsSoundWriting config (Writing.Redeeming w creator) = IsCreator config w creator
-IsSoundWriting config (Writing.Redeemed w rod) = IsRod config w rod.block_length
+IsSoundWriting config (Writing.Redeemed w rod) = IsSized config w rod.block_length
 IsSoundWriting config (Writing.Zeroing w) = IsGiven config w
 IsSoundWriting config (Writing.Advancing w left) = IsGiven config w
 IsSoundWriting config (Writing.Deleting creator serial) = creator < length config.units

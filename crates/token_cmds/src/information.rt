@@ -6,10 +6,11 @@ ghost use Rattle.rod_token.specs.TokenText.{token_text};
 ghost use Rattle.cm_history.specs.declared.act.Act.{Act};
 ghost use Rattle.cm_history.specs.declared.answer.Answer.{Answer};
 ghost use Rattle.cm_history.specs.declared.answer.OpReport.{OpReport};
+ghost use Rattle.cm_history.specs.Forms.{IsReport};
 ghost use Rattle.cmd_program.specs.Meaning.{IsWritable};
 ghost use Rattle.cmd_program.specs.Program.{next, refused, ask_then};
 ghost use Rattle.cmd_program.specs.SingleActs.{told_token};
-ghost use Rattle.token_cmds.specs.Meaning.{by_phase, IsReport, IsSoundPhase};
+ghost use Rattle.token_cmds.specs.Meaning.{by_phase, IsSoundPhase};
 
 use crate::ended::Ended;
 use crate::phase::Phase;

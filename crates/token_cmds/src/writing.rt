@@ -10,10 +10,10 @@ ghost use Rattle.rod_token.specs.TokenText.{classify};
 ghost use Rattle.cm_history.specs.declared.act.Act.{Act};
 ghost use Rattle.cm_history.specs.declared.answer.Answer.{Answer};
 ghost use Rattle.cm_history.specs.declared.answer.OpState.{OpState};
-ghost use Rattle.cmd_program.specs.Meaning.{reply_of, IsWritable};
+ghost use Rattle.cmd_program.specs.Meaning.{reply_of, IsWritable, IsAskable};
 ghost use Rattle.cmd_program.specs.Program.{next, refused, give_up, go_on_by, ask_then};
 ghost use Rattle.cmd_program.specs.TokenWrite.{wanted, deleting, advancing, started, redeemed, starting, zero_rod, write_by, write_using_token};
-ghost use Rattle.token_cmds.specs.Meaning.{by_phase, by_writing, given, IsGiven, IsRod, IsAskable, IsAnswerToWriting, IsSoundPhase, IsSoundWriting};
+ghost use Rattle.token_cmds.specs.Meaning.{by_phase, by_writing, given, IsGiven, IsSized, IsAnswerToWriting, IsSoundPhase, IsSoundWriting};
 
 use crate::ended::{Ended, refusal};
 use crate::phase::Phase;
@@ -143,7 +143,7 @@ impl Write {
     /// Asks the unit to write those blocks of the token that are wanted, if it has them.
     fn start_part(&self, alloc: Global, rod: &BlockList) -> Result<Step, OutOfMemory>
         ensures next { IfOk result (λ s. s ≡ next (redeemed (given self.now) (Answer.Rod rod.now))) }
-        ensures asks { (config : Configuration) → IsRod config self.now rod.now.block_length
+        ensures asks { (config : Configuration) → IsSized config self.now rod.now.block_length
             → IfOk result (λ s. IsAskable config s) }
     {
         if self.is_short(rod) {
@@ -238,7 +238,7 @@ impl Write {
     fn redeemed(self, answer: Answer) -> Phase
         ensures program { (config : Configuration) → by_phase config result ≡ redeemed (given self) answer }
         ensures sound { (config : Configuration) → IsGiven config self
-            → ((rod : HeldBlocks) → answer ≡ Answer.Rod rod → IsRod config self rod.block_length) → IsSoundPhase config result }
+            → ((rod : HeldBlocks) → answer ≡ Answer.Rod rod → IsSized config self rod.block_length) → IsSoundPhase config result }
     {
         match answer {
             Answer::Rod(rod) => Phase::Writing(Writing::Redeemed { write: self, rod }),

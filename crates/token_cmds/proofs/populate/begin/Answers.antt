@@ -1,4 +1,4 @@
-use Rattle.std.proofs.Common.{◌≡◌, length, refl, arith, subst, ap}
+use Rattle.std.proofs.Common.{◌≡◌, length, refl, arith, subst}
 use Rattle.scsi_sense.specs.Faults.{Refuses}
 use Rattle.block_params.specs.ListsRead.{populate_read}
 use Rattle.cmd_program.specs.SingleActs.{populate}

@@ -1,4 +1,4 @@
-use Rattle.token_cmds.proofs.Phases.{status-report, information-report}
+use Rattle.token_cmds.proofs.Phases.{status-report}
 use Rattle.token_cmds.proofs.phase.Phase.after.Goals as goal
 
 pub returns-in-StatusAsked-clause-sound : goal.returns-in-StatusAsked-clause-sound
