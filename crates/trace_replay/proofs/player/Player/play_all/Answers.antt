@@ -19,3 +19,6 @@ loop-self-preserved g c =
       c.in_ok-turn.ensures.counted.1 ∙ c.loop-self.invariant.3,
       omega (arith, more, c.loop-self-test.true),
     )
+
+pub returns-clause-played : goal.returns-clause-played
+returns-clause-played g c = λ left taken is. c.end.ensures.played left taken (c.loop-self.invariant.0 left taken is)
