@@ -1,17 +1,19 @@
-ghost use Rattle.std.specs.Prelude.{◌≡◌, List, length, IfOk};
-ghost use Rattle.cm_history.specs.declared.answer.Answer.{Answer};
-ghost use Rattle.cm_history.specs.declared.answer.MapRun.{MapRun};
-ghost use Rattle.lba_ranges.specs.HeldBlocks.{HeldBlocks};
-ghost use Rattle.cmd_program.specs.declared.step.Outcome.{Outcome};
-ghost use Rattle.cmd_program.specs.Meaning.{FitsReply, AreTold};
+ghost use Rattle.std.specs.Prelude.{◌≡◌, ℕ, [], length, IfOk, true};
+ghost use Rattle.cm_base.specs.Configuration.{Configuration};
+ghost use Rattle.scsi_cdb.specs.Decoded.{decoded};
+ghost use Rattle.cm_history.specs.declared.act.Act.{Act};
+ghost use Rattle.cmd_program.specs.declared.step.Step.{Step};
+ghost use Rattle.cmd_program.specs.Kinds.{asks_single};
+ghost use Rattle.cmd_program.specs.Meaning.{StandsFor, IsSound, IsOutcomeOf};
 
 use super::*;
 use cm_base::{Config, Payload, UnitConfig, UnitList};
 use cm_frame::{Reply, Request};
 use cm_history::{Act, Answer, MapRun, StatusList};
 use lba_ranges::{BlockList, Fill, Piece, Range};
-use scsi_cdb::{Cdb, encode};
+use scsi_cdb::{Cdb, decode, encode};
 use scsi_sense::Sense;
+use std::alloc::Global;
 use std::test::Fail;
 
 /// READ (16) of two blocks from LBA 7 on.
@@ -34,7 +36,9 @@ fn request(unit: u16, cdb: [u8; 16], out: &'static [u8]) -> Request {
 }
 
 /// Two units: of 100 blocks of 512 bytes, and the largest one.
-fn two_units(rt: &HostRuntime) -> Result<Config, Fail> {
+fn two_units(rt: &HostRuntime) -> Result<Config, Fail>
+    ensures { IfOk result (λ config. length config.units ≡ 2) }
+{
     let first = UnitConfig {
         blocks: 100,
         block_length: 512,
@@ -52,13 +56,54 @@ fn two_units(rt: &HostRuntime) -> Result<Config, Fail> {
     Ok(Config::new([7; 32], units))
 }
 
-/// The first two steps of a command, and between them what came of the first.
-fn steps(rt: &HostRuntime, request: Request, outcome: Outcome) -> Result<(Step, Step), Fail>
-    requires blocks { (list : HeldBlocks) → outcome ≡ Outcome.Answered (Answer.Blocks list) → FitsReply list }
-    requires runs { (runs : List MapRun) → outcome ≡ Outcome.Answered (Answer.Status runs) → AreTold runs }
+/// A CDB is refused, or asks for neither a command with tokens nor a copy of segments.
+fn is_single(cdb: &[u8; 16]) -> bool
+    ensures { result ≡ asks_single (decoded cdb.now) }
 {
+    !matches!(
+        decode(cdb),
+        Ok(
+            Cdb::PopulateToken { .. }
+                | Cdb::WriteUsingToken { .. }
+                | Cdb::CopyAbort { .. }
+                | Cdb::CopyStatus4 { .. }
+                | Cdb::TokenInformation { .. }
+                | Cdb::ExtendedCopy { .. }
+                | Cdb::CopyStatus1 { .. }
+        )
+    )
+}
+
+/// The command of a request.
+fn begun(alloc: Global, config: &Config, request: Request) -> Result<Command, Fail>
+    ensures stands { IfOk result (λ c. StandsFor config.now c 1 request []) }
+    ensures sound { IfOk result (λ c. IsSound config.now c) }
+{
+    if !is_single(&request.cdb) {
+        return Err(Fail::new("a command of another kind"));
+    }
+    Ok(Command::begin(alloc, config, 1, request)?)
+}
+
+/// Any act can have this outcome.
+fn is_of_any_act(outcome: &Outcome) -> bool
+    ensures { result ≡ true → (config : Configuration) (unit : ℕ) (act : Act) → IsOutcomeOf config unit act outcome.now }
+{
+    match outcome {
+        Outcome::Answered(Answer::Done | Answer::Refused(_)) => true,
+        Outcome::Answered(Answer::Status(runs)) => runs.len() <= 64,
+        Outcome::Answered(_) => false,
+        Outcome::Full | Outcome::NoMemory => true,
+    }
+}
+
+/// The first two steps of a command, and between them what came of the first.
+fn steps(rt: &HostRuntime, request: Request, outcome: Outcome) -> Result<(Step, Step), Fail> {
+    if !is_of_any_act(&outcome) {
+        return Err(Fail::new("an outcome of some acts alone"));
+    }
     let config = two_units(rt)?;
-    let mut command = Command::begin(rt.alloc(), &config, 1, request)?;
+    let mut command = begun(rt.alloc(), &config, request)?;
     let first = command.step(rt.alloc(), &config)?;
     command.note(&config, outcome);
     let second = command.step(rt.alloc(), &config)?;
@@ -84,10 +129,11 @@ fn a_write_is_asked_and_done(rt: HostRuntime) -> Result<(), Fail> {
     Ok(())
 }
 
-/// An unmapped block is read as zeros.
-#[test]
-fn a_read_is_asked_and_told(rt: HostRuntime) -> Result<(), Fail> {
-    let mut list = BlockList::empty(rt.alloc(), 512);
+/// Two blocks of 512 bytes, of which the second is unmapped.
+fn half_mapped(alloc: Global) -> Result<BlockList, Fail>
+    ensures count { IfOk result (λ list. length list.items ≡ 2) }
+{
+    let mut list = BlockList::empty(alloc, 512);
     list.push(Piece {
         count: 1,
         fill: Fill::Bytes(Payload::from_static(&BLOCK)),
@@ -96,18 +142,39 @@ fn a_read_is_asked_and_told(rt: HostRuntime) -> Result<(), Fail> {
         count: 1,
         fill: Fill::Hole,
     })?;
-    let answer = Outcome::Answered(Answer::Blocks(list));
-    let (asked, told) = steps(&rt, request(0, READ, &[]), answer)?;
-    assert!(rt;
-        matches!(
-            &asked,
-            Step::Do {
-                unit: 0,
-                act: Act::Read { lba: 7, count: 2 }
-            }
-        )
-    );
-    let Step::Done(Reply::Good(data)) = told else {
+    Ok(list)
+}
+
+/// The step asks unit 0 for two blocks from LBA 7 on.
+fn is_read(step: &Step) -> bool
+    ensures { result ≡ true → step.now ≡ Step.Do 0 (Act.Read 7 2) }
+{
+    matches!(
+        step,
+        Step::Do {
+            unit: 0,
+            act: Act::Read { lba: 7, count: 2 }
+        }
+    )
+}
+
+/// What a READ of two blocks tells, of which the second is unmapped.
+fn read_told(rt: &HostRuntime) -> Result<Step, Fail> {
+    let list = half_mapped(rt.alloc())?;
+    let config = two_units(rt)?;
+    let mut command = begun(rt.alloc(), &config, request(0, READ, &[]))?;
+    let asked = command.step(rt.alloc(), &config)?;
+    if !is_read(&asked) || list.block_length() != config.unit(0).block_length {
+        return Err(Fail::new("no Read of such blocks"));
+    }
+    command.note(&config, Outcome::Answered(Answer::Blocks(list)));
+    Ok(command.step(rt.alloc(), &config)?)
+}
+
+/// An unmapped block is read as zeros.
+#[test]
+fn a_read_is_asked_and_told(rt: HostRuntime) -> Result<(), Fail> {
+    let Step::Done(Reply::Good(data)) = read_told(&rt)? else {
         return Err(Fail::new("not GOOD"));
     };
     let bytes = data.as_slice();
@@ -158,10 +225,7 @@ fn commands_are_refused(rt: HostRuntime) -> Result<(), Fail> {
 }
 
 /// What a WRITE does after what came of its act.
-fn ending(rt: &HostRuntime, outcome: Outcome) -> Result<Step, Fail>
-    requires blocks { (list : HeldBlocks) → outcome ≡ Outcome.Answered (Answer.Blocks list) → FitsReply list }
-    requires runs { (runs : List MapRun) → outcome ≡ Outcome.Answered (Answer.Status runs) → AreTold runs }
-{
+fn ending(rt: &HostRuntime, outcome: Outcome) -> Result<Step, Fail> {
     let (_, told) = steps(rt, request(0, WRITE, &BLOCK), outcome)?;
     Ok(told)
 }
@@ -313,12 +377,6 @@ fn single_acts_are_refused(rt: HostRuntime) -> Result<(), Fail> {
         ),
         (encode(&Cdb::Unmap { length: 8 }), zeros, 0x1a),
         (encode(&Cdb::Unmap { length: 7 }), zeros, 0x1a),
-        (encode(&Cdb::CopyAbort { id: 1 }), none, 0x20),
-        (
-            encode(&Cdb::PopulateToken { id: 1, length: 8 }),
-            zeros,
-            0x20,
-        ),
     ];
     for (cdb, out, asc) in refused {
         let (told, _) = steps(&rt, request(0, cdb, out), Outcome::NoMemory)?;

@@ -2,7 +2,9 @@
 use Rattle.std.proofs.Common.{◌≡◌, subst, sym}
 use Rattle.cm_base.specs.Configuration.{Configuration}
 use Rattle.cm_history.specs.declared.answer.Answer.{Answer}
+use Rattle.cm_history.specs.Forms.{AreBlocksOf}
 use Rattle.cmd_program.specs.declared.step.Outcome.{Outcome}
+use Rattle.cmd_program.specs.Meaning.{MayFollow}
 use Rattle.cmd_program.specs.Program.{Program, next}
 use Rattle.cmd_program.proofs.Busy.{HasGivenUp}
 use Rattle.xcopy_exec.specs.declared.command.CopyCommand.{CopyCommand}
@@ -12,7 +14,7 @@ use Rattle.xcopy_exec.specs.declared.stage.Stage.{Stage}
 use Rattle.xcopy_exec.specs.declared.list_copy.ListCopy.{ListCopy}
 use Rattle.seg_parse.specs.declared.list.Segment.{Segment}
 use Rattle.lba_ranges.specs.HeldBlocks.{HeldBlocks}
-use Rattle.xcopy_exec.specs.Meaning.{by_phase, by_stage, HasLastStep, IsAnswerTo, IsAnswerToStage, IsNotable, MayFollow, AreBlocksOf, move}
+use Rattle.xcopy_exec.specs.Meaning.{by_phase, by_stage, HasLastStep, IsAnswerTo, IsAnswerToStage, IsNotable, move}
 
 -- ---- a command that gave up
 

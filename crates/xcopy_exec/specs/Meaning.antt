@@ -1,21 +1,16 @@
 -- Which program a copy that has come so far stands for
-use Rattle.std.specs.Prelude.{◌≡◌, ℕ, suc, ◌+◌, ◌-◌, ◌*◌, ◌<◌, ◌≤◌, ◌==◌, List, length, drop, map, sum_by, Option, Some, None, Bool, true, not, All}
+use Rattle.std.specs.Prelude.{◌≡◌, ℕ, suc, ◌+◌, ◌-◌, ◌*◌, ◌<◌, ◌≤◌, ◌==◌, List, length, drop, map, sum_by, Some, None, true, not, All}
 use Rattle.cm_base.specs.Configuration.{Configuration, AreUnits}
 use Rattle.cm_base.specs.Units.{unit_of}
-use Rattle.scsi_sense.specs.SenseCode.{SenseCode}
 use Rattle.cm_frame.specs.declared.frame.Request.{Request}
-use Rattle.lba_ranges.specs.HeldBlocks.{HeldBlocks}
 use Rattle.seg_parse.specs.declared.list.Segment.{Segment}
-use Rattle.seg_parse.specs.declared.list.CopyList.{CopyList}
 use Rattle.seg_parse.specs.CopyLists.{IsCopyList, IsSegment}
 use Rattle.cm_history.specs.declared.act.Act.{Act}
-use Rattle.cm_history.specs.declared.act.Actor.{Actor}
 use Rattle.cm_history.specs.declared.act.CopyState.{CopyState}
 use Rattle.cm_history.specs.declared.answer.Answer.{Answer}
 use Rattle.cm_history.specs.Forms.{AreBlocksOf}
 use Rattle.cmd_program.specs.declared.step.Outcome.{Outcome}
-use Rattle.cmd_program.specs.declared.step.Step.{Step}
-use Rattle.cmd_program.specs.Meaning.{reply_of, IsAskedOf, MayFollow}
+use Rattle.cmd_program.specs.Meaning.{reply_of, MayFollow}
 use Rattle.cmd_program.specs.Judging.{program_after, step}
 use Rattle.cmd_program.specs.Program.{Program, Asks, GivesUp, done, refused, never, unless_refused, ask_then}
 use Rattle.cmd_program.specs.SingleActs.{told_copy}
@@ -23,8 +18,6 @@ use Rattle.cmd_program.specs.ExtendedCopy.{Copying, Tally, Move, places, move_of
 use Rattle.xcopy_exec.specs.declared.command.CopyCommand.{CopyCommand}
 use Rattle.xcopy_exec.specs.declared.phase.Phase.{Phase}
 use Rattle.xcopy_exec.specs.declared.ended.Ended.{Ended}
-use Rattle.xcopy_exec.specs.declared.recall.Asked.{Asked}
-use Rattle.xcopy_exec.specs.declared.recall.Told.{Told}
 use Rattle.xcopy_exec.specs.declared.open_record.Counted.{Counted}
 use Rattle.xcopy_exec.specs.declared.list_copy.ListCopy.{ListCopy}
 use Rattle.xcopy_exec.specs.declared.open_record.OpenRecord.{OpenRecord}

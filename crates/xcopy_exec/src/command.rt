@@ -5,7 +5,7 @@ ghost use Rattle.cm_frame.specs.declared.frame.Request.{Request};
 ghost use Rattle.cmd_program.specs.declared.step.Outcome.{Outcome};
 ghost use Rattle.cmd_program.specs.Meaning.{IsWritable, IsAskable};
 ghost use Rattle.cmd_program.specs.Stepping.{gave_up};
-ghost use Rattle.cmd_program.specs.Kinds.{asks_copy};
+ghost use Rattle.cmd_program.specs.Kinds.{asks_copy, is_copy_command};
 ghost use Rattle.cmd_program.specs.Judging.{judged_cdb, step};
 ghost use Rattle.xcopy_exec.specs.Meaning.{by_phase, StandsFor, IsSound, IsSoundPhase, IsNotable};
 
@@ -100,18 +100,19 @@ fn judged(
 ) -> Result<Phase, OutOfMemory>
     requires units { AreUnits config.now.units }
     requires configured { unit < length config.now.units }
+    requires asked { asks_copy (decoded cdb.now) ≡ true }
     ensures program { IfOk result (λ p. by_phase config.now p
         ≡ judged_cdb config.now (record { unit = unit; cdb = cdb.now; out = out.now }) (decoded cdb.now)) }
     ensures sound { IfOk result (λ p. IsSoundPhase config.now p) }
 {
     match decode(cdb) {
-        Ok(decoded) => coded(alloc, config, unit, decoded, out),
+        Ok(decoded) => by_cdb(alloc, config, unit, decoded, out),
         Err(sense) => Ok(Phase::Ended(Ended::Refused(sense))),
     }
 }
 
 /// A command of a configured unit, whose CDB was decoded.
-fn coded(
+fn by_cdb(
     alloc: Global,
     config: &Config,
     unit: u16,
@@ -120,6 +121,7 @@ fn coded(
 ) -> Result<Phase, OutOfMemory>
     requires units { AreUnits config.now.units }
     requires configured { unit < length config.now.units }
+    requires asked { is_copy_command cdb ≡ true }
     ensures program { (bytes : List ℕ) → IfOk result (λ p. by_phase config.now p
         ≡ judged_cdb config.now (record { unit = unit; cdb = bytes; out = out.now }) (Ok cdb)) }
     ensures sound { IfOk result (λ p. IsSoundPhase config.now p) }
@@ -127,9 +129,6 @@ fn coded(
     match cdb {
         Cdb::ExtendedCopy { length } => extended::begin(alloc, config, unit, length, out),
         Cdb::CopyStatus1 { id, length } => Ok(recall::begin(unit, id, length, out)),
-        _ => {
-            let sense = Sense::invalid_operation_code();
-            Ok(Phase::Ended(Ended::Refused(sense)))
-        }
+        _ => unreachable!(),
     }
 }

@@ -3,12 +3,13 @@ ghost use Rattle.cm_base.specs.Configuration.{Configuration};
 ghost use Rattle.scsi_sense.specs.SenseCode.{SenseCode};
 ghost use Rattle.lba_ranges.specs.HeldBlocks.{HeldBlocks};
 ghost use Rattle.seg_parse.specs.declared.list.Segment.{Segment};
+ghost use Rattle.cm_history.specs.Forms.{AreBlocksOf};
 ghost use Rattle.cm_history.specs.declared.answer.Answer.{Answer};
 ghost use Rattle.cmd_program.specs.Program.{GivesUp, go_on_by};
 ghost use Rattle.cmd_program.specs.Meaning.{reply_of};
 ghost use Rattle.cmd_program.specs.ExtendedCopy.{closing, captured, left_of};
 ghost use Rattle.xcopy_exec.specs.declared.stage.Stage.{Stage};
-ghost use Rattle.xcopy_exec.specs.Meaning.{by_phase, by_stage, given, given_record, tally, move, ahead, later, IsAhead, IsWithin, IsPutting, AreBlocksOf, IsSoundPhase, move_bytes};
+ghost use Rattle.xcopy_exec.specs.Meaning.{by_phase, by_stage, given, given_record, tally, move, ahead, later, IsAhead, IsWithin, IsPutting, IsSoundPhase, move_bytes};
 
 use crate::ended::Ended;
 use crate::open_record::{Counted, OpenRecord};

@@ -2,9 +2,9 @@ ghost use Rattle.std.specs.Prelude.{◌≡◌, Bool, IfOk, IsOk};
 ghost use Rattle.cm_base.specs.Configuration.{Configuration};
 ghost use Rattle.cm_history.specs.declared.answer.Answer.{Answer};
 ghost use Rattle.cmd_program.specs.declared.step.Outcome.{Outcome};
-ghost use Rattle.cmd_program.specs.Meaning.{reply_of, IsWritable};
+ghost use Rattle.cmd_program.specs.Meaning.{reply_of, IsWritable, IsAskable};
 ghost use Rattle.cmd_program.specs.Program.{next, moved, give_up, go_on_by};
-ghost use Rattle.xcopy_exec.specs.Meaning.{by_phase, IsAskable, IsSoundPhase, IsAnswerTo, HasLastStep};
+ghost use Rattle.xcopy_exec.specs.Meaning.{by_phase, IsSoundPhase, IsAnswerTo, HasLastStep};
 
 use crate::ended::Ended;
 use crate::recall::{Asked, Told};

@@ -1,11 +1,11 @@
 ghost use Rattle.std.specs.Prelude.{◌≡◌, Bool, IfOk, IsOk};
 ghost use Rattle.cm_base.specs.Configuration.{Configuration};
 ghost use Rattle.cm_history.specs.declared.answer.Answer.{Answer};
-ghost use Rattle.cmd_program.specs.Meaning.{reply_of, IsWritable};
+ghost use Rattle.cmd_program.specs.Meaning.{reply_of, IsWritable, IsAskable};
 ghost use Rattle.cmd_program.specs.Program.{next, give_up, go_on_by, unless_refused};
 ghost use Rattle.cmd_program.specs.ExtendedCopy.{end_state, copy_reply};
 ghost use Rattle.xcopy_exec.specs.declared.open_record.OpenRecord.{OpenRecord};
-ghost use Rattle.xcopy_exec.specs.Meaning.{by_phase, by_stage, IsAskable, IsAnswerToStage, IsSoundPhase, IsSoundStage};
+ghost use Rattle.xcopy_exec.specs.Meaning.{by_phase, by_stage, IsAnswerToStage, IsSoundPhase, IsSoundStage};
 
 use crate::ended::Ended;
 use crate::faults::place;

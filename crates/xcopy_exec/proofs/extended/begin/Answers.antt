@@ -1,4 +1,4 @@
-use Rattle.std.proofs.Common.{◌≡◌, ◌∙◌, length, refl, arith, subst, sym, Ok, Err}
+use Rattle.std.proofs.Common.{◌≡◌, ◌∙◌, length, arith, subst, Ok, Err}
 use Rattle.scsi_sense.specs.Faults.{Refuses}
 use Rattle.seg_parse.specs.ListRead.{lid1_read}
 use Rattle.cmd_program.specs.ExtendedCopy.{extended_copy}
