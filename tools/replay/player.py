@@ -1,9 +1,9 @@
 """A whole trace: its items one after the other, and the replies."""
 
+import collections
 import struct
 
-from . import acts, frames
-from .commands import command
+from . import acts, cdbs, commands, frames
 from .senses import BadInput, RecordFull, Refused
 from .unit import Unit
 
@@ -14,12 +14,23 @@ TEXTS = {
 }
 PUMP = "pump"
 
+# the name of the command, and the bytes of the record
+Reply = collections.namedtuple("Reply", "name bytes")
+
+
+def name_of(request):
+    try:
+        return cdbs.decode(request.cdb).name
+    except Refused:
+        return "a CDB that is refused"
+
 
 class Pending:
     """A command that waits for its next Run."""
 
     def __init__(self, machine, request):
-        self.program = command(machine, request)
+        self.name = name_of(request)
+        self.program = commands.command(machine, request)
         self.asked = None
         self.reply = None
         self.go_on(self.program.send, None)
@@ -55,10 +66,10 @@ class Player:
         self.replies = []
 
     def reply_if_done(self, initiator):
-        reply = self.pending[initiator].reply
-        if reply is not None:
+        command = self.pending[initiator]
+        if command.reply is not None:
             del self.pending[initiator]
-            self.replies.append(struct.pack(">I", initiator) + reply)
+            self.replies.append(Reply(command.name, struct.pack(">I", initiator) + command.reply))
 
     def fits(self, item):
         """Whether the item may stand here."""
