@@ -7,6 +7,14 @@ from .acts import PIECE
 from .frames import Request
 from .told import BACKGROUND, PAGES
 
+# where lengths and other small numbers stand in the lists
+FIELDS = {
+    (0x42, 0x00): [0, 2],
+    (0x83, 0x00): [0, 2, 8, 10, 12, 14, 18, 46, 48],
+    (0x83, 0x10): [0, 4, 6, 8, 14],
+    (0x83, 0x11): [0, 8, 16, 22, 24, 534],
+}
+LENGTHS = [0, 1, 15, 16, 17, 27, 28, 31, 32, 33, 512, 544, 1008, 1024, 1040, 1792, 1820, 0xFFFF]
 FIXED_CODES = [(0x00, None), (0x03, None), (0x12, None), (0x25, None), (0x84, 0x03), (0x9E, 0x10), (0xA0, None)]
 
 
@@ -28,6 +36,7 @@ class Requests:
         self.player = player
         self.shapes = player.machine.shapes
         self.style = style
+        self.asked = []
 
     def chance(self, probability):
         return self.rng.random() < probability
@@ -35,7 +44,15 @@ class Requests:
     def request(self, initiator):
         name = self.rng.choices(list(self.style.weights), self.style.weights.values())[0]
         request = getattr(self, name)(initiator)
+        self.note(name, initiator, request)
         return self.spoiled(request) if self.chance(self.style.spoil) else request
+
+    def note(self, name, initiator, request):
+        """The keys of operations that were asked for, which may be dropped by now."""
+        if name in ("populate", "use"):
+            self.asked.append((initiator, "token", request.unit, lists.number(request.cdb, 6, 4)))
+        elif name == "copy" and request.out:
+            self.asked.append((initiator, "copy", request.unit, request.out[0]))
 
     # ---- parts
 
@@ -57,7 +74,7 @@ class Requests:
     def place(self, shape, count):
         """An LBA for so many blocks, which is rarely too great."""
         if self.chance(0.02):
-            return self.rng.choice([shape.blocks, 2**64 - 1, 2**32, shape.blocks - count + 1])
+            return self.rng.choice([shape.blocks, shape.blocks + 1, 2**64 - 1, 2**32, max(0, shape.blocks - count + 1)])
         room = max(0, shape.blocks - count)
         return self.rng.choice([self.rng.randint(0, room), self.rng.randint(0, min(room, 9)), 0, room])
 
@@ -66,12 +83,14 @@ class Requests:
         if amount > shape.blocks or self.chance(0.02):
             return [(self.place(shape, 0), part) for part in split(self.rng, amount, 2)]
         parts = split(self.rng, amount, self.rng.choice([1, 1, 2, 3, 6]))
-        free = min(shape.blocks - amount, self.rng.choice([8, shape.blocks]))
+        free = min(shape.blocks - amount, self.rng.choice([8, 8, shape.blocks]))
         ranges, at = [], 0
         for part, gap in zip(parts, split(self.rng, free, len(parts) + 1)):
             ranges.append((at + gap, part))
             at += gap + part
         self.rng.shuffle(ranges)
+        if self.chance(0.03):
+            ranges += [(self.rng.choice([0, shape.blocks, shape.blocks + 1]), 0)] * self.rng.choice([1, 2, 62, 70])
         return ranges
 
     def cdb(self, code, action=None, **fields):
@@ -101,7 +120,8 @@ class Requests:
         return self.read_or_write((0x2A, 0x8A), self.data)
 
     def data(self, length):
-        return self.rng.randbytes(16) * (length // 16)
+        """Of a WRITE; now and then the bytes of an unmapped block."""
+        return bytes(length) if self.chance(0.03) else self.rng.randbytes(length)
 
     def unmap(self, _):
         unit = self.unit()
@@ -133,26 +153,44 @@ class Requests:
     def populate(self, initiator):
         unit = self.unit() if self.chance(0.5) else 0
         shape = self.shapes[unit]
+        ranges = self.ranges(shape, self.amount(shape))
+        if shape.blocks == 2**32 and self.chance(0.03):
+            ranges = [(9, lists.BLOCKS_LIMIT + self.rng.choice([0, 1, 1, 1]))]
         timeout = 3601 if self.chance(0.01) else self.rng.choice(self.style.timeouts)
         flags = self.rng.choice([0, 1, 2, 2, 2, 3])
         kind = self.rng.choice([0x00800000, 0x00800000, 0x0080FFFF, 1]) if self.chance(0.1) else 0x00800000
-        out = lists.populate_bytes(timeout, self.ranges(shape, self.amount(shape)), flags, kind)
+        out = lists.populate_bytes(timeout, ranges, flags, kind)
         if self.chance(0.2):
             unit, found = self.operation(initiator, "token", is_running)
             return self.with_list(unit, 0x83, 0x10, out, id=found)
         return self.with_list(unit, 0x83, 0x10, out, id=self.list_id())
 
     def token(self):
-        """A token's text, and how many blocks it stands for; nothing where there is none."""
+        """A token's unit, text and number of blocks; nothing where there is none."""
         made = [unit for unit in self.player.units if unit.tokens]
         if not made:
             return None
         unit = self.rng.choice(made)
-        count = len(unit.tokens)
-        back = self.rng.choice([0, 0, 1, 2, self.rng.randrange(count), self.rng.randint(58, 70)])
-        serial = max(0, count - 1 - back)
+        serial = self.serial(unit.tokens)
         blocks = len(unit.tokens[serial].rod)
-        return rod_token.text(self.player.machine, unit.number, serial, blocks), blocks
+        return unit.number, rod_token.text(self.player.machine, unit.number, serial, blocks), blocks
+
+    def serial(self, tokens):
+        """Mostly of a live token; else of a late one, or of one that may just have been evicted."""
+        live = [serial for serial, token in enumerate(tokens) if token.fate is None]
+        if live and self.chance(0.6):
+            return self.rng.choice(live)
+        back = self.rng.choice([0, 0, 1, 2, self.rng.randrange(len(tokens)), self.rng.randint(58, 70)])
+        return max(0, len(tokens) - 1 - back)
+
+    def target_of(self, creator):
+        """A unit, mostly one where tokens of the creator may be used."""
+        of_creator = self.shapes[creator]
+        alike = [
+            number for number, shape in enumerate(self.shapes)
+            if (shape.group, shape.block_length) == (of_creator.group, of_creator.block_length)
+        ]
+        return self.rng.choice(alike) if self.chance(0.85) else self.unit()
 
     def altered(self, text):
         """A text with one field changed."""
@@ -163,32 +201,36 @@ class Requests:
         return bytes(changed)
 
     def use(self, _):
-        target = self.unit() if self.chance(0.5) else len(self.shapes) - 1
-        shape = self.shapes[target]
         found = None if self.chance(self.style.zero) else self.token()
-        text, blocks = found or (rod_token.ZERO, self.amount(shape))
-        offset = self.rng.choice([0, 0, self.rng.randint(0, blocks), blocks]) if found else self.rng.choice([0, 5])
-        amount = blocks - min(offset, blocks) if self.chance(0.8) else self.rng.randint(0, blocks)
+        creator, text, blocks = found or (self.unit(), rod_token.ZERO, None)
+        target = self.target_of(creator)
+        if blocks is None:
+            blocks = self.amount(self.shapes[target])
+        offset = self.rng.choice([0, 0, self.rng.randint(0, blocks), blocks])
+        amount = blocks - offset if self.chance(0.8) else self.rng.randint(0, blocks)
         if self.chance(0.04):
             offset = self.rng.choice([offset + 1, blocks + 1, 2**64 - 1])
         if self.chance(0.06):
             text = self.altered(text)
-        immed, delete = int(self.chance(self.style.immed)), int(self.chance(0.25))
-        out = lists.write_bytes(text, self.ranges(shape, amount), offset, immed, delete)
+        immed, delete = int(self.chance(self.style.immed)), int(self.chance(0.15))
+        out = lists.write_bytes(text, self.ranges(self.shapes[target], amount), offset, immed, delete)
         return self.with_list(target, 0x83, 0x11, out, id=self.list_id())
 
     # ---- operations
 
     def operation(self, initiator, form, test=lambda operation: True):
-        """The unit and identifier of an operation that is kept, if one is found; else of any."""
+        """The unit and identifier of an operation that is kept, or was asked for; sometimes of any."""
         known = [
             (unit.number, operation.key[2])
             for unit in self.player.units
             for operation in unit.operations
             if operation.key[:2] == (initiator, form) and test(operation)
         ]
-        if known and self.chance(0.85):
+        asked = [key[2:] for key in self.asked if key[:2] == (initiator, form)]
+        if known and self.chance(0.7):
             return self.rng.choice([known[0], known[-1], self.rng.choice(known)])
+        if asked and self.chance(0.8):
+            return self.rng.choice(asked)
         return self.unit(), self.list_id()
 
     def abort(self, initiator):
@@ -197,11 +239,15 @@ class Requests:
 
     def report(self, initiator):
         unit, found = self.operation(initiator, "token")
-        return Request(unit, self.cdb(0x84, self.rng.choice([5, 7, 7]), id=found, length=self.allocation()), b"")
+        return self.status_of("token", unit, found, self.allocation())
 
     def recall(self, initiator):
         unit, found = self.operation(initiator, "copy")
-        return Request(unit, self.cdb(0x84, 0, id=found & 0xFF, length=self.allocation()), b"")
+        return self.status_of("copy", unit, found & 0xFF, self.allocation())
+
+    def status_of(self, form, unit, found, length):
+        action = 0 if form == "copy" else self.rng.choice([5, 7, 7])
+        return Request(unit, self.cdb(0x84, action, id=found, length=length), b"")
 
     # ---- extended copies
 
@@ -217,6 +263,8 @@ class Requests:
         destination = source if self.chance(0.4) else self.rng.randrange(len(units))
         first, second = self.shapes[units[source]], self.shapes[units[destination]]
         count = min(self.amount(first), second.blocks)
+        if self.chance(0.03):
+            return lists.segment_bytes(source, destination, 0, self.place(first, 0), self.place(second, 0))
         from_lba = self.place(first, count)
         near = from_lba + self.rng.randint(-3, 3)
         to_lba = near if source == destination and 0 <= near < 2**64 else self.place(second, count)
@@ -230,6 +278,8 @@ class Requests:
         cscds = [self.cscd(unit) for unit in units] * (17 if self.chance(0.01) else 1)
         segments = [self.segment(units) for _ in range(self.rng.choice([0, 1, 1, 2, 3]))]
         segments *= 65 if self.chance(0.01) else 1
+        if self.chance(0.01):
+            segments = [lists.segment_bytes(0, 0, 65_535, 0, 65_535)] * 17
         usage = self.rng.choice([0, 0, 2, 3, 3, 1 if self.chance(0.1) else 0])
         out = lists.copy_bytes(self.list_id() & 0xFF, cscds, segments, usage, int(self.chance(0.01)))
         return self.with_list(unit, 0x83, 0, out)
@@ -240,7 +290,7 @@ class Requests:
         unit, cdb, out = request
         ways = [self.other_unit, self.longer, self.flipped_cdb, self.other_control, self.unknown]
         if out and cdb[0] in (0x42, 0x83):
-            ways = [self.cut, self.cut, self.flipped_list, self.flipped_list, self.flipped_front] * 2 + ways
+            ways = [self.cut, self.flipped_list, self.flipped_front, self.other_fields, self.other_fields] * 3 + ways
         return self.rng.choice(ways)(unit, cdb, out)
 
     def other_unit(self, _, cdb, out):
@@ -261,6 +311,15 @@ class Requests:
 
     def flipped_front(self, unit, cdb, out):
         return Request(unit, cdb, self.flipped(out, 20))
+
+    def other_fields(self, unit, cdb, out):
+        """One or two of the fields that tell lengths have another value."""
+        changed = bytearray(out)
+        for _ in range(self.rng.choice([1, 2, 3])):
+            at = self.rng.choice(FIELDS[cdb[0], cdb[1] & 0x1F])
+            value = self.rng.choice([*LENGTHS, lists.number(out, at, 2) + self.rng.choice([-2, -1, 1, 2, 16, 28, 32])])
+            changed[at : at + 2] = struct.pack(">H", max(0, min(0xFFFF, value)))[: max(0, len(out) - at)]
+        return Request(unit, cdb, bytes(changed[: len(out)]))
 
     def cut(self, unit, cdb, out):
         """A list that ends early, or goes on, as its CDB says."""
