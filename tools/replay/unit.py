@@ -124,8 +124,10 @@ class Unit:
     def do_unmap(self, _, act):
         self.judge_bounds(act.ranges)
         for lba, count in act.ranges:
-            for block in [block for block in self.held if lba <= block < lba + count]:
-                del self.held[block]
+            few = range(lba, lba + count) if count < len(self.held) else list(self.held)
+            for block in few:
+                if lba <= block < lba + count:
+                    self.held.pop(block, None)
 
     def do_mapstatus(self, _, act):
         refuse_if(act.lba >= self.shape.blocks, OUT_OF_RANGE)
