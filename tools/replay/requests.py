@@ -128,7 +128,7 @@ class Requests:
         shape = self.shapes[unit]
         ranges = self.ranges(shape, self.amount(shape))
         if self.chance(0.1):
-            ranges = ranges * self.rng.choice([0, 2, 60])
+            ranges = (ranges * self.rng.choice([0, 2, 60]))[:70]
         out = b"" if self.chance(0.05) else lists.unmap_bytes(ranges)
         return self.with_list(unit, 0x42, None, out)
 
@@ -266,8 +266,8 @@ class Requests:
         if self.chance(0.03):
             return lists.segment_bytes(source, destination, 0, self.place(first, 0), self.place(second, 0))
         from_lba = self.place(first, count)
-        near = from_lba + self.rng.randint(-3, 3)
-        to_lba = near if source == destination and 0 <= near < 2**64 else self.place(second, count)
+        near = from_lba + self.rng.choice([self.rng.randint(-3, 3), self.rng.randint(-count, count)])
+        to_lba = near if source == destination and 0 <= near <= first.blocks - count else self.place(second, count)
         return lists.segment_bytes(source, destination, count, from_lba, to_lba)
 
     def copy(self, _):

@@ -73,7 +73,7 @@ STYLES = {
         spoil=0.02, timeouts=LONGER, shape=wide,
     ),
     "copies": MIXED._replace(
-        weights=dict(ALL, copy=16, recall=6), long=0.3, write=300, items=(50, 300), spoil=0.05, timeouts=LONGER,
+        weights=dict(ALL, copy=16, recall=6), long=0.4, write=300, items=(50, 300), spoil=0.05, timeouts=LONGER,
         shape=wide,
     ),
     "lists": MIXED._replace(
