@@ -5,14 +5,22 @@
     generate.py page COUNT      WRITE (16) and READ (16) of one block of 4096 bytes
     generate.py small COUNT     WRITE (16) and READ (16) of one block of 512 bytes, at scattered places
     generate.py empty COUNT     READ (16) of no blocks
+    generate.py token COUNT     copies of 512 MiB by POPULATE TOKEN and WRITE USING TOKEN, in four ranges
+    generate.py extents COUNT   copies of 64 MiB by tokens, which lie in 16,384 runs of 8 blocks of 512 bytes
+    generate.py segments COUNT  copies of 512 MiB by EXTENDED COPY (LID1), in 64 segments
+    generate.py unmap COUNT     UNMAPs of 2 MiB, in 64 ranges
 
-Every second command reads what the command before it wrote. A command is two items: a Begin and
-a Run. The header gives each unit the largest limits that docs/formats.md allows, and there are as
-many units as the bytes of the WRITEs and the entries want, at most 16.
+The last four are made by copy_traces.py: a fill, and then COUNT copies or UNMAPs.
+
+Of the others every second command reads what the command before it wrote. A command is two items: a
+Begin and a Run. The header gives each unit the largest limits that docs/formats.md allows, and there
+are as many units as the bytes of the WRITEs and the entries want, at most 16.
 """
 
 import struct
 import sys
+
+import copy_traces
 
 BLOCKS = 4_294_967_296
 ENTRIES = 1_048_576
@@ -73,9 +81,12 @@ def commands(kind, count):
 
 
 def main():
-    if len(sys.argv) != 3 or sys.argv[1] not in KINDS or not sys.argv[2].isdigit():
+    if len(sys.argv) != 3 or sys.argv[1] not in [*KINDS, *copy_traces.KINDS] or not sys.argv[2].isdigit():
         sys.exit(__doc__)
     kind, count = sys.argv[1], int(sys.argv[2])
+    if kind in copy_traces.KINDS:
+        sys.stdout.buffer.writelines(copy_traces.trace(kind, count)[0])
+        return
     pairs = (count + 1) // 2
     units = max(1, -(-pairs // pairs_of_unit(kind)))
     if units > UNITS:

@@ -1,0 +1,17 @@
+"""A plain replay of traces, written from docs/formats.md, docs/commands.md and docs/model.md.
+
+It shares nothing with the program: it keeps lists and walks over them. The files, from the bottom up:
+
+    senses.py     the refusals, and the other ends of an act or a command
+    frames.py     bytes of headers, items, requests and replies
+    cdbs.py       CDBs, read and written
+    lists.py      parameter lists, read and written
+    told.py       the data that commands return
+    rod_token.py  the text of a token
+    acts.py       what is asked of a unit
+    unit.py       a unit: its blocks, tokens, operations and record
+    commands.py   each command as a program of acts
+    player.py     a whole trace
+    requests.py   random requests
+    traces.py     random traces
+"""

@@ -1,0 +1,121 @@
+"""Bytes of headers, items, requests and replies."""
+
+import collections
+import struct
+
+from .senses import BadInput
+
+GOOD, CHECK, FULL = 0x00, 0x02, 0x28
+DONE, TORN, BAD_HEADER, BAD_RECORD = 0, 4, 5, 7
+BEGIN, RUN, PUMP = 1, 2, 3
+DATA_LIMIT = 8_388_608
+
+Shape = collections.namedtuple("Shape", "blocks block_length entries quota payload group")
+Machine = collections.namedtuple("Machine", "secret shapes")
+Request = collections.namedtuple("Request", "unit cdb out")
+Begin = collections.namedtuple("Begin", "initiator moment request")
+Run = collections.namedtuple("Run", "initiator moment")
+Pump = collections.namedtuple("Pump", "unit moment")
+
+
+# ---- headers
+
+
+def header_bytes(machine):
+    units = [struct.pack(">QIIQIB3x", *shape) for shape in machine.shapes]
+    return b"CMTRACE1" + machine.secret + struct.pack(">H", len(units)) + b"".join(units)
+
+
+def bad_field(shape, spare):
+    """The place in a unit's part of the first field that breaks its limit, if one does."""
+    fields = [
+        (0, 1 <= shape.blocks <= 2**32),
+        (8, shape.block_length in (512, 4096)),
+        (12, 1 <= shape.entries <= 1_048_576),
+        (16, shape.quota <= shape.blocks),
+        (24, 1 <= shape.payload <= 268_435_456),
+        (28, shape.group <= 15),
+        (29, spare == bytes(3)),
+    ]
+    return next((place for place, fine in fields if not fine), None)
+
+
+def read_header(data):
+    """The machine, and how many bytes its header has."""
+    if len(data) < 42:
+        raise BadInput(TORN, 0)
+    if data[:8] != b"CMTRACE1":
+        raise BadInput(BAD_HEADER, 0)
+    count = struct.unpack_from(">H", data, 40)[0]
+    if not 1 <= count <= 16:
+        raise BadInput(BAD_HEADER, 40)
+    end = 42 + 32 * count
+    if len(data) < end:
+        raise BadInput(TORN, 0)
+    shapes = []
+    for at in range(42, end, 32):
+        *fields, spare = struct.unpack_from(">QIIQIB3s", data, at)
+        shapes.append(Shape(*fields))
+        place = bad_field(shapes[-1], spare)
+        if place is not None:
+            raise BadInput(BAD_HEADER, at + place)
+    return Machine(bytes(data[8:40]), shapes), end
+
+
+# ---- items
+
+
+def item_bytes(item):
+    if isinstance(item, Begin):
+        unit, cdb, out = item.request
+        return struct.pack(">BIQIH16s", BEGIN, item.initiator, item.moment, len(out), unit, cdb) + out
+    if isinstance(item, Run):
+        return struct.pack(">BIQ", RUN, *item)
+    return struct.pack(">BHQ", PUMP, *item)
+
+
+def length_of_item(data, at):
+    """How many bytes the item has, as far as its first bytes tell; a fault is judged as soon as it is there."""
+    kind = data[at]
+    if kind not in (BEGIN, RUN, PUMP):
+        raise BadInput(BAD_RECORD, at)
+    if kind != BEGIN:
+        return 13 if kind == RUN else 11
+    if len(data) < at + 17:
+        return 17
+    length = struct.unpack_from(">I", data, at + 13)[0]
+    if length > DATA_LIMIT:
+        raise BadInput(BAD_RECORD, at)
+    return 35 + length
+
+
+def read_item(data, at):
+    """The item that begins at a place, and where it ends."""
+    end = at + length_of_item(data, at)
+    if len(data) < end:
+        raise BadInput(TORN, at)
+    if data[at] == RUN:
+        return Run(*struct.unpack_from(">IQ", data, at + 1)), end
+    if data[at] == PUMP:
+        return Pump(*struct.unpack_from(">HQ", data, at + 1)), end
+    initiator, moment, _, unit, cdb = struct.unpack_from(">IQIH16s", data, at + 1)
+    return Begin(initiator, moment, Request(unit, cdb, bytes(data[at + 35 : end]))), end
+
+
+# ---- replies
+
+
+def sense_bytes(sense):
+    return struct.pack(">BxB4xB4xBB4x", 0x70, sense[0], 10, sense[1], sense[2])
+
+
+def good(data):
+    return struct.pack(">BBI", GOOD, 0, len(data)) + data
+
+
+def check(sense):
+    return struct.pack(">BBI", CHECK, 18, 0) + sense_bytes(sense)
+
+
+def full():
+    return struct.pack(">BBI", FULL, 0, 0)

@@ -1,0 +1,113 @@
+"""A whole trace: its items one after the other, and the replies."""
+
+import collections
+import struct
+
+from . import acts, cdbs, commands, frames
+from .senses import BadInput, RecordFull, Refused
+from .unit import Unit
+
+TEXTS = {
+    frames.TORN: "input ends inside the part at byte",
+    frames.BAD_HEADER: "bad header at byte",
+    frames.BAD_RECORD: "bad record at byte",
+}
+PUMP = "pump"
+
+# the name of the command, and the bytes of the record
+Reply = collections.namedtuple("Reply", "name bytes")
+
+
+def name_of(request):
+    try:
+        return cdbs.decode(request.cdb).name
+    except Refused:
+        return "a CDB that is refused"
+
+
+class Pending:
+    """A command that waits for its next Run."""
+
+    def __init__(self, machine, request):
+        self.name = name_of(request)
+        self.program = commands.command(machine, request)
+        self.asked = None
+        self.reply = None
+        self.go_on(self.program.send, None)
+
+    def go_on(self, how, outcome):
+        """By an answer that is sent, or by a refusal that is thrown."""
+        try:
+            self.asked = how(outcome)
+        except StopIteration as end:
+            self.reply = frames.good(end.value)
+        except Refused as refused:
+            self.reply = frames.check(refused.sense)
+        except RecordFull:
+            self.reply = frames.full()
+
+    def run(self, units, initiator, moment):
+        number, act = self.asked
+        try:
+            answer = units[number].act(initiator, moment, act)
+        except (Refused, RecordFull) as outcome:
+            self.go_on(self.program.throw, outcome)
+        else:
+            self.go_on(self.program.send, answer)
+
+
+class Player:
+    """How things stand between two items."""
+
+    def __init__(self, machine):
+        self.machine = machine
+        self.units = [Unit(machine, number) for number in range(len(machine.shapes))]
+        self.pending = {}
+        self.replies = []
+
+    def reply_if_done(self, initiator):
+        command = self.pending[initiator]
+        if command.reply is not None:
+            del self.pending[initiator]
+            self.replies.append(Reply(command.name, struct.pack(">I", initiator) + command.reply))
+
+    def fits(self, item):
+        """Whether the item may stand here."""
+        if isinstance(item, frames.Begin):
+            return item.initiator not in self.pending
+        if isinstance(item, frames.Run):
+            return item.initiator in self.pending
+        return item.unit < len(self.units)
+
+    def play(self, item):
+        if isinstance(item, frames.Begin):
+            self.pending[item.initiator] = Pending(self.machine, item.request)
+            self.reply_if_done(item.initiator)
+        elif isinstance(item, frames.Run):
+            self.pending[item.initiator].run(self.units, item.initiator, item.moment)
+            self.reply_if_done(item.initiator)
+        else:
+            self.pump(item)
+
+    def pump(self, item):
+        try:
+            self.units[item.unit].act(PUMP, item.moment, acts.Pump())
+        except RecordFull:
+            pass
+
+
+def play(data):
+    """The replies, the exit status, and the line on standard error."""
+    player = None
+    try:
+        machine, at = frames.read_header(data)
+        player = Player(machine)
+        while at < len(data):
+            item, end = frames.read_item(data, at)
+            if not player.fits(item):
+                raise BadInput(frames.BAD_RECORD, at)
+            player.play(item)
+            at = end
+    except BadInput as bad:
+        return player.replies if player else [], bad.status, f"copymgr: {TEXTS[bad.status]} {bad.place}\n"
+    return player.replies, frames.DONE, ""

@@ -1,0 +1,55 @@
+"""The refusals, and the other ends of an act or a command."""
+
+NO_SENSE = (0x00, 0x00, 0x00)
+IN_USE = (0x05, 0x00, 0x16)
+BAD_LIST_LENGTH = (0x05, 0x1A, 0x00)
+UNKNOWN_OPERATION = (0x05, 0x20, 0x00)
+OUT_OF_RANGE = (0x05, 0x21, 0x00)
+TOKEN_TYPE = (0x05, 0x23, 0x01)
+TOKEN_REMOTE = (0x05, 0x23, 0x02)
+TOKEN_UNKNOWN = (0x05, 0x23, 0x04)
+TOKEN_CORRUPT = (0x05, 0x23, 0x05)
+TOKEN_EXPIRED = (0x05, 0x23, 0x07)
+TOKEN_EVICTED = (0x05, 0x23, 0x08)
+TOKEN_DELETED = (0x05, 0x23, 0x09)
+TOKEN_LENGTH = (0x05, 0x23, 0x0A)
+BAD_CDB = (0x05, 0x24, 0x00)
+NO_SUCH_UNIT = (0x05, 0x25, 0x00)
+BAD_LIST = (0x05, 0x26, 0x00)
+TOO_MANY_CSCDS = (0x05, 0x26, 0x06)
+CSCD_TYPE = (0x05, 0x26, 0x07)
+TOO_MANY_SEGMENTS = (0x05, 0x26, 0x08)
+SEGMENT_TYPE = (0x05, 0x26, 0x09)
+INLINE_DATA = (0x05, 0x26, 0x0B)
+TOO_MANY = (0x05, 0x55, 0x03)
+OVER_QUOTA = (0x07, 0x27, 0x07)
+COPY_ABORTED = (0x0A, 0x00, 0x00)
+NOT_REACHABLE = (0x0A, 0x0D, 0x02)
+DEVICE_TYPE = (0x0A, 0x0D, 0x03)
+COPY_OUT_OF_RANGE = (0x0A, 0x21, 0x00)
+
+
+class Refused(Exception):
+    """An act or a command is refused with a sense."""
+
+    def __init__(self, sense):
+        super().__init__(sense)
+        self.sense = sense
+
+
+class RecordFull(Exception):
+    """The unit's record has no room for an act."""
+
+
+class BadInput(Exception):
+    """The input can't be read further: what is wrong, and at which byte."""
+
+    def __init__(self, status, place):
+        super().__init__(status, place)
+        self.status = status
+        self.place = place
+
+
+def refuse_if(wrong, sense):
+    if wrong:
+        raise Refused(sense)
