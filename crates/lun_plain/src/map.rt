@@ -16,9 +16,7 @@ fn make_room(map: &mut Stored, block: u64) -> Result<(), OutOfMemory>
     ensures others { (b : ℕ) → (b == block) ≡ false → stored map.new.entries b ≡ stored map.old.entries b }
     ensures kept { (b : ℕ) → IsSome (stored map.old.entries b) → IsSome (stored map.new.entries b) }
 {
-    if !map.contains_key(&block) {
-        map.insert(block, Payload::new())?;
-    }
+    map.entry(block)?.or_insert(Payload::new());
     Ok(())
 }
 
