@@ -17,5 +17,7 @@ pub mod Laws
 pub mod Merged
 pub mod Image
 pub mod PlainWritings
-pub mod Plain
 pub mod PlainHolds
+pub mod PlainOutcomes
+pub mod PlainForms
+pub mod PlainFates

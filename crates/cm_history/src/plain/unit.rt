@@ -1,0 +1,279 @@
+ghost use Rattle.std.specs.Prelude.{◌≡◌, ◌<◌, ◌∷◌, [], ◌^◌, length, find, true, IfOk};
+ghost use Rattle.std.specs.Option.{option_copied};
+ghost use Rattle.cm_base.specs.Units.{unit_of};
+ghost use Rattle.lba_ranges.specs.Denoted.{blocks_of};
+ghost use Rattle.cm_history.specs.declared.act.Act.{Act};
+ghost use Rattle.cm_history.specs.Answers.{answer_after, answer_populate, answer_start, answer_open, progress, answer_end, done_if, answer_report, answer_recall, is_busy, is_crowded, piece_of, writings, deed};
+ghost use Rattle.cm_history.specs.Deeds.{moment};
+ghost use Rattle.cm_history.specs.Limits.{within_limits};
+ghost use Rattle.cm_history.specs.Operations.{OfToken, OfCopy, has_key, kept, operations, running, would_serve};
+ghost use Rattle.cm_history.specs.Redeeming.{redeemed, named_token};
+ghost use Rattle.cm_history.specs.PlainForms.{as_form};
+ghost use Rattle.cm_history.specs.PlainHolds.{IsSizedPast, MadeSound, AllSound};
+ghost use Rattle.cm_history.specs.PlainOutcomes.{IsOutcome};
+ghost use Rattle.cm_history.specs.Tokens.{tokens};
+
+use crate::act::{Act, Actor, Entry};
+use crate::answer::{Answer, OpState};
+use crate::plain::acts::{self, PlainForm};
+use crate::plain::blocks;
+use crate::plain::deeds::{PlainDeed, PlainPast};
+use crate::plain::operations::{PlainOperation, kept_after, operations_after};
+use crate::plain::outcome::PlainOutcome;
+use crate::plain::refusals;
+use crate::plain::tokens::{PlainToken, tokens_after};
+use crate::plain::writings::PlainWritings;
+use cm_base::{Config, OutOfMemory, UnitConfig};
+use lba_ranges::{BlockList, RangeList};
+use std::alloc::Global;
+use std::marker::Model;
+
+/// Operations that run at most.
+const RUNNING_OPERATIONS: usize = 64;
+
+/// Serials that a unit makes.
+const SERIALS: usize = 1 << 48;
+
+/// What a unit has done, with the tokens and the operations that come of it. Contracts see its deeds, the latest
+/// first.
+#[derive(Drop)]
+pub(crate) struct PlainUnit {
+    past: PlainPast,
+    tokens: Vec<PlainToken>,
+    operations: Vec<PlainOperation>,
+    kept: Vec<PlainOperation>,
+}
+
+impl Model for PlainUnit {
+    ghost use Rattle.std.specs.Prelude.{◌≡◌, List};
+    ghost use Rattle.cm_history.specs.Deeds.{Deed};
+    ghost use Rattle.cm_history.specs.Tokens.{tokens};
+    ghost use Rattle.cm_history.specs.Operations.{operations, kept};
+
+    ghost Value = { List Deed };
+
+    ghost view = { λ u. u.past };
+
+    ghost invariant = { λ u. (u.tokens.items ≡ tokens u.past) × (u.operations.items ≡ operations u.past) × (u.kept.items ≡ kept u.past) };
+}
+
+impl PlainUnit {
+    /// A unit that has done nothing.
+    pub(crate) fn new(alloc: Global) -> PlainUnit
+        ensures { result ≡ [] }
+    {
+        PlainUnit {
+            past: PlainPast::new(alloc),
+            tokens: Vec::new(alloc),
+            operations: Vec::new(alloc),
+            kept: Vec::new(alloc),
+        }
+    }
+
+    /// The running operation that the act would serve: the one that was made first.
+    fn would_serve(&self, actor: Actor, act: &Act) -> Option<&PlainOperation>
+        ensures { option_copied result ≡ would_serve self.now actor act.now }
+    {
+        for operation in &self.operations {
+            if operation.is_running() && operation.fits(actor, act) {
+                return Some(operation);
+            }
+        }
+        None
+    }
+
+    /// The record of the first operation of the key that is kept.
+    fn kept(&self, actor: Actor, form: PlainForm, id: u32) -> Option<&PlainOperation>
+        ensures { option_copied result ≡ find (has_key actor (as_form form) id) (kept self.now) }
+    {
+        for operation in &self.kept {
+            if operation.has_key(actor, form, id) {
+                return Some(operation);
+            }
+        }
+        None
+    }
+
+    /// An operation of the key runs.
+    fn is_busy(&self, actor: Actor, form: PlainForm, id: u32) -> bool
+        ensures { result ≡ is_busy self.now actor (as_form form) id }
+    {
+        for operation in &self.operations {
+            if operation.is_running() && operation.has_key(actor, form, id) {
+                return true;
+            }
+        }
+        false
+    }
+
+    /// 64 operations run.
+    fn is_crowded(&self) -> bool
+        ensures { result ≡ is_crowded self.now }
+    {
+        let mut running = 0;
+        for operation in &self.operations {
+            if operation.is_running() {
+                running += 1;
+            }
+        }
+        running >= RUNNING_OPERATIONS
+    }
+
+    /// The token that a text names, if the unit made it.
+    fn named_token(&self, text: &[u8; 512]) -> Option<&PlainToken>
+        ensures { option_copied result ≡ named_token self.now text.now }
+    {
+        self.tokens.get(acts::serial_of(text) as usize)
+    }
+
+    fn populate(&self, unit: UnitConfig, actor: Actor, id: u32, ranges: &RangeList) -> Answer
+        ensures { result ≡ answer_populate unit self.now actor id ranges.now }
+    {
+        if self.is_busy(actor, PlainForm::OfToken, id) {
+            return refusals::in_use();
+        }
+        if !ranges.within(unit.blocks) {
+            return refusals::out_of_range();
+        }
+        if self.tokens.len() >= SERIALS {
+            return refusals::too_many();
+        }
+        Answer::Made {
+            serial: self.tokens.len() as u64,
+        }
+    }
+
+    fn redeem(
+        &self,
+        alloc: Global,
+        config: &Config,
+        unit: u16,
+        now: u64,
+        text: &[u8; 512],
+        target: u16,
+    ) -> Result<Answer, OutOfMemory>
+        requires unit { unit < length config.now.units }
+        requires target { target < length config.now.units }
+        requires sized { IsSizedPast (unit_of config.now unit).block_length self.now }
+        ensures { IfOk result (λ a. a ≡ redeemed config.now unit now text.now target (named_token self.now text.now)) }
+    {
+        match self.named_token(text) {
+            Some(token) => token.redeemed(alloc, config, unit, now, text, target),
+            None => Ok(refusals::not_made()),
+        }
+    }
+
+    fn start(
+        &self,
+        unit: UnitConfig,
+        actor: Actor,
+        id: u32,
+        ranges: &RangeList,
+        rod: &BlockList,
+    ) -> Answer
+        ensures { result ≡ answer_start unit self.now actor id ranges.now rod.now }
+    {
+        if self.is_busy(actor, PlainForm::OfToken, id) {
+            return refusals::in_use();
+        }
+        if !ranges.within(unit.blocks) {
+            return refusals::out_of_range();
+        }
+        if self.is_crowded() {
+            return refusals::too_many();
+        }
+        let state = if rod.blocks() == 0 {
+            OpState::Done
+        } else {
+            OpState::Running
+        };
+        Answer::Progress { state, count: 0 }
+    }
+
+    fn open(&self, actor: Actor, id: u32) -> Answer
+        ensures { result ≡ answer_open self.now actor id }
+    {
+        if self.is_busy(actor, PlainForm::OfCopy, id) {
+            return refusals::in_use();
+        }
+        if self.is_crowded() {
+            return refusals::too_many();
+        }
+        Answer::Done
+    }
+
+    /// Writes the next piece of the operation that the act serves, if the quota allows it.
+    fn progress(
+        &self,
+        alloc: Global,
+        unit: UnitConfig,
+        otherwise: Answer,
+        served: Option<&PlainOperation>,
+    ) -> Result<PlainOutcome, OutOfMemory>
+        requires { unit.blocks < 2 ^ 63 }
+        ensures { IfOk result (λ o. IsOutcome o (progress unit self.now otherwise (option_copied served.entry)) (piece_of (option_copied served.entry))) }
+    {
+        let Some(operation) = served else {
+            return Ok(PlainOutcome::told(alloc, otherwise));
+        };
+        let piece = operation.next_piece(alloc)?;
+        if self.past.mapped_with(unit.blocks, &piece) > unit.quota {
+            return Ok(PlainOutcome {
+                answer: Answer::Progress {
+                    state: OpState::Failed(refusals::quota_sense()),
+                    count: operation.count(),
+                },
+                wrote: PlainWritings::new(alloc),
+            });
+        }
+        let count = operation.count() + piece.len() as u32;
+        let state = if u64::from(count) == operation.blocks() {
+            OpState::Done
+        } else {
+            OpState::Running
+        };
+        Ok(PlainOutcome {
+            answer: Answer::Progress { state, count },
+            wrote: piece,
+        })
+    }
+}
+
+fn answer_end(served: Option<&PlainOperation>) -> Answer
+    ensures { result ≡ answer_end (option_copied served.entry) }
+{
+    match served {
+        Some(operation) => Answer::Progress {
+            state: OpState::Terminated,
+            count: operation.count(),
+        },
+        None => refusals::no_such_operation(),
+    }
+}
+
+fn done_if(served: Option<&PlainOperation>) -> Answer
+    ensures { result ≡ done_if (option_copied served.entry) }
+{
+    match served {
+        Some(_) => Answer::Done,
+        None => refusals::no_such_operation(),
+    }
+}
+
+fn answer_report(found: Option<&PlainOperation>) -> Answer
+    ensures { result ≡ answer_report (option_copied found.entry) }
+{
+    match found {
+        Some(operation) => Answer::Report(operation.report()),
+        None => refusals::no_such_operation(),
+    }
+}
+
+fn answer_recall(found: Option<&PlainOperation>) -> Answer
+    ensures { result ≡ answer_recall (option_copied found.entry) }
+{
+    match found {
+        Some(operation) => Answer::Copy(operation.result()),
+        None => refusals::no_such_operation(),
+    }
+}
