@@ -1,10 +1,10 @@
 -- What the loops of the plain answers make of the first elements of a list
-use Rattle.std.proofs.Common.{◌≡◌, ℕ, zero, suc, ◌+◌, ◌-◌, ◌<◌, ◌≤◌, List, [], ◌∷◌, ◌++◌, length, take, drop, get_or, refl, ap, sym, ◌∙◌, subst, arith, true, false, Bool, append_assoc, append-nil, length-append, add-one}
-use Rattle.std.specs.Prelude.{◌==◌, map, reverse, nat_lt, nat_le, ◌&&◌, if◌then◌else◌, slice_get, Some, None}
+use Rattle.std.proofs.Common.{◌≡◌, ℕ, zero, suc, ◌+◌, ◌-◌, ◌<◌, ◌≤◌, List, [], ◌∷◌, ◌++◌, length, take, drop, get_or, refl, ap, sym, ◌∙◌, arith, length-append, add-one}
+use Rattle.std.specs.Prelude.{◌==◌, map, reverse, if◌then◌else◌, None}
 use Rattle.std.proofs.lemmas.List.{reverse-append, take_more, map-append, take-append-drop, length-take-le}
 use Rattle.lba_ranges.specs.HeldBlocks.{held_at}
 use Rattle.lba_ranges.specs.Denoted.{row}
-use Rattle.lba_ranges.specs.Writings.{Held, Writing, after, paired, unmapped}
+use Rattle.lba_ranges.specs.Writings.{Held, after, paired, unmapped}
 use Rattle.lba_ranges.proofs.Cells.{take-held}
 use Rattle.lba_ranges.proofs.Rows.{length-row, row-push}
 use Rattle.lba_ranges.proofs.WritingLemmas.{after-append, paired-push, unmapped-append}

@@ -19,5 +19,6 @@ pub mod Image
 pub mod PlainWritings
 pub mod PlainHolds
 pub mod PlainOutcomes
+pub mod PlainPasts
 pub mod PlainForms
 pub mod PlainFates

@@ -1,5 +1,5 @@
 -- What the plain answers know of a past whose entries are within their limits
-use Rattle.std.specs.Prelude.{◌≡◌, ℕ, ◌<◌, ◌≤◌, ◌^◌, List, [], ◌∷◌, length, slice_get, true, Option, Some, None, IsTrue, ⊤}
+use Rattle.std.specs.Prelude.{◌≡◌, ℕ, ◌<◌, ◌≤◌, ◌^◌, List, [], ◌∷◌, length, slice_get, map, Bool, true, false, Option, Some, None, IsTrue, ⊤}
 use Rattle.lba_ranges.specs.declared.ranges.Range.{Range}
 use Rattle.lba_ranges.specs.Denoted.{total, is_within}
 use Rattle.lba_ranges.specs.HeldBlocks.{AllSized}
@@ -9,7 +9,8 @@ use Rattle.cm_history.specs.declared.act.Act.{Act}
 use Rattle.cm_history.specs.declared.act.Entry.{Entry}
 use Rattle.cm_history.specs.Deeds.{Deed, is_answered}
 use Rattle.cm_history.specs.Limits.{within_limits}
-use Rattle.cm_history.specs.Operations.{Operation, written, list_of}
+use Rattle.cm_history.specs.Operations.{Operation, written, list_of, operations, kept, operation_after, made_operation, makes_operation}
+use Rattle.cm_history.specs.Tokens.{Token, tokens}
 
 -- each act that the unit was asked for is within its limits
 abbrev pub AreWithin : Configuration → ℕ → List Entry → Type 0
@@ -64,7 +65,29 @@ abbrev pub AllSound : List Operation → Type 0
 AllSound [] = ⊤
 AllSound (o ∷ os) = IsSoundOperation o × AllSound os
 
+-- the tokens, the operations and the records that come of the past
+pub record ComesOf (past : List Deed) (made_tokens : List Token) (made_operations records : List Operation) : Type 0 where
+  pub all_tokens : made_tokens ≡ tokens past
+  pub all_operations : made_operations ≡ operations past
+  pub all_records : records ≡ kept past
+
+-- the deed may follow the past: its token and the operations after it are sound
+pub record MayFollow (past : List Deed) (d : Deed) : Type 0 where
+  pub token : MadeSound d (length (tokens past)) d.entry.act
+  pub served : AllSound (map (operation_after d) (operations past))
+  pub recorded : AllSound (map (operation_after d) (kept past))
+  pub made : makes_operation d ≡ true → IsSoundOperation (made_operation d)
+
 -- ---- what acts bring
+
+-- an act that writes blocks
+abbrev pub writes : Act → Bool
+writes (Act.Write lba list) = true
+writes (Act.Put lba list) = true
+writes (Act.Unmap ranges) = true
+writes (Act.Advance id) = true
+writes Act.Pump = true
+writes _ = false
 
 -- the blocks of an act have its block length
 abbrev pub IsSizedAct : Act → Type 0

@@ -5,6 +5,7 @@ ghost use Rattle.cm_history.specs.Deeds.{same_actor};
 ghost use Rattle.cm_history.specs.Tokens.{is_populate, is_delete_of, is_redeem_of};
 ghost use Rattle.cm_history.specs.Operations.{same_form, is_making, form_of, id_of, is_foreground, is_background};
 ghost use Rattle.cm_history.specs.PlainForms.{as_form};
+ghost use Rattle.cm_history.specs.PlainHolds.{IsSizedAct};
 
 use crate::act::{Act, Actor};
 use cm_base::{get_u16, get_u32};
@@ -116,5 +117,16 @@ pub(crate) fn is_redeem_of(serial: u64, act: &Act) -> bool
     match act {
         Act::Redeem { text, target: _ } => serial_of(text) == serial,
         _ => false,
+    }
+}
+
+/// How many blocks an act brings, each of which has its block length.
+pub(crate) fn blocks_brought(act: &Act) -> u64
+    ensures { IsSizedAct act.now }
+{
+    match act {
+        Act::Write { list, .. } | Act::Put { list, .. } => list.blocks(),
+        Act::Start { rod, .. } => rod.blocks(),
+        _ => 0,
     }
 }

@@ -3,7 +3,7 @@ ghost use Rattle.cm_history.specs.Tokens.{is_populate};
 ghost use Rattle.cm_history.specs.Operations.{Operation, has_key, written, count, list_of, state, result_of, is_running, is_running_state, fits, next_piece, operation_after, made_operation, makes_operation, has_ended, same_key, without_first_ended, with_room, keep};
 ghost use Rattle.cm_history.specs.Answers.{serial_made, report_of};
 ghost use Rattle.cm_history.specs.PlainForms.{as_form};
-ghost use Rattle.cm_history.specs.PlainHolds.{IsSoundOperation, AllSound};
+ghost use Rattle.cm_history.specs.PlainHolds.{IsSoundAct, IsSoundOperation, AllSound};
 
 use crate::act::{Act, Actor, CopyEnd, CopyState};
 use crate::answer::{Answer, OpReport, OpState};
@@ -62,7 +62,8 @@ impl PlainOperation {
     }
 
     fn act(&self) -> &Act
-        ensures { result.now ≡ self.now.made.entry.act }
+        ensures act { result.now ≡ self.now.made.entry.act }
+        ensures sound { IsSoundAct result.now }
     {
         &self.made.entry().act
     }

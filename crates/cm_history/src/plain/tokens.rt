@@ -11,10 +11,9 @@ ghost use Rattle.cm_history.specs.PlainFates.{fate_of};
 
 use crate::act::Act;
 use crate::answer::Answer;
-use crate::plain::acts;
 use crate::plain::blocks::cut;
 use crate::plain::deeds::{PlainDeed, PlainPast};
-use crate::plain::refusals;
+use crate::plain::{acts, refusals};
 use cm_base::{Config, OutOfMemory, UnitConfig};
 use lba_ranges::{BlockList, RangeList};
 use std::alloc::Global;

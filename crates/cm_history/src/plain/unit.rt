@@ -1,4 +1,4 @@
-ghost use Rattle.std.specs.Prelude.{◌≡◌, ◌<◌, ◌∷◌, [], ◌^◌, length, find, true, IfOk};
+ghost use Rattle.std.specs.Prelude.{◌≡◌, ◌<◌, ◌∷◌, [], ◌^◌, length, find, true, false, IfOk};
 ghost use Rattle.std.specs.Option.{option_copied};
 ghost use Rattle.cm_base.specs.Units.{unit_of};
 ghost use Rattle.lba_ranges.specs.Denoted.{blocks_of};
@@ -9,20 +9,19 @@ ghost use Rattle.cm_history.specs.Limits.{within_limits};
 ghost use Rattle.cm_history.specs.Operations.{OfToken, OfCopy, has_key, kept, operations, running, would_serve};
 ghost use Rattle.cm_history.specs.Redeeming.{redeemed, named_token};
 ghost use Rattle.cm_history.specs.PlainForms.{as_form};
-ghost use Rattle.cm_history.specs.PlainHolds.{IsSizedPast, MadeSound, AllSound};
+ghost use Rattle.cm_history.specs.PlainHolds.{IsSizedPast, MayFollow, writes};
 ghost use Rattle.cm_history.specs.PlainOutcomes.{IsOutcome};
 ghost use Rattle.cm_history.specs.Tokens.{tokens};
 
 use crate::act::{Act, Actor, Entry};
 use crate::answer::{Answer, OpState};
 use crate::plain::acts::{self, PlainForm};
-use crate::plain::blocks;
 use crate::plain::deeds::{PlainDeed, PlainPast};
 use crate::plain::operations::{PlainOperation, kept_after, operations_after};
 use crate::plain::outcome::PlainOutcome;
-use crate::plain::refusals;
 use crate::plain::tokens::{PlainToken, tokens_after};
 use crate::plain::writings::PlainWritings;
+use crate::plain::{blocks, refusals};
 use cm_base::{Config, OutOfMemory, UnitConfig};
 use lba_ranges::{BlockList, RangeList};
 use std::alloc::Global;
@@ -45,16 +44,16 @@ pub(crate) struct PlainUnit {
 }
 
 impl Model for PlainUnit {
-    ghost use Rattle.std.specs.Prelude.{◌≡◌, List};
+    ghost use Rattle.std.specs.Prelude.{List};
     ghost use Rattle.cm_history.specs.Deeds.{Deed};
-    ghost use Rattle.cm_history.specs.Tokens.{tokens};
-    ghost use Rattle.cm_history.specs.Operations.{operations, kept};
 
     ghost Value = { List Deed };
 
+    ghost use Rattle.cm_history.specs.PlainHolds.{ComesOf};
+
     ghost view = { λ u. u.past };
 
-    ghost invariant = { λ u. (u.tokens.items ≡ tokens u.past) × (u.operations.items ≡ operations u.past) × (u.kept.items ≡ kept u.past) };
+    ghost invariant = { λ u. ComesOf u.past u.tokens.items u.operations.items u.kept.items };
 }
 
 impl PlainUnit {
@@ -236,6 +235,159 @@ impl PlainUnit {
             answer: Answer::Progress { state, count },
             wrote: piece,
         })
+    }
+}
+
+impl PlainUnit {
+    /// What an act on tokens or operations is answered that writes no blocks.
+    fn told(
+        &self,
+        alloc: Global,
+        config: &Config,
+        number: u16,
+        actor: Actor,
+        moment: u64,
+        act: &Act,
+    ) -> Result<Answer, OutOfMemory>
+        requires configured { number < length config.now.units }
+        requires limits { within_limits config.now number act.now ≡ true }
+        requires sized { IsSizedPast (unit_of config.now number).block_length self.now }
+        requires told { writes act.now ≡ false }
+        ensures { IfOk result (λ a. a ≡ answer_after config.now number self.now actor moment act.now) }
+    {
+        let unit = config.unit(number);
+        let served = self.would_serve(actor, act);
+        match act {
+            Act::Read { lba, count } | Act::Capture { lba, count } => {
+                blocks::read(alloc, unit, &self.past, *lba, *count)
+            }
+            Act::MapStatus { lba } => blocks::status(alloc, unit, &self.past, *lba),
+            Act::Populate { id, ranges, .. } => Ok(self.populate(unit, actor, *id, ranges)),
+            Act::Redeem { text, target } => {
+                let now = moment.max(self.past.moment());
+                self.redeem(alloc, config, number, now, text, *target)
+            }
+            Act::Start {
+                id,
+                ranges,
+                rod,
+                ..
+            } => Ok(self.start(unit, actor, *id, ranges, rod)),
+            Act::End { .. } => Ok(answer_end(served)),
+            Act::Abort { .. } => Ok(done_if(served)),
+            Act::Close { .. } => Ok(done_if(served)),
+            Act::Report { id } => Ok(answer_report(self.kept(actor, PlainForm::OfToken, *id))),
+            Act::Open { id } => Ok(self.open(actor, u32::from(*id))),
+            Act::Recall { id } => {
+                let found = self.kept(actor, PlainForm::OfCopy, u32::from(*id));
+                Ok(answer_recall(found))
+            }
+            _ => Ok(Answer::Done),
+        }
+    }
+
+    /// What an act is answered, and what it writes.
+    pub(crate) fn outcome(
+        &self,
+        alloc: Global,
+        config: &Config,
+        number: u16,
+        actor: Actor,
+        moment: u64,
+        act: &Act,
+    ) -> Result<PlainOutcome, OutOfMemory>
+        requires configured { number < length config.now.units }
+        requires limits { within_limits config.now number act.now ≡ true }
+        requires sized { IsSizedPast (unit_of config.now number).block_length self.now }
+        ensures { IfOk result (λ o. IsOutcome o (answer_after config.now number self.now actor moment act.now) (writings self.now actor act.now)) }
+    {
+        let unit = config.unit(number);
+        match act {
+            Act::Write { lba, list } | Act::Put { lba, list } => {
+                blocks::write(alloc, unit, &self.past, *lba, list)
+            }
+            Act::Unmap { ranges } => blocks::unmap(alloc, unit, ranges),
+            Act::Advance { .. } => {
+                let otherwise = refusals::no_such_operation();
+                self.progress(alloc, unit, otherwise, self.would_serve(actor, act))
+            }
+            Act::Pump => { self.progress(alloc, unit, Answer::Idle, self.would_serve(actor, act)) }
+            _ => {
+                let answer = self.told(alloc, config, number, actor, moment, act)?;
+                Ok(PlainOutcome::told(alloc, answer))
+            }
+        }
+    }
+
+    /// The deed that comes of an entry.
+    fn deed(
+        &self,
+        alloc: Global,
+        config: &Config,
+        number: u16,
+        entry: &Entry,
+    ) -> Result<PlainDeed, OutOfMemory>
+        requires configured { number < length config.now.units }
+        requires limits { within_limits config.now number entry.now.act ≡ true }
+        requires sized { IsSizedPast (unit_of config.now number).block_length self.now }
+        ensures { IfOk result (λ d. d ≡ deed config.now number self.now entry.now) }
+    {
+        let served = match self.would_serve(entry.actor, &entry.act) {
+            Some(operation) => Some(operation.place()),
+            None => None,
+        };
+        let PlainOutcome { answer, wrote } = self.outcome(
+            alloc,
+            config,
+            number,
+            entry.actor,
+            entry.moment,
+            &entry.act,
+        )?;
+        Ok(PlainDeed {
+            entry: entry.copy(alloc)?,
+            place: self.past.len() as u64,
+            moment: entry.moment.max(self.past.moment()),
+            answer,
+            wrote,
+            served,
+        })
+    }
+
+    /// The unit after one more deed.
+    fn after(self, alloc: Global, deed: PlainDeed) -> Result<PlainUnit, OutOfMemory>
+        requires { MayFollow self deed }
+        ensures { IfOk result (λ unit. unit ≡ deed ∷ self) }
+    {
+        let tokens = tokens_after(alloc, &self.tokens, &self.past, &deed)?;
+        let operations = operations_after(alloc, &self.operations, &deed)?;
+        let kept = kept_after(alloc, &self.kept, &deed)?;
+        let mut past = self.past;
+        past.push(deed)?;
+        Ok(PlainUnit {
+            past,
+            tokens,
+            operations,
+            kept,
+        })
+    }
+
+    /// The unit after one more entry.
+    pub(crate) fn played(
+        self,
+        alloc: Global,
+        config: &Config,
+        number: u16,
+        entry: &Entry,
+    ) -> Result<PlainUnit, OutOfMemory>
+        requires configured { number < length config.now.units }
+        requires limits { within_limits config.now number entry.now.act ≡ true }
+        requires sized { IsSizedPast (unit_of config.now number).block_length self }
+        requires follows { MayFollow self (deed config.now number self entry.now) }
+        ensures { IfOk result (λ unit. unit ≡ deed config.now number self entry.now ∷ self) }
+    {
+        let deed = self.deed(alloc, config, number, entry)?;
+        self.after(alloc, deed)
     }
 }
 

@@ -45,11 +45,7 @@ fn shared(held: Option<&Payload>) -> Result<Option<Payload>, OutOfMemory>
 }
 
 /// What a block of a list holds.
-fn held_in(
-    alloc: Global,
-    list: &BlockList,
-    index: u64,
-) -> Result<Option<Payload>, OutOfMemory>
+fn held_in(alloc: Global, list: &BlockList, index: u64) -> Result<Option<Payload>, OutOfMemory>
     ensures { IfOk result (λ held. held ≡ held_at list.now.items index) }
 {
     match list.held(index) {

@@ -1,4 +1,4 @@
-use Rattle.std.proofs.Common.{◌≡◌, ◌++◌, take, drop, true}
+use Rattle.std.proofs.Common.{◌≡◌, ◌++◌, drop}
 use Rattle.std.specs.Prelude.{if◌then◌else◌}
 use Rattle.cm_history.specs.Operations.{without_first_ended}
 use Rattle.cm_history.proofs.plain.operations.without_first_ended.Given as goal

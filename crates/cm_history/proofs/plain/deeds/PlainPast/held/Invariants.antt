@@ -1,4 +1,4 @@
-use Rattle.std.proofs.Common.{◌≡◌, length, take}
+use Rattle.std.proofs.Common.{◌≡◌, take}
 use Rattle.std.specs.Prelude.{reverse}
 use Rattle.std.specs.Option.{option_copied}
 use Rattle.cm_history.specs.Blocks.{held}

@@ -1,4 +1,4 @@
-use Rattle.std.proofs.Common.{◌≡◌, length, take}
+use Rattle.std.proofs.Common.{◌≡◌, take}
 use Rattle.std.specs.Prelude.{reverse}
 use Rattle.cm_history.specs.Deeds.{moment}
 use Rattle.cm_history.proofs.plain.deeds.PlainPast.moment.Given as goal

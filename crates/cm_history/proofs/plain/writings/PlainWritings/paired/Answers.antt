@@ -1,4 +1,4 @@
-use Rattle.std.proofs.Common.{◌+◌, ◌++◌, ◌∷◌, [], ◌∙◌, ap, sym, arith, List, get_or, refl}
+use Rattle.std.proofs.Common.{◌++◌, ◌∷◌, [], ◌∙◌, ap, sym, arith, List, get_or, refl}
 use Rattle.lba_ranges.specs.Writings.{Writing}
 use Rattle.cm_history.proofs.PlainLists.{paired-more, paired-no_more}
 use Rattle.cm_history.proofs.plain.writings.PlainWritings.paired.Goals as goal

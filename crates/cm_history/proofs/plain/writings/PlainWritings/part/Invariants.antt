@@ -1,4 +1,4 @@
-use Rattle.std.proofs.Common.{◌≡◌, ◌≤◌, map, take, drop, length}
+use Rattle.std.proofs.Common.{◌≡◌, map, take, drop}
 use Rattle.cm_history.specs.PlainWritings.{writing_of}
 use Rattle.cm_history.proofs.plain.writings.PlainWritings.part.Given as goal
 

@@ -1,0 +1,335 @@
+ghost use Rattle.std.specs.Prelude.{◌≡◌, ◌≤◌, length, IfOk, OnOk};
+ghost use Rattle.cm_history.specs.Legal.{IsLegal};
+ghost use Rattle.cm_history.specs.PlainHolds.{AreWithin};
+
+use super::*;
+use cm_base::{Bytes, Config, Payload, UnitConfig, UnitList};
+use lba_ranges::{BlockList, Fill, Piece, Range, RangeList};
+use scsi_sense::Sense;
+use std::test::Fail;
+
+/// One unit of four blocks of 512 bytes, of which two may be mapped.
+fn one_unit(rt: &HostRuntime) -> Result<Config, Fail>
+    ensures { IfOk result (λ config. length config.units ≡ 1) }
+{
+    let only = UnitConfig {
+        blocks: 4,
+        block_length: 512,
+        entries: 16,
+        quota: 2,
+        payload: 65_536,
+        group: 0,
+    };
+    Ok(Config::new([7; 32], UnitList::copy(rt.alloc(), &[only])?))
+}
+
+/// A Write of one block, all of whose bytes are this one.
+fn write(rt: &HostRuntime, lba: u64, byte: u8) -> Result<Act, Fail> {
+    let bytes = Payload::from_vec(vec![in rt.alloc(); byte; 512]?)?;
+    let list = BlockList::from_payload(rt.alloc(), 512, 1, bytes)?;
+    Ok(Act::Write { lba, list })
+}
+
+/// Initiator 1 asks unit 0 for an act at this moment.
+fn ask(
+    rt: &HostRuntime,
+    config: &Config,
+    history: &mut History,
+    moment: u64,
+    act: Act,
+) -> Result<(), Fail>
+    requires one { 1 ≤ length config.now.units }
+    requires within { AreWithin config.now 0 history.old.entries }
+    ensures { OnOk result (AreWithin config.now 0 history.new.entries) }
+{
+    assert!(rt; within_limits(config, 0, &act));
+    history.reserve(1)?;
+    history.append(Entry {
+        stamp: moment,
+        unit: 0,
+        actor: Actor::Nexus(1),
+        seq: moment,
+        moment,
+        act,
+    });
+    Ok(())
+}
+
+/// Four Writes of unit 0, the third of which is refused.
+fn four_writes(rt: &HostRuntime, config: &Config) -> Result<History, Fail>
+    requires { 1 ≤ length config.now.units }
+    ensures { IfOk result (λ history. AreWithin config.now 0 history.entries) }
+{
+    let mut history = History::empty(rt.alloc());
+    ask(rt, config, &mut history, 0, write(rt, 1, 0x11)?)?;
+    ask(rt, config, &mut history, 1, write(rt, 1, 0x22)?)?;
+    ask(rt, config, &mut history, 2, write(rt, 4, 0x33)?)?;
+    ask(rt, config, &mut history, 3, write(rt, 3, 0x44)?)?;
+    Ok(history)
+}
+
+/// What initiator 1 is answered at this moment.
+fn told(
+    rt: &HostRuntime,
+    config: &Config,
+    history: &History,
+    moment: u64,
+    act: &Act,
+) -> Result<Answer, Fail>
+    requires one { 1 ≤ length config.now.units }
+    requires within { AreWithin config.now 0 history.now.entries }
+{
+    assert!(rt; within_limits(config, 0, act));
+    let alloc = rt.alloc();
+    Ok(plain_answer(alloc, config, history, 0, Actor::Nexus(1), moment, act)?)
+}
+
+/// The bytes of the blocks that a Read of all blocks is answered after four Writes.
+fn read_back(rt: &HostRuntime, config: &Config) -> Result<Bytes, Fail>
+    requires { 1 ≤ length config.now.units }
+{
+    let history = four_writes(rt, config)?;
+    let answer = told(rt, config, &history, 4, &Act::Read { lba: 0, count: 4 })?;
+    let mut bytes = Bytes::empty(rt.alloc());
+    if let Answer::Blocks(list) = answer {
+        list.read_into(&mut bytes)?;
+    }
+    Ok(bytes)
+}
+
+#[test]
+fn what_was_written_is_read(rt: HostRuntime) -> Result<(), Fail> {
+    let config = one_unit(&rt)?;
+    let bytes = read_back(&rt, &config)?;
+    let bytes = bytes.as_slice();
+    assert_eq!(rt; bytes.len(), 2048);
+    let held = [
+        (0, 0),
+        (511, 0),
+        (512, 0x22),
+        (1023, 0x22),
+        (1024, 0),
+        (1536, 0x44),
+    ];
+    for (place, byte) in held {
+        assert_eq!(rt; bytes.get(place), Some(&byte), "at {place}");
+    }
+    Ok(())
+}
+
+/// The answer to an act after four Writes is this refusal.
+fn is_refused(rt: &HostRuntime, config: &Config, act: &Act, wanted: Sense) -> Result<bool, Fail>
+    requires { 1 ≤ length config.now.units }
+{
+    let history = four_writes(rt, config)?;
+    let answer = told(rt, config, &history, 4, act)?;
+    Ok(matches!(&answer, Answer::Refused(sense) if *sense == wanted))
+}
+
+/// The unit has four blocks, and the quota is of two.
+#[test]
+fn acts_are_refused(rt: HostRuntime) -> Result<(), Fail> {
+    let config = one_unit(&rt)?;
+    let out_of_range = Sense::new(0x05, 0x21, 0x00);
+    let over_quota = Sense::new(0x07, 0x27, 0x07);
+    let long = Act::Read { lba: 1, count: 4 };
+    assert!(rt; is_refused(&rt, &config, &long, out_of_range)?);
+    assert!(rt; is_refused(&rt, &config, &write(&rt, 0, 0x55)?, over_quota)?);
+    assert!(rt; !is_refused(&rt, &config, &write(&rt, 3, 0x55)?, over_quota)?);
+    Ok(())
+}
+
+/// A list of unmapped blocks.
+fn holes(rt: &HostRuntime, block_length: u32, count: u32) -> Result<BlockList, Fail> {
+    let mut list = BlockList::empty(rt.alloc(), block_length);
+    list.push(Piece {
+        count,
+        fill: Fill::Hole,
+    })?;
+    Ok(list)
+}
+
+/// Two ranges of two blocks each.
+fn ranges(rt: &HostRuntime, first: u64, second: u64) -> Result<RangeList, Fail> {
+    let first = Range {
+        lba: first,
+        count: 2,
+    };
+    let second = Range {
+        lba: second,
+        count: 2,
+    };
+    let mut list = RangeList::empty(rt.alloc());
+    list.push(first)?;
+    list.push(second)?;
+    Ok(list)
+}
+
+fn populate(timeout: u32, ranges: RangeList) -> Act {
+    Act::Populate {
+        id: 1,
+        timeout,
+        ranges,
+    }
+}
+
+fn start(ranges: RangeList, rod: BlockList) -> Act {
+    Act::Start {
+        id: 1,
+        background: true,
+        ranges,
+        rod,
+    }
+}
+
+fn close(state: CopyState) -> Act {
+    let result = CopyEnd {
+        state,
+        segments: 0,
+        bytes: 0,
+    };
+    Act::Close { id: 1, result }
+}
+
+/// The text of the first token of unit 0, without its nonce.
+fn token_of_unit_0() -> [u8; 512] {
+    let mut text = [0; 512];
+    text[1] = 0x80;
+    text[6] = 0x01;
+    text[7] = 0xf8;
+    text
+}
+
+fn read(count: u32) -> Act {
+    Act::Read { lba: 9, count }
+}
+
+fn redeem(text: [u8; 512], target: u16) -> Act {
+    Act::Redeem { text, target }
+}
+
+fn capture(count: u32) -> Act {
+    Act::Capture { lba: 0, count }
+}
+
+#[test]
+fn numbers_have_limits(rt: HostRuntime) -> Result<(), Fail> {
+    let config = one_unit(&rt)?;
+    let text = token_of_unit_0();
+    let acts = [
+        (read(2048), true),
+        (read(2049), false),
+        (redeem(text, 0), true),
+        (redeem(text, 1), false),
+        (redeem([0; 512], 0), false),
+        (capture(65_535), true),
+        (capture(65_536), false),
+        (close(CopyState::Done), true),
+        (close(CopyState::Running), false),
+        (Act::Pump, true),
+    ];
+    for (place, (act, allowed)) in acts.iter().enumerate() {
+        assert_eq!(rt; within_limits(&config, 0, act), *allowed, "act {place}");
+    }
+    Ok(())
+}
+
+#[test]
+fn acts_are_copied(rt: HostRuntime) -> Result<(), Fail> {
+    let alloc = rt.alloc();
+    let act = start(ranges(&rt, 5, 9)?, holes(&rt, 512, 4)?).copy(alloc)?;
+    assert!(rt;
+        matches!(&act, Act::Start { ranges, rod, .. } if ranges.total() == 4 && rod.blocks() == 4)
+    );
+    let entry = Entry {
+        stamp: 6,
+        unit: 0,
+        actor: Actor::Nexus(1),
+        seq: 7,
+        moment: 8,
+        act: write(&rt, 3, 0x44)?,
+    };
+    let entry = entry.copy(alloc)?;
+    assert!(rt; entry.stamp == 6 && entry.seq == 7 && entry.moment == 8);
+    assert!(rt; matches!(&entry.act, Act::Write { lba: 3, list } if list.blocks() == 1));
+    Ok(())
+}
+
+#[test]
+fn lists_of_blocks_have_limits(rt: HostRuntime) -> Result<(), Fail> {
+    let config = one_unit(&rt)?;
+    for (block_length, count, allowed) in [
+        (512, 1024, true),
+        (512, 1025, false),
+        (4096, 1, false),
+    ] {
+        let list = holes(&rt, block_length, count)?;
+        let put = Act::Put { lba: 0, list };
+        assert_eq!(rt; within_limits(&config, 0, &put), allowed, "{count} blocks");
+    }
+    let list = holes(&rt, 512, 1)?;
+    assert!(rt; !within_limits(&config, 0, &Act::Write { lba: 0, list }));
+    assert!(rt; within_limits(&config, 0, &write(&rt, 9, 0x11)?));
+    Ok(())
+}
+
+#[test]
+fn lists_of_ranges_have_limits(rt: HostRuntime) -> Result<(), Fail> {
+    let config = one_unit(&rt)?;
+    for (second, timeout, allowed) in [
+        (2, 1, true),
+        (2, 3600, true),
+        (2, 0, false),
+        (2, 3601, false),
+        (1, 1, false),
+    ] {
+        let act = populate(timeout, ranges(&rt, 0, second)?);
+        assert_eq!(rt;
+            within_limits(&config, 0, &act),
+            allowed,
+            "{timeout} seconds"
+        );
+    }
+    for (second, block_length, count, allowed) in [
+        (2, 512, 4, true),
+        (2, 512, 3, false),
+        (1, 512, 4, false),
+        (2, 4096, 4, false),
+    ] {
+        let act = start(ranges(&rt, 0, second)?, holes(&rt, block_length, count)?);
+        assert_eq!(rt; within_limits(&config, 0, &act), allowed, "{count} blocks");
+    }
+    Ok(())
+}
+
+/// A Read that initiator 1 asks of unit 0, and nothing else.
+fn one_read(rt: &HostRuntime, config: &Config) -> Result<History, Fail>
+    requires { length config.now.units ≡ 1 }
+    ensures one { IfOk result (λ history. length history.entries ≡ 1) }
+    ensures legal { IfOk result (λ history. IsLegal config.now history.entries) }
+{
+    let _config = config;
+    let mut history = History::empty(rt.alloc());
+    history.reserve(1)?;
+    history.append(Entry {
+        stamp: 0,
+        unit: 0,
+        actor: Actor::Nexus(1),
+        seq: 0,
+        moment: 0,
+        act: Act::Read { lba: 0, count: 1 },
+    });
+    Ok(history)
+}
+
+/// The laws hold of histories that there are.
+#[test]
+fn laws_can_be_called(rt: HostRuntime) -> Result<(), Fail> {
+    let config = one_unit(&rt)?;
+    let history = one_read(&rt, &config)?;
+    token_law(&config, &history, 0);
+    count_law(&config, &history, 0, 1);
+    locality_law(&config, &history, 0);
+    assert_eq!(rt; history.len(), 1);
+    Ok(())
+}
