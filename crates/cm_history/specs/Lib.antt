@@ -18,5 +18,8 @@ pub mod Laws
 pub mod Merged
 pub mod Image
 pub mod PlainWritings
-pub mod Plain
 pub mod PlainHolds
+pub mod PlainOutcomes
+pub mod PlainPasts
+pub mod PlainForms
+pub mod PlainFates

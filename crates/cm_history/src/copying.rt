@@ -1,7 +1,9 @@
 ghost use Rattle.std.specs.Prelude.{◌≡◌, IfOk};
 ghost use Rattle.cm_history.specs.declared.act.Act.{Act};
+ghost use Rattle.cm_history.specs.declared.answer.Answer.{Answer};
 
 use crate::act::{Act, Entry};
+use crate::answer::{Answer, StatusList};
 use cm_base::OutOfMemory;
 use lba_ranges::{BlockList, RangeList};
 use std::alloc::Global;
@@ -97,5 +99,38 @@ impl Entry {
             moment: self.moment,
             act,
         })
+    }
+}
+
+fn blocks(list: BlockList) -> Answer
+    ensures { result ≡ Answer.Blocks list }
+{
+    Answer::Blocks(list)
+}
+
+fn rod(list: BlockList) -> Answer
+    ensures { result ≡ Answer.Rod list }
+{
+    Answer::Rod(list)
+}
+
+impl Answer {
+    /// An equal answer, which shares the bytes of its blocks.
+    pub(crate) fn copy(&self, alloc: Global) -> Result<Answer, OutOfMemory>
+        ensures { IfOk result (λ answer. answer ≡ self.now) }
+    {
+        let answer = match *self {
+            Answer::Blocks(ref list) => blocks(list.copy(alloc)?),
+            Answer::Done => Answer::Done,
+            Answer::Status(ref runs) => Answer::Status(StatusList::copy(alloc, runs.as_slice())?),
+            Answer::Made { serial } => Answer::Made { serial },
+            Answer::Rod(ref list) => rod(list.copy(alloc)?),
+            Answer::Progress { state, count } => Answer::Progress { state, count },
+            Answer::Idle => Answer::Idle,
+            Answer::Report(report) => Answer::Report(report),
+            Answer::Copy(end) => Answer::Copy(end),
+            Answer::Refused(sense) => Answer::Refused(sense),
+        };
+        Ok(answer)
     }
 }

@@ -1,8 +1,6 @@
-ghost use Rattle.std.specs.Prelude.{◌≡◌, ◌≤◌, length, true, IfOk, OnOk};
-ghost use Rattle.cm_history.specs.Plain.{is_plain};
-ghost use Rattle.cm_base.specs.Units.{unit_of};
+ghost use Rattle.std.specs.Prelude.{◌≡◌, ◌≤◌, length, IfOk, OnOk};
 ghost use Rattle.cm_history.specs.Legal.{IsLegal};
-ghost use Rattle.cm_history.specs.PlainHolds.{IsPlainAct, ArePlain};
+ghost use Rattle.cm_history.specs.PlainHolds.{AreWithin};
 
 use super::*;
 use cm_base::{Bytes, Config, Payload, UnitConfig, UnitList};
@@ -12,8 +10,7 @@ use std::test::Fail;
 
 /// One unit of four blocks of 512 bytes, of which two may be mapped.
 fn one_unit(rt: &HostRuntime) -> Result<Config, Fail>
-    ensures one { IfOk result (λ config. length config.units ≡ 1) }
-    ensures size { IfOk result (λ config. (unit_of config 0).block_length ≡ 512) }
+    ensures { IfOk result (λ config. length config.units ≡ 1) }
 {
     let only = UnitConfig {
         blocks: 4,
@@ -27,21 +24,25 @@ fn one_unit(rt: &HostRuntime) -> Result<Config, Fail>
 }
 
 /// A Write of one block, all of whose bytes are this one.
-fn write(rt: &HostRuntime, lba: u64, byte: u8) -> Result<Act, Fail>
-    ensures { IfOk result (IsPlainAct 512) }
-{
+fn write(rt: &HostRuntime, lba: u64, byte: u8) -> Result<Act, Fail> {
     let bytes = Payload::from_vec(vec![in rt.alloc(); byte; 512]?)?;
     let list = BlockList::from_payload(rt.alloc(), 512, 1, bytes)?;
     Ok(Act::Write { lba, list })
 }
 
 /// Initiator 1 asks unit 0 for an act at this moment.
-fn ask(config: &Config, history: &mut History, moment: u64, act: Act) -> Result<(), Fail>
-    requires act { IsPlainAct (unit_of config.now 0).block_length act }
-    requires plain { ArePlain config.now 0 history.old.entries }
-    ensures { OnOk result (ArePlain config.now 0 history.new.entries) }
+fn ask(
+    rt: &HostRuntime,
+    config: &Config,
+    history: &mut History,
+    moment: u64,
+    act: Act,
+) -> Result<(), Fail>
+    requires one { 1 ≤ length config.now.units }
+    requires within { AreWithin config.now 0 history.old.entries }
+    ensures { OnOk result (AreWithin config.now 0 history.new.entries) }
 {
-    let _config = config;
+    assert!(rt; within_limits(config, 0, &act));
     history.reserve(1)?;
     history.append(Entry {
         stamp: moment,
@@ -56,25 +57,39 @@ fn ask(config: &Config, history: &mut History, moment: u64, act: Act) -> Result<
 
 /// Four Writes of unit 0, the third of which is refused.
 fn four_writes(rt: &HostRuntime, config: &Config) -> Result<History, Fail>
-    requires { (unit_of config.now 0).block_length ≡ 512 }
-    ensures { IfOk result (λ history. ArePlain config.now 0 history.entries) }
+    requires { 1 ≤ length config.now.units }
+    ensures { IfOk result (λ history. AreWithin config.now 0 history.entries) }
 {
     let mut history = History::empty(rt.alloc());
-    ask(config, &mut history, 0, write(rt, 1, 0x11)?)?;
-    ask(config, &mut history, 1, write(rt, 1, 0x22)?)?;
-    ask(config, &mut history, 2, write(rt, 4, 0x33)?)?;
-    ask(config, &mut history, 3, write(rt, 3, 0x44)?)?;
+    ask(rt, config, &mut history, 0, write(rt, 1, 0x11)?)?;
+    ask(rt, config, &mut history, 1, write(rt, 1, 0x22)?)?;
+    ask(rt, config, &mut history, 2, write(rt, 4, 0x33)?)?;
+    ask(rt, config, &mut history, 3, write(rt, 3, 0x44)?)?;
     Ok(history)
+}
+
+/// What initiator 1 is answered at this moment.
+fn told(
+    rt: &HostRuntime,
+    config: &Config,
+    history: &History,
+    moment: u64,
+    act: &Act,
+) -> Result<Answer, Fail>
+    requires one { 1 ≤ length config.now.units }
+    requires within { AreWithin config.now 0 history.now.entries }
+{
+    assert!(rt; within_limits(config, 0, act));
+    let alloc = rt.alloc();
+    Ok(plain_answer(alloc, config, history, 0, Actor::Nexus(1), moment, act)?)
 }
 
 /// The bytes of the blocks that a Read of all blocks is answered after four Writes.
 fn read_back(rt: &HostRuntime, config: &Config) -> Result<Bytes, Fail>
-    requires one { 1 ≤ length config.now.units }
-    requires size { (unit_of config.now 0).block_length ≡ 512 }
+    requires { 1 ≤ length config.now.units }
 {
     let history = four_writes(rt, config)?;
-    let act = Act::Read { lba: 0, count: 4 };
-    let answer = plain_answer(rt.alloc(), config, &history, 0, Actor::Nexus(2), 4, &act)?;
+    let answer = told(rt, config, &history, 4, &Act::Read { lba: 0, count: 4 })?;
     let mut bytes = Bytes::empty(rt.alloc());
     if let Answer::Blocks(list) = answer {
         list.read_into(&mut bytes)?;
@@ -104,12 +119,10 @@ fn what_was_written_is_read(rt: HostRuntime) -> Result<(), Fail> {
 
 /// The answer to an act after four Writes is this refusal.
 fn is_refused(rt: &HostRuntime, config: &Config, act: &Act, wanted: Sense) -> Result<bool, Fail>
-    requires one { 1 ≤ length config.now.units }
-    requires size { (unit_of config.now 0).block_length ≡ 512 }
-    requires plain { is_plain act.now ≡ true }
+    requires { 1 ≤ length config.now.units }
 {
     let history = four_writes(rt, config)?;
-    let answer = plain_answer(rt.alloc(), config, &history, 0, Actor::Nexus(2), 4, act)?;
+    let answer = told(rt, config, &history, 4, act)?;
     Ok(matches!(&answer, Answer::Refused(sense) if *sense == wanted))
 }
 

@@ -1,6 +1,11 @@
 use Rattle.std.proofs.Common.{take}
-use Rattle.cm_history.specs.PlainHolds.{StandFor}
+use Rattle.cm_history.specs.PlainPasts.{IsPlayed}
+use Rattle.cm_history.specs.History.{past_of}
+use Rattle.cm_history.proofs.PlainSizes.{AllFit}
 use Rattle.cm_history.proofs.plain.played.Given as goal
 
 abbrev pub invariant-loop-index : goal.invariant-loop-index
-invariant-loop-index l = StandFor l.config l.number (take l.index l.history.entries) l.blocks
+invariant-loop-index l = record {
+  played : IsPlayed l.config l.number (take l.index l.history.entries) l.unit;
+  fits : AllFit l.config l.number (past_of l.config l.number (take l.index l.history.entries));
+}
