@@ -7,3 +7,4 @@ pub mod ExtendedCopy
 pub mod Kinds
 pub mod Judging
 pub mod Meaning
+pub mod Running

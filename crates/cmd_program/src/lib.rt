@@ -7,10 +7,12 @@ mod fixed;
 mod judging;
 mod map_status;
 mod phase;
+mod runs;
 mod step;
 mod unmap;
 
 pub use command::Command;
+pub use runs::Runs;
 pub use step::{Outcome, Step};
 
 #[cfg(test)]

@@ -20,7 +20,7 @@ use Rattle.cm_history.specs.Deeds.{last_stamp, same_actor}
 use Rattle.cm_history.specs.History.{on, one_more, past_of, answer}
 use Rattle.cm_history.specs.Room.{is_full}
 use Rattle.cm_history.proofs.Locality.{past_of-on}
-use Rattle.unit_core.specs.declared.unit.ActRefused.{ActRefused}
+use Rattle.cm_history.specs.declared.refused.ActRefused.{ActRefused}
 use Rattle.unit_core.specs.Standing as unit
 use Rattle.unit_core.specs.Acting as acting
 use Rattle.trace_replay.specs.declared.units.Units.{Units}

@@ -9,7 +9,7 @@ use Rattle.cm_history.specs.Limits.{within_limits}
 use Rattle.cm_history.specs.Legal.{may_ask, IsLegal}
 use Rattle.cm_history.specs.Deeds.{last_stamp}
 use Rattle.cm_history.specs.History.{on, past_of, answer}
-use Rattle.unit_core.specs.declared.unit.ActRefused.{ActRefused}
+use Rattle.cm_history.specs.declared.refused.ActRefused.{ActRefused}
 use Rattle.unit_core.specs.Standing as unit
 use Rattle.std.specs.Ordering.{nat_cmp}
 use Rattle.std.specs.BTreeMap.{get}

@@ -12,10 +12,9 @@ use crate::any_command::AnyCommand;
 use crate::units::Units;
 use cm_base::{Config, OutOfMemory};
 use cm_frame::{Reply, Request};
-use cm_history::Act;
+use cm_history::{Act, ActRefused};
 use cmd_program::{Outcome, Step};
 use std::alloc::Global;
-use unit_core::ActRefused;
 
 /// A command that waits to be run, with the act that it asks for.
 #[derive(Drop)]

@@ -6,9 +6,9 @@ ghost use Rattle.trace_replay.specs.Machines.{HaveDone, HaveCounted, DoesAct, Ma
 ghost use Rattle.trace_replay.specs.Standing.{entries_after};
 
 use cm_base::{Config, OutOfMemory};
-use cm_history::{Act, Actor, Answer};
+use cm_history::{Act, ActRefused, Actor, Answer};
 use std::alloc::Global;
-use unit_core::{ActRefused, Unit};
+use unit_core::Unit;
 
 /// The units, how many entries the pump of each has made, and the latest stamp of them all.
 #[derive(Drop)]

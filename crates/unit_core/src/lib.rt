@@ -17,4 +17,4 @@ mod token_change;
 mod token_plans;
 mod unit;
 
-pub use unit::{ActRefused, Unit, UnitOver};
+pub use unit::{Unit, UnitOver};

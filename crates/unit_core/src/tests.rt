@@ -2,7 +2,7 @@ ghost use Rattle.std.specs.Prelude.{◌≡◌, length, IfOk};
 
 use super::*;
 use cm_base::{Config, UnitConfig, UnitList};
-use cm_history::{Act, Actor, Answer};
+use cm_history::{Act, ActRefused, Actor, Answer};
 use std::alloc::Global;
 use std::test::Fail;
 

@@ -1,5 +1,6 @@
 ghost use Rattle.std.specs.Prelude.{◌≡◌, ℕ, List, ◌+◌, ◌-◌, ◌<◌, ◌≤◌, ◌^◌, ◌++◌, ◌∷◌, [], length, max, IfOk, IfErr, OnOk, OnErr, true, false};
 ghost use Rattle.cm_base.specs.Units.{unit_of};
+ghost use Rattle.cm_history.specs.declared.refused.ActRefused.{ActRefused};
 ghost use Rattle.cm_history.specs.Limits.{within_limits};
 ghost use Rattle.cm_history.specs.Legal.{may_ask};
 ghost use Rattle.cm_history.specs.Deeds.{last_stamp};
@@ -13,30 +14,11 @@ ghost use Rattle.unit_core.specs.Acting.{past, is_full_at, entry_at, serves_oper
 use crate::room::bytes_in;
 use crate::tables::Tables;
 use cm_base::{Config, OutOfMemory};
-use cm_history::{Act, Actor, Answer, Entry, History};
+use cm_history::{Act, ActRefused, Actor, Answer, Entry, History};
 use lba_ranges::Blocks;
 use lun_plain::PlainUnit;
 use std::alloc::Global;
 use std::marker::Model;
-
-/// Why an act was not done.
-#[derive(Debug, Drop, Clone, Copy)]
-pub enum ActRefused {
-    /// The unit's record has no room for the act.
-    Full,
-    OutOfMemory,
-}
-
-impl From<OutOfMemory> for ActRefused {
-    ghost use Rattle.std.specs.Prelude.{◌≡◌};
-    ghost use Rattle.unit_core.specs.declared.unit.ActRefused.{ActRefused};
-
-    ghost from_gives = { λ _ refused. refused ≡ ActRefused.OutOfMemory };
-
-    fn from(_: OutOfMemory) -> ActRefused {
-        ActRefused::OutOfMemory
-    }
-}
 
 /// One unit over blocks of some kind. Contracts see its configuration, its number and its record.
 #[derive(Drop)]
