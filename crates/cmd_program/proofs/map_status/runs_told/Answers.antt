@@ -1,7 +1,7 @@
 use Rattle.std.proofs.Common.{◌≡◌, ◌≤◌, length, take, ap, sym, ◌∙◌, subst}
 use Rattle.cm_frame.specs.Grammar.{data_limit}
 use Rattle.cmd_program.specs.Told.{map_bytes}
-use Rattle.cmd_program.proofs.Runs.{map-short}
+use Rattle.cmd_program.proofs.MapRuns.{map-short}
 use Rattle.cmd_program.proofs.map_status.runs_told.Goals as goal
 
 pub returns-clause-fits : goal.returns-clause-fits

@@ -3,7 +3,7 @@ use Rattle.byteorder.specs.Endian.{big_bytes}
 use Rattle.cm_base.specs.Fields.{zeros}
 use Rattle.lba_ranges.proofs.Rows.{take-get}
 use Rattle.cmd_program.specs.Told.{run_bytes, runs_bytes}
-use Rattle.cmd_program.proofs.Runs.{runs-push, all-told}
+use Rattle.cmd_program.proofs.MapRuns.{runs-push, all-told}
 use Rattle.cmd_program.proofs.map_status.status_data.Goals as goal
 
 pub loop-index-preserved : goal.loop-index-preserved
