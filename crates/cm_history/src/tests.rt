@@ -1,4 +1,5 @@
-ghost use Rattle.std.specs.Prelude.{◌≡◌, ◌≤◌, length, IfOk, OnOk};
+ghost use Rattle.std.specs.Prelude.{◌≡◌, ◌≤◌, length, true, IfOk, OnOk};
+ghost use Rattle.cm_history.specs.Limits.{within_limits};
 ghost use Rattle.cm_history.specs.Legal.{IsLegal};
 ghost use Rattle.cm_history.specs.PlainHolds.{AreWithin};
 
@@ -30,19 +31,25 @@ fn write(rt: &HostRuntime, lba: u64, byte: u8) -> Result<Act, Fail> {
     Ok(Act::Write { lba, list })
 }
 
+/// The act is within its limits.
+fn allowed(config: &Config, act: &Act) -> Result<(), &'static str>
+    requires { 1 ≤ length config.now.units }
+    ensures { OnOk result (within_limits config.now 0 act.now ≡ true) }
+{
+    if within_limits(config, 0, act) {
+        Ok(())
+    } else {
+        Err("an act is beyond its limits")
+    }
+}
+
 /// Initiator 1 asks unit 0 for an act at this moment.
-fn ask(
-    rt: &HostRuntime,
-    config: &Config,
-    history: &mut History,
-    moment: u64,
-    act: Act,
-) -> Result<(), Fail>
+fn ask(config: &Config, history: &mut History, moment: u64, act: Act) -> Result<(), Fail>
     requires one { 1 ≤ length config.now.units }
     requires within { AreWithin config.now 0 history.old.entries }
     ensures { OnOk result (AreWithin config.now 0 history.new.entries) }
 {
-    assert!(rt; within_limits(config, 0, &act));
+    allowed(config, &act)?;
     history.reserve(1)?;
     history.append(Entry {
         stamp: moment,
@@ -61,10 +68,10 @@ fn four_writes(rt: &HostRuntime, config: &Config) -> Result<History, Fail>
     ensures { IfOk result (λ history. AreWithin config.now 0 history.entries) }
 {
     let mut history = History::empty(rt.alloc());
-    ask(rt, config, &mut history, 0, write(rt, 1, 0x11)?)?;
-    ask(rt, config, &mut history, 1, write(rt, 1, 0x22)?)?;
-    ask(rt, config, &mut history, 2, write(rt, 4, 0x33)?)?;
-    ask(rt, config, &mut history, 3, write(rt, 3, 0x44)?)?;
+    ask(config, &mut history, 0, write(rt, 1, 0x11)?)?;
+    ask(config, &mut history, 1, write(rt, 1, 0x22)?)?;
+    ask(config, &mut history, 2, write(rt, 4, 0x33)?)?;
+    ask(config, &mut history, 3, write(rt, 3, 0x44)?)?;
     Ok(history)
 }
 
@@ -79,7 +86,7 @@ fn told(
     requires one { 1 ≤ length config.now.units }
     requires within { AreWithin config.now 0 history.now.entries }
 {
-    assert!(rt; within_limits(config, 0, act));
+    allowed(config, act)?;
     let alloc = rt.alloc();
     Ok(plain_answer(alloc, config, history, 0, Actor::Nexus(1), moment, act)?)
 }
@@ -136,6 +143,77 @@ fn acts_are_refused(rt: HostRuntime) -> Result<(), Fail> {
     assert!(rt; is_refused(&rt, &config, &long, out_of_range)?);
     assert!(rt; is_refused(&rt, &config, &write(&rt, 0, 0x55)?, over_quota)?);
     assert!(rt; !is_refused(&rt, &config, &write(&rt, 3, 0x55)?, over_quota)?);
+    Ok(())
+}
+
+/// A Populate of all blocks, the last of which is written again; then a Redeem at this moment.
+fn redeemed(rt: &HostRuntime, config: &Config, moment: u64) -> Result<Answer, Fail>
+    requires { 1 ≤ length config.now.units }
+{
+    let mut history = four_writes(rt, config)?;
+    let act = populate(10, ranges(rt, 0, 2)?);
+    ask(config, &mut history, 4, act)?;
+    ask(config, &mut history, 5, write(rt, 3, 0x66)?)?;
+    let text = rod_token::text(config, 0, 0, 4);
+    told(rt, config, &history, moment, &redeem(text, 0))
+}
+
+/// The last block of a rod has bytes like this one.
+fn is_rod(answer: &Answer, byte: u8) -> bool {
+    match answer {
+        Answer::Rod(list) => matches!(list.held(3), Some(bytes) if bytes.first() == Some(&byte)),
+        _ => false,
+    }
+}
+
+/// The answer is this refusal.
+fn is_refusal(answer: &Answer, wanted: Sense) -> bool {
+    matches!(answer, Answer::Refused(sense) if *sense == wanted)
+}
+
+/// A token has the blocks of its making for ten seconds.
+#[test]
+fn a_token_is_redeemed(rt: HostRuntime) -> Result<(), Fail> {
+    let config = one_unit(&rt)?;
+    let answer = redeemed(&rt, &config, 14)?;
+    assert!(rt; is_rod(&answer, 0x44));
+    let answer = redeemed(&rt, &config, 15)?;
+    assert!(rt; is_refusal(&answer, Sense::new(0x05, 0x23, 0x07)));
+    Ok(())
+}
+
+/// A background write of four unmapped blocks, and so many Pumps.
+fn pumped(rt: &HostRuntime, config: &Config, pumps: u64) -> Result<Answer, Fail>
+    requires { 1 ≤ length config.now.units }
+{
+    let mut history = four_writes(rt, config)?;
+    let act = start(ranges(rt, 0, 2)?, holes(rt, 512, 4)?);
+    ask(config, &mut history, 4, act)?;
+    for _ in 0..pumps {
+        ask(config, &mut history, 5, Act::Pump)?;
+    }
+    told(rt, config, &history, 6, &Act::Report { id: 1 })
+}
+
+/// The report is of a background write of so many blocks that has ended, or not.
+fn is_report(answer: &Answer, wanted: u32, done: bool) -> bool {
+    match answer {
+        Answer::Report(report) => {
+            let ended = matches!(report.state, OpState::Done);
+            report.background && report.count == wanted && ended == done
+        }
+        _ => false,
+    }
+}
+
+/// The pump writes the piece of the operation.
+#[test]
+fn an_operation_is_pumped(rt: HostRuntime) -> Result<(), Fail> {
+    let config = one_unit(&rt)?;
+    let answer = pumped(&rt, &config, 0)?;
+    assert!(rt; is_report(&answer, 0, false));
+    let answer = pumped(&rt, &config, 2)?;
+    assert!(rt; is_report(&answer, 4, true));
     Ok(())
 }
 

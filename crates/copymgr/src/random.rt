@@ -1,10 +1,10 @@
 // Random traces of three initiators, whose replies are compared with those of plain answers.
 
-ghost use Rattle.std.specs.Prelude.{◌≡◌, ◌*◌, ◌<◌, ◌≤◌, ℕ, List, length, IfOk, OnOk};
+ghost use Rattle.std.specs.Prelude.{◌≡◌, ◌*◌, ◌<◌, ◌≤◌, ℕ, List, length, true, IfOk, OnOk};
 ghost use Rattle.cm_base.specs.Configuration.{Configuration};
-ghost use Rattle.cm_base.specs.Units.{unit_of};
 ghost use Rattle.cm_history.specs.declared.act.Entry.{Entry};
-ghost use Rattle.cm_history.specs.PlainHolds.{IsPlainAct, ArePlain};
+ghost use Rattle.cm_history.specs.Limits.{within_limits};
+ghost use Rattle.cm_history.specs.PlainHolds.{AreWithin};
 
 use crate::status::Status;
 use crate::top::top;
@@ -12,7 +12,7 @@ use cm_base::{
     Bytes, CallList, Config, MemorySink, MemorySource, Payload, UnitConfig, UnitList, Word,
 };
 use cm_frame::{Request, TraceItem, write_header, write_item};
-use cm_history::{Act, Actor, Answer, Entry, History, plain_answer};
+use cm_history::{Act, Actor, Answer, Entry, History, plain_answer, within_limits};
 use lba_ranges::BlockList;
 use scsi_cdb::{Cdb, encode};
 use std::alloc::Global;
@@ -109,7 +109,6 @@ impl Command {
     /// The act that is asked for.
     fn act(&self, alloc: Global, block_length: u32) -> Result<Act, Fail>
         requires { block_length ≤ 4096 }
-        ensures { IfOk result (IsPlainAct block_length) }
     {
         let lba = u64::from(self.lba);
         let count = u32::from(self.count);
@@ -119,6 +118,18 @@ impl Command {
         let bytes = self.blocks(alloc, block_length)?;
         let list = BlockList::from_payload(alloc, block_length, count, bytes)?;
         Ok(Act::Write { lba, list })
+    }
+}
+
+/// The act, if it is within its limits.
+fn allowed(config: &Config, unit: u16, act: Act) -> Result<Act, &'static str>
+    requires { unit < length config.now.units }
+    ensures { IfOk result (λ act. within_limits config.now unit act ≡ true) }
+{
+    if within_limits(config, unit, &act) {
+        Ok(act)
+    } else {
+        Err("an act is beyond its limits")
     }
 }
 
@@ -181,9 +192,9 @@ fn reply(alloc: Global, replies: &mut Bytes, initiator: u32, answer: Answer) -> 
 
 /// Adds an entry to the end.
 fn append(config: &Config, history: &mut History, entry: Entry) -> Result<(), Fail>
-    requires act { IsPlainAct (unit_of config.now entry.unit).block_length entry.act }
-    requires plain { (unit : ℕ) → ArePlain config.now unit history.old.entries }
-    ensures { OnOk result ((unit : ℕ) → ArePlain config.now unit history.new.entries) }
+    requires act { within_limits config.now entry.unit entry.act ≡ true }
+    requires within { (unit : ℕ) → AreWithin config.now unit history.old.entries }
+    ensures { OnOk result ((unit : ℕ) → AreWithin config.now unit history.new.entries) }
 {
     let _config = config;
     history.reserve(1)?;
@@ -193,7 +204,7 @@ fn append(config: &Config, history: &mut History, entry: Entry) -> Result<(), Fa
 
 impl Trace {
     fn empty(alloc: Global, config: &Config) -> Result<Trace, Fail>
-        ensures { IfOk result (λ trace. (unit : ℕ) → ArePlain config.now unit trace.history.entries) }
+        ensures { IfOk result (λ trace. (unit : ℕ) → AreWithin config.now unit trace.history.entries) }
     {
         let idle = Initiator {
             seq: 0,
@@ -217,8 +228,8 @@ impl Trace {
         command: Command,
     ) -> Result<(), Fail>
         requires configured { command.unit < length config.now.units }
-        requires plain { (unit : ℕ) → ArePlain config.now unit self.old.history.entries }
-        ensures { OnOk result ((unit : ℕ) → ArePlain config.now unit self.new.history.entries) }
+        requires within { (unit : ℕ) → AreWithin config.now unit self.old.history.entries }
+        ensures { OnOk result ((unit : ℕ) → AreWithin config.now unit self.new.history.entries) }
     {
         let unit = command.unit;
         let out = command.out(alloc, config.unit(unit).block_length)?;
@@ -247,12 +258,13 @@ impl Trace {
         command: Command,
     ) -> Result<(), Fail>
         requires configured { command.unit < length config.now.units }
-        requires plain { (unit : ℕ) → ArePlain config.now unit self.old.history.entries }
-        ensures { OnOk result ((unit : ℕ) → ArePlain config.now unit self.new.history.entries) }
+        requires within { (unit : ℕ) → AreWithin config.now unit self.old.history.entries }
+        ensures { OnOk result ((unit : ℕ) → AreWithin config.now unit self.new.history.entries) }
     {
         let unit = command.unit;
         let actor = Actor::Nexus(initiator);
         let act = command.act(alloc, config.unit(unit).block_length)?;
+        let act = allowed(config, unit, act)?;
         let item = TraceItem::Run { initiator, moment };
         self.bytes.extend(write_item(alloc, &item)?.as_slice())?;
         let answer = plain_answer(alloc, config, &self.history, unit, actor, moment, &act)?;
@@ -270,8 +282,8 @@ impl Trace {
 
     /// Adds an item of one of the initiators: the Run of its command that waits, or a Begin.
     fn step(&mut self, alloc: Global, config: &Config, random: &mut Generator) -> Result<(), Fail>
-        requires plain { (unit : ℕ) → ArePlain config.now unit self.old.history.entries }
-        ensures { OnOk result ((unit : ℕ) → ArePlain config.now unit self.new.history.entries) }
+        requires within { (unit : ℕ) → AreWithin config.now unit self.old.history.entries }
+        ensures { OnOk result ((unit : ℕ) → AreWithin config.now unit self.new.history.entries) }
     {
         let number = random.below(3);
         let moment = u64::from(random.below(9));

@@ -216,16 +216,16 @@ impl PlainUnit {
             return Ok(PlainOutcome::told(alloc, otherwise));
         };
         let piece = operation.next_piece(alloc)?;
+        let before = operation.count();
         if self.past.mapped_with(unit.blocks, &piece) > unit.quota {
+            let state = OpState::Failed(refusals::quota_sense());
+            let count = before;
             return Ok(PlainOutcome {
-                answer: Answer::Progress {
-                    state: OpState::Failed(refusals::quota_sense()),
-                    count: operation.count(),
-                },
+                answer: Answer::Progress { state, count },
                 wrote: PlainWritings::new(alloc),
             });
         }
-        let count = operation.count() + piece.len() as u32;
+        let count = before + piece.len() as u32;
         let state = if u64::from(count) == operation.blocks() {
             OpState::Done
         } else {

@@ -1,6 +1,6 @@
 use Rattle.std.proofs.Common.{ℕ}
-use Rattle.cm_history.specs.PlainHolds.{ArePlain}
+use Rattle.cm_history.specs.PlainHolds.{AreWithin}
 use Rattle.copymgr.proofs.random.Trace.random.Given as goal
 
 abbrev pub invariant-loop : goal.invariant-loop
-invariant-loop l = (unit : ℕ) → ArePlain l.config unit l.trace.history.entries
+invariant-loop l = (unit : ℕ) → AreWithin l.config unit l.trace.history.entries
