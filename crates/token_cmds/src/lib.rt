@@ -12,3 +12,8 @@ mod status;
 mod writing;
 
 pub use command::TokenCommand;
+
+#[cfg(test)]
+mod driving;
+#[cfg(test)]
+mod tests;
