@@ -13,3 +13,8 @@ mod recall;
 mod stage;
 
 pub use command::CopyCommand;
+
+#[cfg(test)]
+mod driving;
+#[cfg(test)]
+mod tests;
