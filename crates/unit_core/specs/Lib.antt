@@ -6,3 +6,4 @@ pub mod BlockChanges
 pub mod JobChanges
 pub mod TokenChanges
 pub mod Planning
+pub mod Asked

@@ -1,6 +1,8 @@
 ghost use Rattle.std.specs.Prelude.{◌≡◌, length};
 
 mod asking;
+mod histories;
+mod random_acts;
 
 use super::*;
 use asking::{
