@@ -10,6 +10,7 @@ use cm_history::{
     Act, ActRefused, Actor, Answer, CopyState, Entry, History, OpState, plain_answer, within_limits,
 };
 use lba_ranges::BlockList;
+use scsi_sense::Sense;
 use std::alloc::Global;
 use std::test::Fail;
 
@@ -20,17 +21,17 @@ const ACTS: u32 = 40;
 fn machine(alloc: Global) -> Result<Config, Fail>
     ensures { IfOk result (λ config. length config.units ≡ 2) }
 {
+    let unit = UnitConfig {
+        blocks: 40,
+        block_length: 512,
+        entries: 4096,
+        quota: 25,
+        payload: 1_048_576,
+        group: 0,
+    };
     let mut units = UnitList::empty(alloc);
-    for _ in 0..2 {
-        units.push(UnitConfig {
-            blocks: 40,
-            block_length: 512,
-            entries: 4096,
-            quota: 25,
-            payload: 1_048_576,
-            group: 0,
-        })?;
-    }
+    units.push(unit)?;
+    units.push(unit)?;
     Ok(Config::new([7; 32], units))
 }
 
@@ -47,13 +48,18 @@ fn same_blocks(a: &BlockList, b: &BlockList) -> bool {
     true
 }
 
+/// The same sense.
+fn same_sense(a: &Sense, b: &Sense) -> bool {
+    (a.key(), a.asc(), a.ascq()) == (b.key(), b.asc(), b.ascq())
+}
+
 /// The same state of an operation.
-fn same_state(a: OpState, b: OpState) -> bool {
+fn same_state(a: &OpState, b: &OpState) -> bool {
     match (a, b) {
         (OpState::Running, OpState::Running)
         | (OpState::Done, OpState::Done)
         | (OpState::Terminated, OpState::Terminated) => true,
-        (OpState::Failed(a), OpState::Failed(b)) => a == b,
+        (OpState::Failed(a), OpState::Failed(b)) => same_sense(a, b),
         _ => false,
     }
 }
@@ -74,9 +80,9 @@ fn same_word(a: &Answer, b: &Answer) -> bool {
     match (a, b) {
         (Answer::Done, Answer::Done) | (Answer::Idle, Answer::Idle) => true,
         (Answer::Made { serial: a }, Answer::Made { serial: b }) => a == b,
-        (Answer::Refused(a), Answer::Refused(b)) => a == b,
+        (Answer::Refused(a), Answer::Refused(b)) => same_sense(a, b),
         (Answer::Progress { state: a, count: m }, Answer::Progress { state: b, count: n }) => {
-            m == n && same_state(*a, *b)
+            m == n && same_state(a, b)
         }
         _ => false,
     }
@@ -88,7 +94,7 @@ fn same_report(a: &Answer, b: &Answer) -> bool {
         (Answer::Report(a), Answer::Report(b)) => {
             (a.populate, a.background, a.count, a.serial)
                 == (b.populate, b.background, b.count, b.serial)
-                && same_state(a.state, b.state)
+                && same_state(&a.state, &b.state)
         }
         (Answer::Copy(a), Answer::Copy(b)) => {
             (a.segments, a.bytes) == (b.segments, b.bytes) && same_copy_state(a.state, b.state)
@@ -157,6 +163,20 @@ fn is_as_plain(
     Ok(is_answered_so(told, &plain))
 }
 
+/// An entry, of which neither stamp nor place matters to what is answered.
+fn entry(unit: u16, actor: Actor, moment: u64, act: Act) -> Entry
+    ensures { result ≡ record { stamp = 0; unit = unit; actor = actor; seq = 0; moment = moment; act = act } }
+{
+    Entry {
+        stamp: 0,
+        unit,
+        actor,
+        seq: 0,
+        moment,
+        act,
+    }
+}
+
 /// What is asked next: a pump's act, or one of two initiators.
 fn next_entry(
     alloc: Global,
@@ -169,20 +189,12 @@ fn next_entry(
     ensures may { IfOk result (λ e. may_ask number e.actor e.act ≡ true) }
 {
     let moment = u64::from(numbers.below(60));
-    let (actor, act) = if numbers.below(10) == 0 {
-        (Actor::Pump(number), Act::Pump)
-    } else {
-        let nexus = numbers.below(2);
-        (Actor::Nexus(nexus), random_act(alloc, config, number, numbers)?)
-    };
-    Ok(Entry {
-        stamp: 0,
-        unit: number,
-        actor,
-        seq: 0,
-        moment,
-        act,
-    })
+    if numbers.below(10) == 0 {
+        return Ok(entry(number, Actor::Pump(number), moment, Act::Pump));
+    }
+    let actor = Actor::Nexus(numbers.below(2));
+    let act = random_act(alloc, config, number, numbers)?;
+    Ok(entry(number, actor, moment, act))
 }
 
 /// Plays a random history on a unit. Whether each answer was that of the plain model.
