@@ -64,7 +64,11 @@ fn is_as_worked(alloc: Global, row: &Row, step: usize) -> Result<bool, Fail>
 fn worked_traces(rt: HostRuntime) -> Result<(), Fail> {
     for row in &ROWS {
         for step in [1, 7, 4096] {
-            assert!(rt; is_as_worked(rt.alloc(), row, step)?, "{} by {step}", row.name);
+            assert!(rt;
+                is_as_worked(rt.alloc(), row, step)?,
+                "{} by {step}",
+                row.name
+            );
         }
     }
     Ok(())
@@ -74,7 +78,11 @@ fn worked_traces(rt: HostRuntime) -> Result<(), Fail> {
 fn worked_traces_of_tokens(rt: HostRuntime) -> Result<(), Fail> {
     for row in &tokens::ROWS {
         for step in [1, 7, 4096] {
-            assert!(rt; is_as_worked(rt.alloc(), row, step)?, "{} by {step}", row.name);
+            assert!(rt;
+                is_as_worked(rt.alloc(), row, step)?,
+                "{} by {step}",
+                row.name
+            );
         }
     }
     Ok(())

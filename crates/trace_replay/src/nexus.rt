@@ -44,7 +44,12 @@ fn has_given_up(given_up: bool, outcome: &Outcome) -> bool
 
 /// The next step of a command, and whether it has given up. It gives up where memory is wanted for
 /// the step, which is then another one.
-fn next_step(alloc: Global, config: &Config, command: &mut AnyCommand, given_up: bool) -> (Step, bool)
+fn next_step(
+    alloc: Global,
+    config: &Config,
+    command: &mut AnyCommand,
+    given_up: bool,
+) -> (Step, bool)
     requires sound { IsSound config.now command.old }
     requires stands { IsCommand config.now command.old given_up }
     ensures sound { IsSound config.now command.new }

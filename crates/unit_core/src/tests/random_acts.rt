@@ -75,9 +75,17 @@ fn act_on_blocks(alloc: Global, numbers: &mut Numbers) -> Result<Act, Fail>
         0 => Ok(Act::Read { lba, count: 3 }),
         1 => Ok(Act::Capture { lba, count: 3 }),
         2 => Ok(Act::MapStatus { lba }),
-        3 => Ok(Act::Unmap { ranges: ranges(alloc, numbers)? }),
-        4 => Ok(Act::Put { lba, list: blocks(alloc, numbers)? }),
-        _ => Ok(Act::Write { lba, list: mapped_blocks(alloc, numbers)? }),
+        3 => Ok(Act::Unmap {
+            ranges: ranges(alloc, numbers)?,
+        }),
+        4 => Ok(Act::Put {
+            lba,
+            list: blocks(alloc, numbers)?,
+        }),
+        _ => Ok(Act::Write {
+            lba,
+            list: mapped_blocks(alloc, numbers)?,
+        }),
     }
 }
 
@@ -103,7 +111,9 @@ fn act_on_tokens(
     ensures { IfOk result IsOfNexus }
 {
     match numbers.below(8) {
-        0 => Ok(Act::Delete { serial: u64::from(numbers.below(8)) }),
+        0 => Ok(Act::Delete {
+            serial: u64::from(numbers.below(8)),
+        }),
         1 | 2 | 3 => Ok(Act::Populate {
             id: numbers.below(3),
             timeout: numbers.below(30) + 1,
