@@ -105,11 +105,25 @@ fn worked_traces_of_operations(rt: HostRuntime) -> Result<(), Fail> {
 }
 
 #[test]
-fn worked_long_traces(rt: HostRuntime) -> Result<(), Fail> {
-    for rows in [&evictions::ROWS, &usual_copy::ROWS, &generated::ROWS] {
-        for row in rows {
-            assert!(rt; is_as_worked(rt.alloc(), row, 512)?, "{}", row.name);
-        }
+fn worked_trace_of_many_tokens(rt: HostRuntime) -> Result<(), Fail> {
+    for row in &evictions::ROWS {
+        assert!(rt; is_as_worked(rt.alloc(), row, 512)?, "{}", row.name);
+    }
+    Ok(())
+}
+
+#[test]
+fn worked_usual_copy(rt: HostRuntime) -> Result<(), Fail> {
+    for row in &usual_copy::ROWS {
+        assert!(rt; is_as_worked(rt.alloc(), row, 512)?, "{}", row.name);
+    }
+    Ok(())
+}
+
+#[test]
+fn worked_generated_trace(rt: HostRuntime) -> Result<(), Fail> {
+    for row in &generated::ROWS {
+        assert!(rt; is_as_worked(rt.alloc(), row, 512)?, "{}", row.name);
     }
     Ok(())
 }
