@@ -120,14 +120,6 @@ fn worked_usual_copy(rt: HostRuntime) -> Result<(), Fail> {
     Ok(())
 }
 
-#[test]
-fn worked_generated_trace(rt: HostRuntime) -> Result<(), Fail> {
-    for row in &generated::ROWS {
-        assert!(rt; is_as_worked(rt.alloc(), row, 512)?, "{}", row.name);
-    }
-    Ok(())
-}
-
 /// A POPULATE TOKEN of one block with a list identifier, and its Run.
 fn populate(alloc: Global, trace: &mut Bytes, id: u32) -> Result<(), Fail> {
     trace.extend(&hex::decode(alloc, "01000000010000000000000000000000200000831000000000")?)?;
@@ -147,19 +139,24 @@ fn information(alloc: Global, trace: &mut Bytes, id: u32) -> Result<(), Fail> {
     Ok(())
 }
 
-/// Plays bytes, and says whether the replies begin with so many GOOD ones, and then are these.
-fn replies_are(alloc: Global, trace: Bytes, good: usize, last: &[&str]) -> Result<bool, Fail> {
+/// Plays bytes, and says whether these are the replies.
+fn replies_are(alloc: Global, trace: Bytes, replies: &Bytes) -> Result<bool, Fail> {
     let mut words = Vec::new(alloc);
     words.push(Word::from_text(alloc, "replay")?)?;
     let mut input = MemorySource::new(trace, 4096, CallList::empty(alloc));
     let mut output = MemorySink::new(alloc, 4096, CallList::empty(alloc));
     let status = top(alloc, &words, &mut input, &mut output);
+    Ok(status == Status::Done && output.as_slice() == replies.as_slice())
+}
+
+/// 257 GOOD replies, and then those of two reports, of which the first finds no record.
+fn dropped_replies(alloc: Global) -> Result<Bytes, Fail> {
     let mut replies = Bytes::empty(alloc);
-    for _ in 0..good {
+    for _ in 0..257 {
         replies.extend(&hex::decode(alloc, "00000001000000000000")?)?;
     }
-    replies.extend(bytes_of(alloc, last)?.as_slice())?;
-    Ok(status == Status::Done && output.as_slice() == replies.as_slice())
+    replies.extend(bytes_of(alloc, &operations::DROPPED)?.as_slice())?;
+    Ok(replies)
 }
 
 /// Of 257 populates the record of the first is gone, and that of the second is there.
@@ -172,7 +169,36 @@ fn the_257th_record_drops_the_first(rt: HostRuntime) -> Result<(), Fail> {
     }
     information(alloc, &mut trace, 0)?;
     information(alloc, &mut trace, 1)?;
-    assert!(rt; replies_are(alloc, trace, 257, &operations::DROPPED)?);
+    let replies = dropped_replies(alloc)?;
+    assert!(rt; replies_are(alloc, trace, &replies)?);
+    Ok(())
+}
+
+fn first_rounds(alloc: Global) -> Result<Bytes, Fail> {
+    bytes_of(alloc, &generated::FIRST_ROUNDS)
+}
+
+fn middle_rounds(alloc: Global) -> Result<Bytes, Fail> {
+    bytes_of(alloc, &generated::MIDDLE_ROUNDS)
+}
+
+fn last_rounds(alloc: Global) -> Result<Bytes, Fail> {
+    bytes_of(alloc, &generated::LAST_ROUNDS)
+}
+
+fn generated_replies(alloc: Global) -> Result<Bytes, Fail> {
+    bytes_of(alloc, &generated::REPLIES)
+}
+
+/// The replies of a generated trace of 20 rounds, which is put together of its parts.
+#[test]
+fn worked_generated_trace(rt: HostRuntime) -> Result<(), Fail> {
+    let alloc = rt.alloc();
+    let mut trace = first_rounds(alloc)?;
+    trace.extend(middle_rounds(alloc)?.as_slice())?;
+    trace.extend(last_rounds(alloc)?.as_slice())?;
+    let replies = generated_replies(alloc)?;
+    assert!(rt; replies_are(alloc, trace, &replies)?);
     Ok(())
 }
 
