@@ -1,10 +1,10 @@
-ghost use Rattle.std.specs.Prelude.{◌≡◌, ◌≢◌, ℕ, ◌<◌, ◌≤◌, ◌^◌, List, length, map, Option, None, is_some, Bool, false, IfOk, OnOk, OnErr, IfSome, IsTrue};
+ghost use Rattle.std.specs.Prelude.{◌≡◌, ◌≢◌, ℕ, ◌+◌, ◌<◌, ◌≤◌, ◌^◌, List, length, map, Option, None, is_some, Bool, false, IfOk, OnOk, OnErr, IfSome, IsTrue};
 ghost use Rattle.std.specs.Option.{option_copied};
-ghost use Rattle.lba_ranges.specs.Denoted.{blocks_of, total, is_within, is_overlapping};
-ghost use Rattle.lba_ranges.specs.Writings.{paired, unmapped, after, mapped_below};
+ghost use Rattle.lba_ranges.specs.Denoted.{row, blocks_of, total, is_within, is_overlapping};
+ghost use Rattle.lba_ranges.specs.Writings.{paired, unmapped, after, mapped_below, mapped_among};
 
 use crate::list::BlockList;
-use crate::ranges::RangeList;
+use crate::ranges::{Range, RangeList};
 use cm_base::OutOfMemory;
 use std::alloc::Global;
 
@@ -32,6 +32,11 @@ pub trait Blocks: Sized {
     fn mapped(&self) -> u64
         ensures mapped { result ≡ mapped_below (blocks self.now) (holds self.now) }
         ensures fits { blocks self.now < 2 ^ 64 };
+
+    /// How many blocks of a range are mapped. It takes no memory.
+    fn mapped_in(&self, range: Range) -> u64
+        requires { range.lba + range.count ≤ blocks self.now }
+        ensures { result ≡ mapped_among (holds self.now) (row range.lba range.count) };
 
     /// The end of the run at a block: up to it all blocks are mapped, or all are unmapped.
     /// It takes no memory.
