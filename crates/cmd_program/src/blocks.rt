@@ -11,7 +11,7 @@ ghost use Rattle.cmd_program.specs.Meaning.{IsSoundPhase, IsWritable, FitsReply,
 
 use crate::phase::Phase;
 use crate::step::Step;
-use cm_base::{Bytes, OutOfMemory, Payload};
+use cm_base::{OutOfMemory, Payload};
 use cm_frame::Reply;
 use cm_history::{Act, Answer};
 use lba_ranges::BlockList;
@@ -36,9 +36,7 @@ pub(crate) fn blocks_told(alloc: Global, list: &BlockList) -> Result<Step, OutOf
     ensures told { IfOk result (λ s. s ≡ Step.Done (Reply.Good (blocks_bytes list.now))) }
     ensures fits { IfOk result IsWritable }
 {
-    let mut bytes = Bytes::empty(alloc);
-    list.read_into(&mut bytes)?;
-    Ok(Step::Done(Reply::Good(Payload::from_vec(bytes.into_vec())?)))
+    Ok(Step::Done(Reply::Good(list.payload(alloc)?)))
 }
 
 /// A WRITE, whose data-out is the bytes of its blocks.

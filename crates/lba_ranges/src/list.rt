@@ -201,6 +201,34 @@ impl BlockList {
         Ok(())
     }
 
+    /// The bytes of all blocks, where they stand in one piece.
+    fn whole(&self) -> Option<&Payload>
+        ensures { IfSome result (λ bytes. bytes.now ≡ blocks_bytes self.now) }
+    {
+        let [piece] = self.pieces.as_slice() else {
+            return None;
+        };
+        match &piece.fill {
+            Fill::Hole => None,
+            Fill::Bytes(bytes) => Some(bytes),
+        }
+    }
+
+    /// The bytes of all blocks; an unmapped block's are zeros. They are shared where they stand in
+    /// one piece, and gathered otherwise.
+    pub fn payload(&self, alloc: Global) -> Result<Payload, OutOfMemory>
+        ensures bytes { IfOk result (λ bytes. bytes ≡ blocks_bytes self.now) }
+        ensures length { length (blocks_bytes self.now) ≡ length self.now.items * self.now.block_length }
+    {
+        let _block_length = self.block_length;
+        if let Some(bytes) = self.whole() {
+            return Ok(bytes.clone()?);
+        }
+        let mut bytes = Bytes::empty(alloc);
+        self.read_into(&mut bytes)?;
+        Ok(Payload::from_vec(bytes.into_vec())?)
+    }
+
     /// Adds some blocks of a run, which share its bytes.
     fn push_part(&mut self, piece: &Piece, from: u32, count: u32) -> Result<(), OutOfMemory>
         requires full { IsFull self.old.block_length piece.now.count piece.now.fill }

@@ -60,3 +60,20 @@ fn blocks(rt: HostRuntime) -> Result<(), Fail> {
     assert!(rt; items[1].is_none());
     Ok(())
 }
+
+/// The bytes of one piece, and those of two.
+#[test]
+fn payload(rt: HostRuntime) -> Result<(), Fail> {
+    let alloc = rt.alloc();
+    let bytes = Payload::copy_from_slice(alloc, &[1, 2, 3, 4])?;
+    let mut list = BlockList::from_payload(alloc, 2, 2, bytes)?;
+    let one = list.payload(alloc)?;
+    assert!(rt; one.as_slice() == [1, 2, 3, 4].as_slice());
+    list.push(Piece {
+        count: 1,
+        fill: Fill::Hole,
+    })?;
+    let two = list.payload(alloc)?;
+    assert!(rt; two.as_slice() == [1, 2, 3, 4, 0, 0].as_slice());
+    Ok(())
+}
