@@ -4,7 +4,7 @@ use Rattle.std.specs.Prelude.{min, slice_range}
 use Rattle.std.proofs.lemmas.List.{take_min, drop_min}
 use Rattle.std.proofs.lemmas.Grind.{common_steps}
 
-drop-append-all : {X : Type 0} (xs ys : List X) (k : ℕ) → drop k (xs ++ ys) ≡ drop k xs ++ drop (k - length xs) ys
+pub drop-append-all : {X : Type 0} (xs ys : List X) (k : ℕ) → drop k (xs ++ ys) ≡ drop k xs ++ drop (k - length xs) ys
 drop-append-all [] ys k = grind (arith, common_steps)
 drop-append-all (x ∷ xs) ys zero = grind (arith, common_steps)
 drop-append-all (x ∷ xs) ys (suc k) = drop-append-all xs ys k ∙ grind (arith, common_steps)

@@ -1,14 +1,15 @@
 -- How writings change what is held, and how many blocks are mapped
 use Rattle.std.proofs.Common.{◌≡◌, ℕ, zero, suc, ◌+◌, ◌<◌, ◌≤◌, List, [], ◌∷◌, ◌++◌, length, take, get_or, length-take-le, refl, ap, sym, ◌∙◌, arith, true, false, Bool, inl, inr}
-use Rattle.std.specs.Prelude.{is_some, None, ◌⊎◌, ◌==◌, ◌&&◌, nat_le, nat_lt, if◌then◌else◌}
-use Rattle.std.specs.List.{list_any, AllByRecursion}
+use Rattle.std.specs.Prelude.{is_some, None, ◌⊎◌, ◌==◌, ◌&&◌, nat_le, nat_lt, if◌then◌else◌, replicate}
+use Rattle.std.specs.List.{list_any, AllByRecursion, count_by}
 use Rattle.std.proofs.lemmas.Bool.{cases_eq, or_parts, ne_eqb}
-use Rattle.std.proofs.lemmas.List.{take_more}
+use Rattle.std.proofs.lemmas.List.{take_more, length-replicate}
+use Rattle.std.proofs.lemmas.List.Sums.{sum_by-cons}
 use Rattle.std.proofs.lemmas.Bool.Decides.{nat_tests}
 use Rattle.lba_ranges.specs.HeldBlocks.{held_at}
-use Rattle.lba_ranges.proofs.Cells.{take-held}
+use Rattle.lba_ranges.proofs.Cells.{take-held, count-holes}
 use Rattle.lba_ranges.specs.Denoted.{row, has_repeat}
-use Rattle.lba_ranges.specs.Writings.{Held, Writing, paired, unmapped, after, is_written, mapped_below}
+use Rattle.lba_ranges.specs.Writings.{Held, Writing, paired, unmapped, after, is_written, mapped_below, mapped_among}
 
 -- 1 for a mapped block
 abbrev pub one_if : Bool → ℕ
@@ -104,6 +105,44 @@ mapped-push n now ws w low new =
     ap (λ (v : Held). mapped_below n next + one_if (is_some v)) (sym here)
     ∙ mapped-set n w.block before next low others
     ∙ ap (λ (v : Held). mapped_below n before + one_if (is_some v)) at_it
+
+-- a block that is not in the list is not counted with it
+among-others : (f g : ℕ → Held) (bs : List ℕ) (b : ℕ) → list_any (λ a. a == b) bs ≡ false → ((a : ℕ) → (b ≡ a → ⊥) → g a ≡ f a)
+    → mapped_among g bs ≡ mapped_among f bs
+among-others f g [] b e others = refl
+among-others f g (a ∷ bs) b e others =
+    let both = or_parts (a == b) (list_any (λ c. c == b) bs) e in
+    let differs : b ≡ a → ⊥ = λ same. (let test : (a == b) ≡ true = grind (arith, nat_tests) in let no = sym both.0 ∙ test in cc) in
+    rw (others a differs, among-others f g bs b both.1 others) refl
+
+-- a list that is put to blocks: its mapped items count in place of what they held
+pub mapped-put : (n : ℕ) (now : ℕ → Held) (bs : List ℕ) (xs : List Held) → length bs ≡ length xs → has_repeat bs ≡ false → AllByRecursion (λ b. b < n) bs
+    → mapped_below n (λ b. after (paired bs xs) b (now b)) + mapped_among now bs ≡ mapped_below n now + count_by is_some xs
+mapped-put n now [] [] len apart below = refl
+mapped-put n now [] (x ∷ xs) len apart below = absurd (omega arith)
+mapped-put n now (b ∷ bs) [] len apart below = absurd (omega arith)
+mapped-put n now (b ∷ bs) (x ∷ xs) len apart below =
+    let both = or_parts (list_any (λ a. a == b) bs) (has_repeat bs) apart in
+    let next : ℕ → Held = λ a. if b == a then x else now a in
+    let others : (a : ℕ) → (b ≡ a → ⊥) → next a ≡ now a = λ a e. (let differs : (b == a) ≡ false = grind (arith, nat_tests) in rw differs refl) in
+    let test : (b == b) ≡ true = grind (arith, nat_tests) in
+    let here : next b ≡ x = rw test refl in
+    let rest = mapped-put n next bs xs (omega arith) both.1 below.1 in
+    let among = among-others now next bs b both.0 others in
+    let moved = mapped-set n b now next below.0 others in
+    let step : mapped_below n next + one_if (is_some (now b)) ≡ mapped_below n now + one_if (is_some x) = moved ∙ ap (λ (held : Held). mapped_below n now + one_if (is_some held)) here in
+    let count = sum_by-cons (λ (held : Held). one_if (is_some held)) x xs in
+    omega (arith, rest, among, step, count)
+
+-- no more blocks of a list are mapped than of all
+pub among-le : (n : ℕ) (now : ℕ → Held) (bs : List ℕ) → has_repeat bs ≡ false → AllByRecursion (λ b. b < n) bs → mapped_among now bs ≤ mapped_below n now
+among-le n now bs apart below =
+    let put = mapped-put n now bs (replicate (length bs) None) (sym (length-replicate (length bs) None)) apart below in
+    omega (arith, put, count-holes (length bs))
+
+pub among-append : (held : ℕ → Held) (xs ys : List ℕ) → mapped_among held (xs ++ ys) ≡ mapped_among held xs + mapped_among held ys
+among-append held [] ys = omega arith
+among-append held (x ∷ xs) ys = let rest = among-append held xs ys in omega (arith, rest)
 
 -- one more block and its item
 pub paired-push : (bs : List ℕ) (xs : List Held) (b : ℕ) (x : Held) → length bs ≡ length xs

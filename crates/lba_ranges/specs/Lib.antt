@@ -1,4 +1,5 @@
 pub mod HeldBlocks
+pub mod Runs
 pub mod Denoted
 pub mod Writings
 pub mod Roomy

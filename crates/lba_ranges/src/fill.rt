@@ -1,6 +1,6 @@
 ghost use Rattle.std.specs.Prelude.{◌≡◌, ◌+◌, ◌*◌, ◌<◌, ◌≤◌, ◌^◌, ◌++◌, List, ℕ, length, slice_range, IfOk, OnOk, OnErr, is_some};
 ghost use Rattle.std.specs.Option.{option_copied};
-ghost use Rattle.std.specs.List.{list_all};
+ghost use Rattle.std.specs.List.{list_all, count_by};
 ghost use Rattle.lba_ranges.specs.HeldBlocks.{filled, IsFull, held_at, items_bytes};
 ghost use Rattle.cm_base.specs.Fields.{zeros};
 
@@ -101,6 +101,16 @@ impl Piece {
         match &self.fill {
             Fill::Hole => self.count == 0,
             Fill::Bytes(_) => true,
+        }
+    }
+
+    /// How many blocks of the run are mapped.
+    pub(crate) fn mapped(&self) -> u32
+        ensures { (size : ℕ) → result ≡ count_by is_some (filled size self.now.count self.now.fill) }
+    {
+        match &self.fill {
+            Fill::Hole => 0,
+            Fill::Bytes(_) => self.count,
         }
     }
 

@@ -1,10 +1,11 @@
 ghost use Rattle.std.specs.Prelude.{◌≡◌, ◌-◌, IfSome, true, false, ◌+◌, ◌*◌, ◌<◌, ◌≤◌, ◌^◌, ◌++◌, [], List, ℕ, length, slice_range, IfOk, OnOk, OnErr, is_some};
 ghost use Rattle.std.specs.Option.{option_copied};
-ghost use Rattle.std.specs.List.{list_all};
-ghost use Rattle.lba_ranges.specs.declared.fill.Fill.TheVariants.{Hole};
-ghost use Rattle.lba_ranges.specs.HeldBlocks.{IsHoleAtEnd, items_of, AllFull, HeldBlocks, filled, cut, IsFull, held_at, AllSized, blocks_bytes};
+ghost use Rattle.std.specs.List.{list_all, count_by};
+ghost use Rattle.lba_ranges.specs.Runs.{pieces_of};
+ghost use Rattle.lba_ranges.specs.HeldBlocks.{items_of, AllFull, HeldBlocks, filled, cut, IsFull, held_at, AllSized, blocks_bytes};
 
 use crate::fill::{Fill, Piece};
+use crate::runs::{Run, first_after, move_ends, push_joined};
 use cm_base::{Bytes, OutOfMemory, Payload};
 use std::alloc::Global;
 use std::marker::Model;
@@ -14,69 +15,24 @@ use std::marker::Model;
 pub struct BlockList {
     block_length: u32,
     count: u64,
-    pieces: Vec<Piece>,
+    runs: Vec<Run>,
 }
 
 impl Model for BlockList {
     ghost use Rattle.std.specs.Prelude.{◌≡◌, length};
-    ghost use Rattle.lba_ranges.specs.HeldBlocks.{IsHoleAtEnd, items_of, AllFull, HeldBlocks, items_of, AllFull};
+    ghost use Rattle.lba_ranges.specs.HeldBlocks.{items_of, AllFull, HeldBlocks};
+    ghost use Rattle.lba_ranges.specs.Runs.{pieces_of, Spans};
 
     ghost Value = { HeldBlocks };
 
     ghost view = { λ b. record {
       block_length = b.block_length;
-      items = items_of b.block_length b.pieces.items;
+      items = items_of b.block_length (pieces_of b.runs.items);
     } };
 
-    ghost invariant = { λ b. (b.count ≡ length (items_of b.block_length b.pieces.items))
-        × AllFull b.block_length b.pieces.items };
-}
-
-/// How long the hole at the end is with the blocks of a hole more: `None` where one of them is
-/// no hole, or a run can't be as long.
-fn widened(pieces: &[Piece], more: &Piece) -> Option<u32>
-    ensures hole { IfSome result (λ count. IsHoleAtEnd pieces.now (count - more.now.count)) }
-    ensures more { IfSome result (λ count. more.now.count ≤ count) }
-    ensures both { IfSome result (λ count. more.now.fill ≡ Hole) }
-{
-    let last = pieces.last()?;
-    match (&last.fill, &more.fill) {
-        (Fill::Hole, Fill::Hole) => last.count.checked_add(more.count),
-        _ => None,
-    }
-}
-
-/// Lets a hole at the end take in the blocks of a hole. Otherwise, at `false`, all stays.
-fn widen_hole(pieces: &mut Vec<Piece>, more: &Piece) -> bool
-    ensures widened { result ≡ true → (size : ℕ) → items_of size pieces.new.items
-        ≡ items_of size pieces.old.items ++ filled size more.now.count more.now.fill }
-    ensures full { (size : ℕ) → AllFull size pieces.old.items → AllFull size pieces.new.items }
-    ensures kept { result ≡ false → pieces.new ≡ pieces.old }
-{
-    let Some(count) = widened(pieces, more) else {
-        return false;
-    };
-    let last = pieces.len() - 1;
-    pieces[last] = Piece {
-        count,
-        fill: Fill::Hole,
-    };
-    true
-}
-
-/// Adds a run to the end; a hole joins the hole before it.
-fn push_joined(pieces: &mut Vec<Piece>, piece: Piece) -> Result<(), OutOfMemory>
-    ensures items { OnOk result ((size : ℕ) → items_of size pieces.new.items
-        ≡ items_of size pieces.old.items ++ filled size piece.count piece.fill) }
-    ensures full { OnOk result ((size : ℕ) → AllFull size pieces.old.items → IsFull size piece.count piece.fill
-        → AllFull size pieces.new.items) }
-    ensures err { OnErr result (pieces.new.items ≡ pieces.old.items) }
-{
-    if widen_hole(pieces, &piece) {
-        return Ok(());
-    }
-    pieces.push(piece)?;
-    Ok(())
+    ghost invariant = { λ b. (b.count ≡ length (items_of b.block_length (pieces_of b.runs.items)))
+        × AllFull b.block_length (pieces_of b.runs.items)
+        × Spans 0 b.runs.items b.count };
 }
 
 impl BlockList {
@@ -88,7 +44,7 @@ impl BlockList {
         BlockList {
             block_length,
             count: 0,
-            pieces: Vec::new(alloc),
+            runs: Vec::new(alloc),
         }
     }
 
@@ -130,12 +86,24 @@ impl BlockList {
     pub fn is_mapped(&self) -> bool
         ensures { result ≡ list_all is_some self.now.items }
     {
-        for piece in &self.pieces {
-            if !piece.is_mapped(self.block_length) {
+        for run in &self.runs {
+            if !run.piece.is_mapped(self.block_length) {
                 return false;
             }
         }
         true
+    }
+
+    /// How many blocks are mapped. It takes no memory.
+    pub fn mapped(&self) -> u64
+        ensures { result ≡ count_by is_some self.now.items }
+    {
+        let _all = self.count;
+        let mut blocks = 0;
+        for run in &self.runs {
+            blocks += u64::from(run.piece.mapped());
+        }
+        blocks
     }
 
     /// The bytes of a block. It takes no memory.
@@ -155,9 +123,9 @@ impl BlockList {
         }) }
         ensures err { OnErr result (self.new ≡ self.old) }
     {
-        let count = piece.count;
-        push_joined(&mut self.pieces, piece)?;
-        self.count += u64::from(count);
+        let end = self.count + u64::from(piece.count);
+        push_joined(&mut self.runs, end, piece)?;
+        self.count = end;
         Ok(())
     }
 
@@ -166,14 +134,9 @@ impl BlockList {
     pub fn held(&self, index: u64) -> Option<&[u8]>
         ensures { option_copied result ≡ held_at self.now.items index }
     {
-        let mut left = index;
-        for piece in &self.pieces {
-            if left < u64::from(piece.count) {
-                return piece.held(self.block_length, left as u32);
-            }
-            left -= u64::from(piece.count);
-        }
-        None
+        let runs = self.runs.as_slice();
+        let run = runs.get(first_after(runs, index))?;
+        run.piece.held(self.block_length, run.place(index))
     }
 
     /// What each block holds. The items share the list's bytes.
@@ -182,8 +145,8 @@ impl BlockList {
         ensures sized { IfOk result (λ v. AllSized self.now.block_length v.items) }
     {
         let mut items = Vec::new(alloc);
-        for piece in &self.pieces {
-            piece.push_items(self.block_length, &mut items)?;
+        for run in &self.runs {
+            run.piece.push_items(self.block_length, &mut items)?;
         }
         Ok(items)
     }
@@ -195,8 +158,8 @@ impl BlockList {
         ensures err { OnErr result ((part : List ℕ) × (into.new ≡ into.old ++ part)) }
         ensures length { length (blocks_bytes self.now) ≡ length self.now.items * self.now.block_length }
     {
-        for piece in &self.pieces {
-            piece.read_into(self.block_length, into)?;
+        for run in &self.runs {
+            run.piece.read_into(self.block_length, into)?;
         }
         Ok(())
     }
@@ -205,10 +168,10 @@ impl BlockList {
     fn whole(&self) -> Option<&Payload>
         ensures { IfSome result (λ bytes. bytes.now ≡ blocks_bytes self.now) }
     {
-        let [piece] = self.pieces.as_slice() else {
+        let [run] = self.runs.as_slice() else {
             return None;
         };
-        match &piece.fill {
+        match &run.piece.fill {
             Fill::Hole => None,
             Fill::Bytes(bytes) => Some(bytes),
         }
@@ -246,34 +209,62 @@ impl BlockList {
         self.push(part)
     }
 
+    /// Adds blocks of runs, which share their bytes: `count` of them, after the first `skip`.
+    fn push_window(&mut self, runs: &[Run], skip: u64, count: u64) -> Result<(), OutOfMemory>
+        requires full { AllFull self.old.block_length (pieces_of runs.now) }
+        requires within { skip + count ≤ length (items_of self.old.block_length (pieces_of runs.now)) }
+        requires room { length self.old.items + count < 2 ^ 64 }
+        ensures { OnOk result (self.new ≡ record self.old {
+          items = self.old.items ++ slice_range (items_of self.old.block_length (pieces_of runs.now)) skip (skip + count);
+        }) }
+    {
+        let mut skip = skip;
+        let mut left = count;
+        for run in runs {
+            if left == 0 {
+                return Ok(());
+            }
+            let whole = u64::from(run.piece.count);
+            let before = skip.min(whole);
+            let taken = left.min(whole - before);
+            self.push_part(&run.piece, before as u32, taken as u32)?;
+            skip -= before;
+            left -= taken;
+        }
+        Ok(())
+    }
+
     /// Some blocks of the list, which share its bytes.
     pub fn slice(&self, alloc: Global, from: u64, count: u64) -> Result<BlockList, OutOfMemory>
         requires { from + count ≤ length self.now.items }
         ensures { IfOk result (λ r. r ≡ record self.now { items = slice_range self.now.items from (from + count) }) }
     {
         let mut list = BlockList::empty(alloc, self.block_length);
-        let mut skip = from;
-        let mut left = count;
-        for piece in &self.pieces {
-            let whole = u64::from(piece.count);
-            let before = skip.min(whole);
-            let taken = left.min(whole - before);
-            list.push_part(piece, before as u32, taken as u32)?;
-            skip -= before;
-            left -= taken;
+        if count == 0 {
+            return Ok(list);
         }
+        let runs = self.runs.as_slice();
+        let first = first_after(runs, from);
+        let skip = runs[first].place(from);
+        list.push_window(&runs[first..], u64::from(skip), count)?;
         Ok(list)
     }
 
     /// Adds all blocks of another list to the end. At `OutOfMemory` the list is as before.
-    pub fn append(&mut self, mut other: BlockList) -> Result<(), OutOfMemory>
+    pub fn append(&mut self, other: BlockList) -> Result<(), OutOfMemory>
         requires size { self.old.block_length ≡ other.block_length }
         requires room { length self.old.items + length other.items < 2 ^ 64 }
         ensures ok { OnOk result (self.new ≡ record self.old { items = self.old.items ++ other.items }) }
         ensures err { OnErr result (self.new ≡ self.old) }
     {
-        self.pieces.append(&mut other.pieces)?;
-        self.count += other.count;
+        let BlockList {
+            mut runs,
+            count,
+            ..
+        } = other;
+        move_ends(&mut runs, self.count);
+        self.runs.append(&mut runs)?;
+        self.count += count;
         Ok(())
     }
 }

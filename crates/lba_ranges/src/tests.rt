@@ -1,5 +1,9 @@
+ghost use Rattle.std.specs.Prelude.{◌≡◌, ◌+◌, ◌<◌, ◌≤◌, length, IfOk};
+ghost use Rattle.lba_ranges.specs.HeldBlocks.{IsFull};
+
 use super::*;
 use cm_base::{Bytes, Payload};
+use std::alloc::Global;
 use std::test::Fail;
 
 /// Blocks 10, 11, 12, 20 and 21, and the part of them from 12 to 20.
@@ -48,7 +52,7 @@ fn blocks(rt: HostRuntime) -> Result<(), Fail> {
     let last = Payload::copy_from_slice(alloc, &[9, 9, 9, 9])?;
     list.append(BlockList::from_payload(alloc, 4, 1, last)?)?;
     let list = list.copy(alloc)?;
-    assert_eq!(rt; list.blocks(), 5);
+    assert!(rt; list.blocks() == 5 && list.mapped() == 3);
     let mut read = Bytes::empty(alloc);
     list.read_into(&mut read)?;
     assert!(rt;
@@ -75,5 +79,76 @@ fn payload(rt: HostRuntime) -> Result<(), Fail> {
     })?;
     let two = list.payload(alloc)?;
     assert!(rt; two.as_slice() == [1, 2, 3, 4, 0, 0].as_slice());
+    Ok(())
+}
+
+/// Some blocks of one byte each, one piece.
+fn piece(alloc: Global, bytes: &'static [u8]) -> Result<Piece, Fail>
+    requires { length bytes.now < 100 }
+    ensures { IfOk result (λ piece. IsFull 1 piece.count piece.fill × (piece.count ≡ length bytes.now)) }
+{
+    let count = bytes.len() as u32;
+    let fill = Fill::Bytes(Payload::copy_from_slice(alloc, bytes)?);
+    Ok(Piece { count, fill })
+}
+
+/// Three blocks, two holes, a piece without blocks and two blocks; then a hole and one block.
+fn pieces(alloc: Global) -> Result<BlockList, Fail>
+    ensures { IfOk result (λ list. length list.items ≡ 9) }
+{
+    let mut list = BlockList::empty(alloc, 1);
+    list.push(piece(alloc, &[1, 2, 3])?)?;
+    list.push(Piece {
+        count: 2,
+        fill: Fill::Hole,
+    })?;
+    list.push(piece(alloc, &[])?)?;
+    list.push(piece(alloc, &[6, 7])?)?;
+    let mut last = BlockList::empty(alloc, 1);
+    last.push(Piece {
+        count: 1,
+        fill: Fill::Hole,
+    })?;
+    last.push(piece(alloc, &[9])?)?;
+    list.append(last)?;
+    Ok(list)
+}
+
+/// What the blocks of a part hold, a byte each, and 0 where one is unmapped.
+fn read_part(alloc: Global, list: &BlockList, from: u64, count: u64) -> Result<Bytes, Fail>
+    requires { from + count ≤ length list.now.items }
+{
+    let mut read = Bytes::empty(alloc);
+    list.slice(alloc, from, count)?.read_into(&mut read)?;
+    Ok(read)
+}
+
+fn holds(list: &BlockList, index: u64, byte: u8) -> bool {
+    matches!(list.held(index), Some(bytes) if bytes == [byte].as_slice())
+}
+
+#[test]
+fn blocks_at_the_borders_of_pieces(rt: HostRuntime) -> Result<(), Fail> {
+    let list = pieces(rt.alloc())?;
+    assert!(rt; holds(&list, 0, 1) && holds(&list, 2, 3));
+    assert!(rt; list.held(3).is_none() && list.held(4).is_none());
+    assert!(rt; holds(&list, 5, 6) && holds(&list, 6, 7));
+    assert!(rt; list.held(7).is_none() && holds(&list, 8, 9) && list.held(9).is_none());
+    assert!(rt; list.blocks() == 9 && list.mapped() == 6 && !list.is_mapped());
+    Ok(())
+}
+
+#[test]
+fn parts_across_the_borders_of_pieces(rt: HostRuntime) -> Result<(), Fail> {
+    let alloc = rt.alloc();
+    let list = pieces(alloc)?;
+    assert!(rt;
+        read_part(alloc, &list, 0, 9)?.as_slice() == [1, 2, 3, 0, 0, 6, 7, 0, 9].as_slice()
+    );
+    assert!(rt; read_part(alloc, &list, 1, 3)?.as_slice() == [2, 3, 0].as_slice());
+    assert!(rt; read_part(alloc, &list, 4, 2)?.as_slice() == [0, 6].as_slice());
+    assert!(rt; read_part(alloc, &list, 6, 3)?.as_slice() == [7, 0, 9].as_slice());
+    assert!(rt; read_part(alloc, &list, 8, 1)?.as_slice() == [9].as_slice());
+    assert!(rt; read_part(alloc, &list, 5, 0)?.as_slice() == [].as_slice());
     Ok(())
 }

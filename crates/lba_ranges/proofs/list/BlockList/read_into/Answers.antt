@@ -1,17 +1,18 @@
 use Rattle.std.proofs.Common.{append_assoc}
-use Rattle.lba_ranges.proofs.Cells.{AllFull-at, items_of-more, items_bytes-append, length-items_bytes}
+use Rattle.lba_ranges.proofs.Cells.{items_bytes-append, length-items_bytes}
+use Rattle.lba_ranges.proofs.Spanning.{AllFull-at, items_of-more}
 use Rattle.lba_ranges.proofs.list.BlockList.read_into.Goals as goal
 
 pub read_into-requires : goal.read_into-requires
 read_into-requires c =
-    AllFull-at _ c.deref-piece-items.result.now _ _ (rw c.deref-piece-items.ensures.value c.self.invariant.1) c.loop-piece-test.true c.piece-item.is
+    AllFull-at _ c.deref-run-items.result.now _ _ (rw c.deref-run-items.ensures.value c.self.invariant.1) c.loop-run-test.true c.run-item.is
 
-pub loop-piece-preserved : goal.loop-piece-preserved
-loop-piece-preserved c =
+pub loop-run-preserved : goal.loop-run-preserved
+loop-run-preserved c =
     rw (
       c.in_ok-read_into.ensures.ok,
-      c.loop-piece.invariant,
-      items_of-more _ c.deref-piece-items.result.now _ _ c.loop-piece-test.true c.piece-item.is,
+      c.loop-run.invariant,
+      items_of-more _ c.deref-run-items.result.now _ _ c.loop-run-test.true c.run-item.is,
       items_bytes-append,
     )
     (append_assoc c.args.into.now _ _)
