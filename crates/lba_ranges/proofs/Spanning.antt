@@ -4,7 +4,7 @@ use Rattle.std.specs.Prelude.{Option, Some, None, slice_get, map, is_some, slice
 use Rattle.std.specs.List.{count_by}
 use Rattle.std.specs.List.Sorted.{IsNonDecreasingBy}
 use Rattle.std.proofs.lemmas.Bool.{cases_lt}
-use Rattle.std.proofs.lemmas.List.{take_more, take_all}
+use Rattle.std.proofs.lemmas.List.{take_more, take_all, take-append-le}
 use Rattle.std.proofs.lemmas.Grind.{common_steps}
 use Rattle.lba_ranges.specs.declared.fill.Fill.TheVariants.{Hole}
 use Rattle.lba_ranges.specs.declared.runs.Run.{Run}
@@ -184,6 +184,22 @@ window-in_run size rs place k at count r stands e some enough =
     let same : at + count - at ≡ count = omega arith in
     let same' : place + count - place ≡ count = omega arith in
     rw (runs-from rs k) (omega (arith, long, length-drop place all, length-drop at rest), rw (same, same') (ap (take count) (sym (stands.rest size at e))))
+
+take-drop-front : {X : Type 0} (xs ys : List X) (k n : ℕ) → k + n ≤ length xs → take n (drop k (xs ++ ys)) ≡ take n (drop k xs)
+take-drop-front xs ys zero n h = take-append-le n xs ys (omega arith)
+take-drop-front [] ys (suc k) n h = absurd (omega arith)
+take-drop-front (x ∷ xs) ys (suc k) n h = take-drop-front xs ys k n (omega arith)
+
+-- blocks of the run in which a place stands are those of the list from there on
+pub part-in_run : (size : ℕ) (rs : List Run) (place k at n : ℕ) (r : Run) → StandsIn rs place k r → at + r.end ≡ place + r.piece.count → at + n ≤ r.piece.count
+    → slice_range (filled size r.piece.count r.piece.fill) at (at + n) ≡ slice_range (items_of size (pieces_of rs)) place (place + n)
+part-in_run size rs place k at n r stands e enough =
+    let front = filled size r.piece.count r.piece.fill in
+    let later = items_of size (pieces_of (drop (k + 1) rs)) in
+    let fits : at + n ≤ length front = omega (arith, length-filled size r.piece.count r.piece.fill) in
+    let same : at + n - at ≡ n = omega arith in
+    let same' : place + n - place ≡ n = omega arith in
+    rw (same, same') (sym (ap (take n) (stands.rest size at e ∙ ap (drop at) (items_of-drop size rs k r stands.within stands.is)) ∙ take-drop-front front later at n fits))
 
 -- where no run ends after a place no block stands there
 Spans-end : (start end : ℕ) (rs : List Run) (place : ℕ) (d : Run) → Spans start rs end → start ≤ place

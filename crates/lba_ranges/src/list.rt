@@ -139,6 +139,22 @@ impl BlockList {
         run.piece.held(self.block_length, run.place(index))
     }
 
+    /// The piece that has a block of the list, and the block's place in it. It takes no memory.
+    pub(crate) fn piece_at(&self, index: u64) -> (&Piece, u32)
+        requires { index < length self.now.items }
+        ensures place { result.1 < result.0.now.count }
+        ensures full { IsFull self.now.block_length result.0.now.count result.0.now.fill }
+        ensures within { index + (result.0.now.count - result.1) ≤ length self.now.items }
+        ensures part { (count : ℕ) → result.1 + count ≤ result.0.now.count
+            → slice_range (filled self.now.block_length result.0.now.count result.0.now.fill) result.1 (result.1 + count)
+            ≡ slice_range self.now.items index (index + count) }
+    {
+        let _block_length = self.block_length;
+        let runs = self.runs.as_slice();
+        let run = &runs[first_after(runs, index)];
+        (&run.piece, run.place(index))
+    }
+
     /// What each block holds. The items share the list's bytes.
     pub fn items(&self, alloc: Global) -> Result<Vec<Option<Payload>>, OutOfMemory>
         ensures items { IfOk result (λ v. v.items ≡ self.now.items) }
