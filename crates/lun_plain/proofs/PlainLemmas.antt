@@ -1,16 +1,20 @@
 -- Blocks in a map: how many there are, and what is put there
-use Rattle.std.proofs.Common.{◌≡◌, ℕ, suc, ◌<◌, List, [], ◌∷◌, length, refl, ap, sym, ◌∙◌, subst, arith, true, false, Bool, cond, inl, inr, eqb}
-use Rattle.std.specs.Prelude.{Option, Some, None, is_some, ◌⊎◌, ◌||◌, ◌==◌}
-use Rattle.std.specs.List.{AllByRecursion, IsDistinct}
+use Rattle.std.proofs.Common.{◌≡◌, ℕ, suc, ◌<◌, List, [], ◌∷◌, length, refl, ap, sym, ◌∙◌, subst, arith, true, false, Bool, cond, inl, inr, eqb, leb, ltb, ◌+◌, zero}
+use Rattle.std.specs.Prelude.{Option, Some, None, is_some, ◌⊎◌, ◌||◌, ◌&&◌, ◌==◌}
+use Rattle.std.specs.List.{AllByRecursion, IsDistinct, count_by, filter}
 use Rattle.std.specs.Map.{keys_of}
 use Rattle.std.specs.BTreeMap.{is_at}
+use Rattle.std.specs.BTreeMap.Range.{entries_between, range_contains}
+use Rattle.std.proofs.lemmas.List.Sums.{length-filter, sum_by-cons}
+use Rattle.std.specs.declared.ops.Bound.TheVariants.{Included, Excluded}
 use Rattle.std.specs.Ordering.{nat_cmp, eq_by_cmp}
 use Rattle.std.specs.List.Sorted.{IsStrictlySortedBy}
 use Rattle.std.proofs.lemmas.Map.Keys.{IsDistinct-from_sorted, IsDistinct-head, IsDistinct-tail}
-use Rattle.std.proofs.lemmas.Bool.{cases_Bool, eqb-true}
+use Rattle.std.proofs.lemmas.Bool.{cases_Bool, cases_eq, eqb-true}
 use Rattle.std.proofs.lemmas.Bool.Decides.{nat_tests}
 use Rattle.lba_ranges.specs.HeldBlocks.{AllSized}
-use Rattle.lba_ranges.specs.Writings.{Held, Writing, paired, unmapped, after, mapped_below, is_written}
+use Rattle.lba_ranges.specs.Writings.{Held, Writing, paired, unmapped, after, mapped_below, mapped_among, is_written}
+use Rattle.lba_ranges.specs.Denoted.{row}
 use Rattle.lba_ranges.proofs.WritingLemmas.{one_if, mapped-none, mapped-set}
 use Rattle.lun_plain.specs.Plain.{stored, IsPlain, seen, is_among}
 
@@ -56,6 +60,64 @@ count_distinct n ((k, v) ∷ es) d below =
 -- the entries are as many as the blocks that are mapped
 pub count_mapped : (n size : ℕ) (es : List (ℕ × List ℕ)) → IsStrictlySortedBy nat_cmp (keys_of es) → IsPlain n size es → length es ≡ mapped_below n (stored es)
 count_mapped n size es ordered is = count_distinct n es (IsDistinct-from_sorted nat_cmp (keys_of es) ordered) is.below
+
+-- ---- how many in a row
+
+abbrev is_in_row : ℕ → ℕ → ℕ → Bool
+is_in_row lba n block = leb lba block && ltb block (lba + n)
+
+-- a row has one mapped block more once one of its blocks is mapped
+row_set : (lba n k : ℕ) (f g : ℕ → Held) → is_some (f k) ≡ false → is_some (g k) ≡ true → ((b : ℕ) → (k ≡ b → ⊥) → g b ≡ f b)
+    → mapped_among g (row lba n) ≡ cond (is_in_row lba n k) 1 0 + mapped_among f (row lba n)
+row_set lba zero k f g none some others = let out : is_in_row lba 0 k ≡ false = grind (arith, nat_tests) in rw out refl
+row_set lba (suc n) k f g none some others = go (cases_eq k lba) (row_set (suc lba) n k f g none some others)
+  where
+    go : (k ≡ lba) ⊎ (k ≡ lba → ⊥) → mapped_among g (row (suc lba) n) ≡ cond (is_in_row (suc lba) n k) 1 0 + mapped_among f (row (suc lba) n)
+        → mapped_among g (row lba (suc n)) ≡ cond (is_in_row lba (suc n) k) 1 0 + mapped_among f (row lba (suc n))
+    go (inl same) ih =
+        let here : is_in_row lba (suc n) k ≡ true = grind (arith, nat_tests) in
+        let later : is_in_row (suc lba) n k ≡ false = grind (arith, nat_tests) in
+        let was : one_if (is_some (f lba)) ≡ 0 = rw (← same, none) refl in
+        let now : one_if (is_some (g lba)) ≡ 1 = rw (← same, some) refl in
+        let rest = rw later at ih in
+        rw here (omega (arith, rest, was, now))
+    go (inr other) ih =
+        let alike : is_in_row lba (suc n) k ≡ is_in_row (suc lba) n k = grind (arith, nat_tests) in
+        rw (alike, others lba other) (omega (arith, ih))
+
+count_row : (lba n : ℕ) (es : List (ℕ × List ℕ)) → IsDistinct (eq_by_cmp nat_cmp) (keys_of es)
+    → count_by (λ (e : ℕ × List ℕ). is_in_row lba n e.0) es ≡ mapped_among (stored es) (row lba n)
+count_row lba n [] d = sym (among-none lba n)
+  where
+    among-none : (lba n : ℕ) → mapped_among (stored []) (row lba n) ≡ 0
+    among-none lba zero = refl
+    among-none lba (suc n) = let rest = among-none (suc lba) n in omega (arith, rest)
+count_row lba n ((k, v) ∷ es) d =
+    let head = IsDistinct-head (eq_by_cmp nat_cmp) k (keys_of es) d in
+    let tail = IsDistinct-tail (eq_by_cmp nat_cmp) k (keys_of es) d in
+    let more = count_row lba n es tail in
+    let own : eqb k k ≡ true = grind (arith, nat_tests) in
+    let here : is_some (stored ((k, v) ∷ es) k) ≡ true = ap is_some (stored-cons k v es k ∙ ap (λ t. cond t (Some v) (stored es k)) own) in
+    let gone : is_some (stored es k) ≡ false = ap is_some (absent k es head) in
+    let others : (b : ℕ) → (k ≡ b → ⊥) → stored ((k, v) ∷ es) b ≡ stored es b =
+    λ b e. stored-cons k v es b ∙ (let no : eqb k b ≡ false = grind (arith, nat_tests) in ap (λ t. cond t (Some v) (stored es b)) no) in
+    let step = row_set lba n k (stored es) (stored ((k, v) ∷ es)) gone here others in
+    let count = sum_by-cons (λ (e : ℕ × List ℕ). cond (is_in_row lba n e.0) 1 0) (k, v) es in
+    omega (arith, step, count, more)
+
+in_range : (lba n k : ℕ) → range_contains nat_cmp (Included lba) (Excluded (lba + n)) k ≡ is_in_row lba n k
+in_range lba n k = grind (arith, nat_tests)
+
+same_filter : (p q : ℕ × List ℕ → Bool) → ((e : ℕ × List ℕ) → p e ≡ q e) → (es : List (ℕ × List ℕ)) → filter p es ≡ filter q es
+same_filter p q same [] = refl
+same_filter p q same (e ∷ es) = rw (same e, same_filter p q same es) refl
+
+-- the entries of a row are as many as its blocks that are mapped
+pub count_between : (lba n end : ℕ) (es : List (ℕ × List ℕ)) → end ≡ lba + n → IsStrictlySortedBy nat_cmp (keys_of es)
+    → length (entries_between nat_cmp (Included lba) (Excluded end) es) ≡ mapped_among (stored es) (row lba n)
+count_between lba n end es e ordered =
+    let in_row = same_filter (λ (e : ℕ × List ℕ). range_contains nat_cmp (Included lba) (Excluded (lba + n)) e.0) (λ e. is_in_row lba n e.0) (λ e. in_range lba n e.0) es in
+    rw e (ap length in_row ∙ length-filter _ es ∙ count_row lba n es (IsDistinct-from_sorted nat_cmp (keys_of es) ordered))
 
 -- ---- room that was made and is not needed
 

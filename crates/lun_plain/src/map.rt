@@ -2,7 +2,7 @@
 ghost use Rattle.std.specs.Prelude.{◌≡◌, ℕ, ◌+◌, ◌<◌, ◌≤◌, ◌^◌, length, get_or, None, IsSome, IfOk, OnOk, OnErr, IfSome, IfNone, is_some, if◌then◌else◌, ◌==◌, ◌&&◌, nat_le, nat_lt, false, true, Some};
 ghost use Rattle.lun_plain.specs.Plain.{stored, seen, is_among};
 ghost use Rattle.lba_ranges.specs.Denoted.{row, has_repeat};
-ghost use Rattle.lba_ranges.specs.Writings.{paired, unmapped, after};
+ghost use Rattle.lba_ranges.specs.Writings.{paired, unmapped, after, mapped_among};
 
 use cm_base::{OutOfMemory, Payload};
 use std::collections::BTreeMap;
@@ -97,6 +97,14 @@ pub(crate) fn first_of(map: &Stored, from: u64, to: u64) -> Option<u64>
         Some((block, _)) => Some(*block),
         None => None,
     }
+}
+
+/// How many blocks of a row are stored.
+pub(crate) fn stored_in(map: &Stored, lba: u64, count: u32) -> u64
+    requires { lba + count < 2 ^ 64 }
+    ensures { result ≡ mapped_among (stored map.now.entries) (row lba count) }
+{
+    map.range(lba..lba + u64::from(count)).count() as u64
 }
 
 /// Unmaps a row of blocks.

@@ -21,6 +21,10 @@ fn put_cut_and_clear(rt: HostRuntime) -> Result<(), Fail> {
     assert!(rt; ranges.within(8) && !ranges.overlap() && ranges.total() == list.blocks());
     unit.put(&ranges, &list)?;
     assert!(rt; unit.mapped() == 2 && unit.mapped_until(0) == 2 && unit.mapped_until(2) == 4);
+    assert!(rt;
+        unit.mapped_in(Range { lba: 1, count: 2 }) == 1
+            && unit.mapped_in(Range { lba: 4, count: 4 }) == 0
+    );
     let cut = unit.cut(alloc, &ranges)?;
     assert!(rt; matches!(cut.held(1), Some(bytes) if bytes == [3, 4].as_slice()));
     let front = row(alloc, 0, 3)?;

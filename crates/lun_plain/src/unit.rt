@@ -2,7 +2,7 @@ ghost use Rattle.std.specs.Prelude.{◌≡◌, ◌≢◌, ℕ, ◌+◌, ◌<◌,
 ghost use Rattle.std.specs.Option.{option_copied};
 ghost use Rattle.lba_ranges.specs.HeldBlocks.{IsFull, filled};
 ghost use Rattle.lba_ranges.specs.Denoted.{row, blocks_of, total, is_within, is_overlapping};
-ghost use Rattle.lba_ranges.specs.Writings.{paired, unmapped, after, mapped_below};
+ghost use Rattle.lba_ranges.specs.Writings.{paired, unmapped, after, mapped_below, mapped_among};
 ghost use Rattle.lun_plain.specs.Plain.{stored};
 
 use crate::map::{self, Stored};
@@ -87,6 +87,11 @@ impl Blocks for PlainUnit {
     fn mapped(&self) -> u64 {
         let _blocks = self.blocks;
         self.held.len() as u64
+    }
+
+    fn mapped_in(&self, range: Range) -> u64 {
+        let _blocks = self.blocks;
+        map::stored_in(&self.held, range.lba, range.count)
     }
 
     fn mapped_until(&self, block: u64) -> u64 {
