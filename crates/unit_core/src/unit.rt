@@ -16,7 +16,7 @@ use crate::tables::Tables;
 use cm_base::{Config, OutOfMemory};
 use cm_history::{Act, ActRefused, Actor, Answer, Entry, History};
 use lba_ranges::Blocks;
-use lun_plain::PlainUnit;
+use lun_extents::ExtentUnit;
 use std::alloc::Global;
 use std::marker::Model;
 
@@ -34,7 +34,7 @@ pub struct UnitOver<B: Blocks + Drop> {
 }
 
 /// One unit.
-pub type Unit = UnitOver<PlainUnit>;
+pub type Unit = UnitOver<ExtentUnit>;
 
 impl<B: Blocks + Drop> Model for UnitOver<B> {
     ghost use Rattle.unit_core.specs.Standing.{Standing};

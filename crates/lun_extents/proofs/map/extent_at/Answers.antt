@@ -1,0 +1,30 @@
+use Rattle.std.proofs.Common.{◌≡◌, ◌∙◌, ◌+◌, ◌-◌, ap, sym, arith}
+use Rattle.std.specs.Prelude.{Some}
+use Rattle.lba_ranges.specs.HeldBlocks.{filled, held_at}
+use Rattle.lba_ranges.proofs.Cells.{length-filled}
+use Rattle.lun_extents.specs.Extents.{stored}
+use Rattle.lun_extents.proofs.Nearest.{from-nearest, from-none}
+use Rattle.lun_extents.proofs.Places.{held_at-over}
+use Rattle.lun_extents.proofs.map.extent_at.Goals as goal
+
+pub returns-in_default-clause-none : goal.returns-in_default-clause-none
+returns-in_default-clause-none c = λ size i. from-none size (stored c.args.map.now.entries) c.args.block i c.in_default.ensures.none
+
+pub returns-in-Some-place_in-clause-held : goal.returns-in-Some-place_in-clause-held
+returns-in-Some-place_in-clause-held c =
+    λ size i.
+    let p = c.in-Some-get.piece.now in
+    let is : stored c.args.map.now.entries c.in-Some.first ≡ Some p = sym c.in-Some-get.ensures.value in
+    let place = c.in-Some-place_in.ensures.inside.0 in
+    from-nearest size (stored c.args.map.now.entries) c.args.block c.in-Some.first p i c.in-Some.ensures.found.0 is c.in-Some.ensures.above
+    ∙ ap (λ n. held_at (filled size p.count p.fill) (n + i)) (sym place)
+
+pub returns-in-None-clause-none : goal.returns-in-None-clause-none
+returns-in-None-clause-none c =
+    λ size i.
+    let p = c.in-Some-get.piece.now in
+    let is : stored c.args.map.now.entries c.in-Some.first ≡ Some p = sym c.in-Some-get.ensures.value in
+    let over = c.in-None.ensures.outside in
+    let long = length-filled size p.count p.fill in
+    from-nearest size (stored c.args.map.now.entries) c.args.block c.in-Some.first p i c.in-Some.ensures.found.0 is c.in-Some.ensures.above
+    ∙ held_at-over (filled size p.count p.fill) (c.args.block - c.in-Some.first + i) (omega arith)

@@ -1,0 +1,11 @@
+// The blocks of a unit, kept in extents: runs of blocks whose bytes lie in shared payloads.
+#![tactic(auto)]
+
+mod map;
+mod runs;
+#[cfg(test)]
+mod tests;
+mod unit;
+mod walk;
+
+pub use unit::ExtentUnit;

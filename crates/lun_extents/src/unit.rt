@@ -1,0 +1,285 @@
+ghost use Rattle.std.specs.Prelude.{◌≡◌, ◌≢◌, ℕ, ◌+◌, ◌-◌, ◌<◌, ◌≤◌, ◌^◌, ◌++◌, ◌∷◌, [], length, map, None, is_some, IsSome, IfOk, OnOk, OnErr, IfSome, IsTrue, false, if◌then◌else◌};
+ghost use Rattle.std.specs.Option.{option_copied};
+ghost use Rattle.lba_ranges.specs.HeldBlocks.{IsFull, filled};
+ghost use Rattle.lba_ranges.specs.Denoted.{row, blocks_of, total, is_within, is_overlapping};
+ghost use Rattle.lba_ranges.specs.Writings.{paired, unmapped, after, mapped_below, mapped_among};
+ghost use Rattle.lun_extents.specs.Extents.{stored, held_in};
+ghost use Rattle.lun_extents.specs.Runs.{ranges_of, items_of_runs, is_mapped, AreRuns, HasBorders, HoldsSame};
+
+use crate::map::{self, Stored};
+use crate::runs::{self, Run};
+use crate::walk;
+use cm_base::OutOfMemory;
+use lba_ranges::{BlockList, Blocks, Fill, Piece, Range, RangeList};
+use std::alloc::Global;
+use std::collections::BTreeMap;
+use std::marker::Model;
+
+/// The blocks of a unit, kept in extents: runs of mapped blocks whose bytes lie in shared payloads.
+#[derive(Drop)]
+pub struct ExtentUnit {
+    alloc: Global,
+    blocks: u64,
+    block_length: u32,
+    // how many blocks are mapped
+    mapped: u64,
+    extents: Stored,
+}
+
+impl Model for ExtentUnit {
+    ghost use Rattle.std.specs.Prelude.{◌≡◌};
+    ghost use Rattle.lba_ranges.specs.Writings.{mapped_below};
+    ghost use Rattle.lun_extents.specs.Extents.{Extents, AreExtents, held_in};
+
+    ghost Value = { Extents };
+
+    ghost view = { λ u. record { blocks = u.blocks; block_length = u.block_length; entries = u.extents.entries } };
+
+    ghost invariant = { λ u. AreExtents u.blocks u.block_length u.extents.entries
+        × (u.mapped ≡ mapped_below u.blocks (held_in u.block_length u.extents.entries)) };
+}
+
+/// How many blocks of a run are to be mapped.
+fn mapped_of(run: &Run) -> u64
+    ensures { result ≡ (if is_mapped run.now.fill then run.now.range.count else 0) }
+{
+    match run.fill {
+        Fill::Bytes(_) => u64::from(run.range.count),
+        Fill::Hole => 0,
+    }
+}
+
+impl ExtentUnit {
+    /// Adds the blocks of a range as they stand, a piece for each run that the range meets.
+    fn cut_range(&self, list: &mut BlockList, range: Range) -> Result<(), OutOfMemory>
+        requires numbers { range.lba + range.count < 2 ^ 64 }
+        requires size { list.old.block_length ≡ self.now.block_length }
+        requires room { length list.old.items + range.count < 2 ^ 64 }
+        ensures size { list.new.block_length ≡ list.old.block_length }
+        ensures items { OnOk result (list.new.items
+            ≡ list.old.items ++ map (held_in self.now.block_length self.now.entries) (row range.lba range.count)) }
+    {
+        let mut done = 0;
+        while done < range.count {
+            let at = range.lba + u64::from(done);
+            let piece = walk::piece_at(
+                &self.extents,
+                self.blocks,
+                self.block_length,
+                at,
+                range.count - done,
+            )?;
+            done += piece.count;
+            list.push(piece)?;
+        }
+        Ok(())
+    }
+
+    /// Lets an extent begin at the start and at the end of each range. Each block holds what it
+    /// held, at `OutOfMemory` too.
+    fn border_ranges(&mut self, ranges: &RangeList) -> Result<(), OutOfMemory>
+        requires { IsTrue (is_within self.old.blocks ranges.now) }
+        ensures borders { OnOk result (HasBorders self.new.entries ranges.now) }
+        ensures same { HoldsSame self.old self.new }
+    {
+        for index in 0..ranges.len() {
+            let range = ranges.at(index);
+            let end = range.lba + u64::from(range.count);
+            map::border(&mut self.extents, self.blocks, self.block_length, range.lba)?;
+            map::border(&mut self.extents, self.blocks, self.block_length, end)?;
+        }
+        Ok(())
+    }
+
+    /// Lets an extent begin at the start and at the end of each run. Each block holds what it
+    /// held, at `OutOfMemory` too.
+    fn border_runs(&mut self, runs: &[Run]) -> Result<(), OutOfMemory>
+        requires { AreRuns self.old.blocks self.old.block_length runs.now }
+        ensures borders { OnOk result (HasBorders self.new.entries (ranges_of runs.now)) }
+        ensures same { HoldsSame self.old self.new }
+    {
+        for run in runs {
+            let end = run.range.lba + u64::from(run.range.count);
+            map::border(
+                &mut self.extents,
+                self.blocks,
+                self.block_length,
+                run.range.lba,
+            )?;
+            map::border(&mut self.extents, self.blocks, self.block_length, end)?;
+        }
+        Ok(())
+    }
+
+    /// Takes out what is not needed of the extents that begin in the ranges. Each block holds what it held.
+    fn drop_borders(&mut self, ranges: &RangeList)
+        requires { IsTrue (is_within self.old.blocks ranges.now) }
+        ensures { HoldsSame self.old self.new }
+    {
+        for index in 0..ranges.len() {
+            let range = ranges.at(index);
+            let end = range.lba + u64::from(range.count);
+            map::drop_borders(
+                &mut self.extents,
+                self.blocks,
+                self.block_length,
+                range.lba,
+                end,
+            );
+        }
+    }
+
+    /// Gives the blocks of a run what they are to hold, where an extent begins at its start and at
+    /// its end. It takes no memory.
+    fn set_run(&mut self, run: Run)
+        requires some { 1 ≤ run.range.count }
+        requires within { run.range.lba + run.range.count ≤ self.old.blocks }
+        requires full { IsFull self.old.block_length run.range.count run.fill }
+        requires start { IsSome (stored self.old.entries run.range.lba) }
+        requires end { IsSome (stored self.old.entries (run.range.lba + run.range.count)) }
+        ensures blocks { self.new.blocks ≡ self.old.blocks }
+        ensures length { self.new.block_length ≡ self.old.block_length }
+        ensures held { (block : ℕ) → held_in self.new.block_length self.new.entries block
+            ≡ after (paired (row run.range.lba run.range.count) (filled self.old.block_length run.range.count run.fill)) block
+            (held_in self.old.block_length self.old.entries block) }
+        ensures below { (b : ℕ) → b ≤ run.range.lba → IsSome (stored self.old.entries b) → IsSome (stored self.new.entries b) }
+        ensures above { (b : ℕ) → run.range.lba + run.range.count ≤ b → IsSome (stored self.old.entries b) → IsSome (stored self.new.entries b) }
+    {
+        let before = self.mapped_in(run.range);
+        let now = mapped_of(&run);
+        let Run { range, fill } = run;
+        map::set(
+            &mut self.extents,
+            range.lba,
+            Piece {
+                count: range.count,
+                fill,
+            },
+        );
+        self.mapped = self.mapped - before + now;
+    }
+
+    /// Gives the blocks of runs that are apart what they are to hold, where an extent begins at the
+    /// start and at the end of each. It takes no memory.
+    fn set_runs(&mut self, runs: Vec<Run>)
+        requires runs { AreRuns self.old.blocks self.old.block_length runs.items }
+        requires apart { is_overlapping (ranges_of runs.items) ≡ false }
+        requires borders { HasBorders self.old.entries (ranges_of runs.items) }
+        ensures blocks { self.new.blocks ≡ self.old.blocks }
+        ensures length { self.new.block_length ≡ self.old.block_length }
+        ensures held { (block : ℕ) → held_in self.new.block_length self.new.entries block
+            ≡ after (paired (blocks_of (ranges_of runs.items)) (items_of_runs self.old.block_length runs.items)) block
+            (held_in self.old.block_length self.old.entries block) }
+    {
+        for run in runs {
+            self.set_run(run);
+        }
+    }
+
+    /// Unmaps the blocks of a range, where an extent begins at its start and at its end. It takes no memory.
+    fn unmap_range(&mut self, range: Range)
+        requires within { range.lba + range.count ≤ self.old.blocks }
+        requires start { IsSome (stored self.old.entries range.lba) }
+        requires end { IsSome (stored self.old.entries (range.lba + range.count)) }
+        ensures blocks { self.new.blocks ≡ self.old.blocks }
+        ensures length { self.new.block_length ≡ self.old.block_length }
+        ensures held { (block : ℕ) → held_in self.new.block_length self.new.entries block
+            ≡ after (unmapped (row range.lba range.count)) block (held_in self.old.block_length self.old.entries block) }
+        ensures kept { (b : ℕ) → IsSome (stored self.old.entries b) → IsSome (stored self.new.entries b) }
+    {
+        let before = self.mapped_in(range);
+        map::unmap(&mut self.extents, range.lba, range.count);
+        self.mapped -= before;
+    }
+}
+
+impl Blocks for ExtentUnit {
+    ghost blocks = { λ u. u.blocks };
+
+    ghost block_length = { λ u. u.block_length };
+
+    ghost holds = { λ u. held_in u.block_length u.entries };
+
+    fn new(alloc: Global, count: u64, size: u32) -> Result<ExtentUnit, OutOfMemory> {
+        Ok(ExtentUnit {
+            alloc,
+            blocks: count,
+            block_length: size,
+            mapped: 0,
+            extents: BTreeMap::new(alloc),
+        })
+    }
+
+    fn held(&self, block: u64) -> Option<&[u8]> {
+        match map::extent_at(&self.extents, block) {
+            Some((piece, place)) => piece.held(self.block_length, place),
+            None => None,
+        }
+    }
+
+    fn mapped(&self) -> u64 {
+        let _blocks = self.blocks;
+        self.mapped
+    }
+
+    fn mapped_in(&self, range: Range) -> u64 {
+        let _blocks = self.blocks;
+        let end = range.lba + u64::from(range.count);
+        let mut at = range.lba;
+        let mut blocks = 0;
+        while at < end {
+            let run = walk::run_at(&self.extents, at, end);
+            if run.mapped {
+                blocks += run.end - at;
+            }
+            at = run.end;
+        }
+        blocks
+    }
+
+    fn mapped_until(&self, block: u64) -> u64 {
+        let first = walk::run_at(&self.extents, block, self.blocks);
+        let mut end = first.end;
+        while end < self.blocks {
+            let run = walk::run_at(&self.extents, end, self.blocks);
+            if run.mapped != first.mapped {
+                return end;
+            }
+            end = run.end;
+        }
+        end
+    }
+
+    fn put(&mut self, ranges: &RangeList, list: &BlockList) -> Result<(), OutOfMemory> {
+        let runs = runs::runs_of(self.alloc, self.blocks, ranges, list)?;
+        if let Err(refused) = self.border_runs(&runs) {
+            self.drop_borders(ranges);
+            return Err(refused);
+        }
+        self.set_runs(runs);
+        self.drop_borders(ranges);
+        Ok(())
+    }
+
+    fn clear(&mut self, ranges: &RangeList) -> Result<(), OutOfMemory> {
+        if let Err(refused) = self.border_ranges(ranges) {
+            self.drop_borders(ranges);
+            return Err(refused);
+        }
+        for index in 0..ranges.len() {
+            self.unmap_range(ranges.at(index));
+        }
+        self.drop_borders(ranges);
+        Ok(())
+    }
+
+    fn cut(&self, alloc: Global, ranges: &RangeList) -> Result<BlockList, OutOfMemory> {
+        let _blocks = self.blocks;
+        let _total = ranges.total();
+        let mut list = BlockList::empty(alloc, self.block_length);
+        for index in 0..ranges.len() {
+            self.cut_range(&mut list, ranges.at(index))?;
+        }
+        Ok(list)
+    }
+}
