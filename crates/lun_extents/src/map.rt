@@ -26,14 +26,14 @@ pub(crate) fn next_first(map: &Stored, from: u64, to: u64) -> Option<u64>
     }
 }
 
-/// The first block of the nearest extent at a block or below it.
-pub(crate) fn nearest(map: &Stored, block: u64) -> Option<u64>
-    ensures found { IfSome result (λ first. (first ≤ block) × IsSome (stored map.now.entries first)) }
-    ensures above { IfSome result (λ first. (b : ℕ) → first < b → b ≤ block → stored map.now.entries b ≡ None) }
+/// The nearest extent at a block or below it, and its first block.
+fn nearest(map: &Stored, block: u64) -> Option<(u64, &Piece)>
+    ensures found { IfSome result (λ near. (near.0 ≤ block) × (stored map.now.entries near.0 ≡ Some near.1.now)) }
+    ensures above { IfSome result (λ near. (b : ℕ) → near.0 < b → b ≤ block → stored map.now.entries b ≡ None) }
     ensures none { IfNone result ((b : ℕ) → b ≤ block → stored map.now.entries b ≡ None) }
 {
     match map.range(..=block).next_back() {
-        Some((first, _)) => Some(*first),
+        Some((first, piece)) => Some((*first, piece)),
         None => None,
     }
 }
@@ -62,10 +62,7 @@ pub(crate) fn extent_at(map: &Stored, block: u64) -> Option<(&Piece, u32)>
         ≡ held_at (filled size found.0.now.count found.0.now.fill) (found.1 + i)) }
     ensures none { IfNone result ((size i : ℕ) → held_from size (stored map.now.entries) block i ≡ None) }
 {
-    let Some(first) = nearest(map, block) else {
-        return None;
-    };
-    let Some(piece) = map.get(&first) else {
+    let Some((first, piece)) = nearest(map, block) else {
         return None;
     };
     match place_in(piece, block - first) {

@@ -13,8 +13,8 @@ returns-in_default-clause-none c = λ size i. from-none size (stored c.args.map.
 pub returns-in-Some-place_in-clause-held : goal.returns-in-Some-place_in-clause-held
 returns-in-Some-place_in-clause-held c =
     λ size i.
-    let p = c.in-Some-get.piece.now in
-    let is : stored c.args.map.now.entries c.in-Some.first ≡ Some p = sym c.in-Some-get.ensures.value in
+    let p = c.in-Some.piece.now in
+    let is : stored c.args.map.now.entries c.in-Some.first ≡ Some p = c.in-Some.ensures.found.1 in
     let place = c.in-Some-place_in.ensures.inside.0 in
     from-nearest size (stored c.args.map.now.entries) c.args.block c.in-Some.first p i c.in-Some.ensures.found.0 is c.in-Some.ensures.above
     ∙ ap (λ n. held_at (filled size p.count p.fill) (n + i)) (sym place)
@@ -22,8 +22,8 @@ returns-in-Some-place_in-clause-held c =
 pub returns-in-None-clause-none : goal.returns-in-None-clause-none
 returns-in-None-clause-none c =
     λ size i.
-    let p = c.in-Some-get.piece.now in
-    let is : stored c.args.map.now.entries c.in-Some.first ≡ Some p = sym c.in-Some-get.ensures.value in
+    let p = c.in-Some.piece.now in
+    let is : stored c.args.map.now.entries c.in-Some.first ≡ Some p = c.in-Some.ensures.found.1 in
     let over = c.in-None.ensures.outside in
     let long = length-filled size p.count p.fill in
     from-nearest size (stored c.args.map.now.entries) c.args.block c.in-Some.first p i c.in-Some.ensures.found.0 is c.in-Some.ensures.above
