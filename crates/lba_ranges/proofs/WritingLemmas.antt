@@ -6,8 +6,7 @@ use Rattle.std.proofs.lemmas.Bool.{cases_eq, or_parts, ne_eqb}
 use Rattle.std.proofs.lemmas.List.{take_more, length-replicate}
 use Rattle.std.proofs.lemmas.List.Sums.{sum_by-cons}
 use Rattle.std.proofs.lemmas.Bool.Decides.{nat_tests}
-use Rattle.lba_ranges.specs.HeldBlocks.{held_at}
-use Rattle.lba_ranges.proofs.Cells.{take-held, count-holes}
+use Rattle.lba_ranges.proofs.Cells.{count-holes}
 use Rattle.lba_ranges.specs.Denoted.{row, has_repeat}
 use Rattle.lba_ranges.specs.Writings.{Held, Writing, paired, unmapped, after, is_written, mapped_below, mapped_among}
 
@@ -65,15 +64,6 @@ mapped-le (suc n) f = go (is_some (f n)) (mapped-le n f)
     go true h = omega arith
     go false h = omega arith
 
--- a mapped block is counted
-pub mapped-some : (n i : ℕ) (f : ℕ → Held) → i < n → is_some (f i) ≡ true → 1 ≤ mapped_below n f
-mapped-some zero i f h e = absurd (omega arith)
-mapped-some (suc n) i f h e = go (λ below. mapped-some n i f below e) (cases_eq n i)
-  where
-    go : (i < n → 1 ≤ mapped_below n f) → (n ≡ i) ⊎ (n ≡ i → ⊥) → 1 ≤ mapped_below (suc n) f
-    go ih (inl same) = rw (same, e) (omega arith)
-    go ih (inr other) = let before : 1 ≤ mapped_below n f = ih (omega arith) in omega arith
-
 -- one block changes
 pub mapped-set : (n i : ℕ) (f g : ℕ → Held) → i < n → ((b : ℕ) → (i ≡ b → ⊥) → g b ≡ f b)
     → mapped_below n g + one_if (is_some (f i)) ≡ mapped_below n f + one_if (is_some (g i))
@@ -89,22 +79,6 @@ mapped-set (suc n) i f g h others = go (λ below. mapped-set n i f g below other
         let here : g n ≡ f n = others n other in
         let below = ih (omega arith) in
         rw here (omega arith)
-
--- one more writing, of a block that was not written before: the count moves by what the block held
-pub mapped-push : (n : ℕ) (now : ℕ → Held) (ws : List Writing) (w : Writing) → w.block < n → is_written ws w.block ≡ false
-    → mapped_below n (λ b. after (ws ++ w ∷ []) b (now b)) + one_if (is_some (now w.block)) ≡ mapped_below n (λ b. after ws b (now b)) + one_if (is_some w.held)
-mapped-push n now ws w low new =
-    let before : ℕ → Held = λ b. after ws b (now b) in
-    let next : ℕ → Held = λ b. after (ws ++ w ∷ []) b (now b) in
-    let here : before w.block ≡ now w.block = after-unwritten ws w.block (now w.block) new in
-    let step : (b : ℕ) → next b ≡ (if w.block == b then w.held else before b) = λ b. after-append ws (w ∷ []) b (now b) in
-    let test : (w.block == w.block) ≡ true = grind (arith, nat_tests) in
-    let at_it : next w.block ≡ w.held = step w.block ∙ rw test refl in
-    let others : (b : ℕ) → (w.block ≡ b → ⊥) → next b ≡ before b =
-    λ b e. step b ∙ (let differs : (w.block == b) ≡ false = grind (arith, nat_tests) in rw differs refl) in
-    ap (λ (v : Held). mapped_below n next + one_if (is_some v)) (sym here)
-    ∙ mapped-set n w.block before next low others
-    ∙ ap (λ (v : Held). mapped_below n before + one_if (is_some v)) at_it
 
 -- a block that is not in the list is not counted with it
 among-others : (f g : ℕ → Held) (bs : List ℕ) (b : ℕ) → list_any (λ a. a == b) bs ≡ false → ((a : ℕ) → (b ≡ a → ⊥) → g a ≡ f a)
@@ -170,14 +144,6 @@ differs-at (x ∷ xs) b zero e h same =
     differs same
 differs-at (x ∷ xs) b (suc j) e h same = differs-at xs b j (or_parts (x == b) (list_any (λ a. a == b) xs) e).1 (omega arith) same
 
--- the places of a list without repeats have different numbers
-pub apart-at : (xs : List ℕ) (i j : ℕ) → has_repeat xs ≡ false → i < j → j < length xs → get_or xs i 0 ≡ get_or xs j 0 → ⊥
-apart-at [] i j e l h same = absurd (omega arith)
-apart-at (x ∷ xs) zero zero e l h same = absurd (omega arith)
-apart-at (x ∷ xs) zero (suc j) e l h same = differs-at xs x j (or_parts (list_any (λ a. a == x) xs) (has_repeat xs) e).0 (omega arith) (sym same)
-apart-at (x ∷ xs) (suc i) zero e l h same = absurd (omega arith)
-apart-at (x ∷ xs) (suc i) (suc j) e l h same = apart-at xs i j (or_parts (list_any (λ a. a == x) xs) (has_repeat xs) e).1 (omega arith) (omega arith) same
-
 -- the number at a place is none of those before it
 pub fresh-at : (xs : List ℕ) (k : ℕ) → has_repeat xs ≡ false → k < length xs → list_any (λ a. a == get_or xs k 0) (take k xs) ≡ false
 fresh-at [] k e h = absurd (omega arith)
@@ -200,29 +166,6 @@ after-more bs xs k x b was len h =
     ap (λ l. after (paired l (xs ++ x ∷ [])) b was) (take_more bs k 0 h)
     ∙ ap (λ ws. after ws b was) (paired-push (take k bs) xs (get_or bs k 0) x front)
     ∙ after-append (paired (take k bs) xs) (record { block = get_or bs k 0; held = x } ∷ []) b was
-
--- how many blocks are mapped when the first k items are written
-abbrev pub mapped_first : ℕ → (ℕ → Held) → List ℕ → List Held → ℕ → ℕ
-mapped_first n now bs xs k = mapped_below n (λ b. after (paired (take k bs) (take k xs)) b (now b))
-
-pub below-at : (n : ℕ) (bs : List ℕ) (k : ℕ) → AllByRecursion (λ b. b < n) bs → k < length bs → get_or bs k 0 < n
-below-at n [] k all h = absurd (omega arith)
-below-at n (a ∷ bs) zero all h = all.0
-below-at n (a ∷ bs) (suc k) all h = below-at n bs k all.1 (omega arith)
-
--- one more item of those that are written
-pub mapped-more : (n : ℕ) (now : ℕ → Held) (bs : List ℕ) (xs : List Held) (k : ℕ) → length bs ≡ length xs → k < length bs → has_repeat bs ≡ false
-    → AllByRecursion (λ b. b < n) bs
-    → mapped_first n now bs xs (k + 1) + one_if (is_some (now (get_or bs k 0))) ≡ mapped_first n now bs xs k + one_if (is_some (held_at xs k))
-mapped-more n now bs xs k len low apart below =
-    let b = get_or bs k 0 in
-    let x = held_at xs k in
-    let front : length (take k bs) ≡ length (take k xs) = length-take-le k bs (omega arith) ∙ sym (length-take-le k xs (omega arith)) in
-    let next : paired (take (k + 1) bs) (take (k + 1) xs) ≡ paired (take k bs) (take k xs) ++ record { block = b; held = x } ∷ [] =
-    ap (λ l. paired l (take (k + 1) xs)) (take_more bs k 0 low) ∙ ap (paired (take k bs ++ b ∷ [])) (take-held xs k (omega arith)) ∙ paired-push (take k bs) (take k xs) b x front in
-    let new = paired-unwritten (take k bs) (take k xs) b (fresh-at bs k apart low) in
-    ap (λ ws. mapped_below n (λ a. after ws a (now a)) + one_if (is_some (now b))) next
-    ∙ mapped-push n now (paired (take k bs) (take k xs)) (record { block = b; held = x }) (below-at n bs k below low) new
 
 -- fewer mapped blocks
 pub mapped-fewer : (n : ℕ) (f g : ℕ → Held) → ((b : ℕ) → is_some (g b) ≡ true → is_some (f b) ≡ true) → mapped_below n g ≤ mapped_below n f
