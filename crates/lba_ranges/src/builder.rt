@@ -34,6 +34,16 @@ impl RangeListBuilder {
         }
     }
 
+    /// The builder that goes on from a list. It takes no memory.
+    pub fn from_list(list: RangeList) -> RangeListBuilder
+        ensures { result ≡ record { ranges = list; spare = 0 } }
+    {
+        RangeListBuilder {
+            ranges: list.into_vec(),
+            spare: 0,
+        }
+    }
+
     /// How many ranges there are, at most 64. It takes no memory.
     pub fn len(&self) -> usize
         ensures length { result ≡ length self.now.ranges }

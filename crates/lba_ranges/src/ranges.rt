@@ -79,6 +79,14 @@ impl RangeList {
         RangeList { ranges }
     }
 
+    /// The ranges alone. It takes no memory.
+    pub(crate) fn into_vec(self) -> Vec<Range>
+        ensures ranges { result.items ≡ self }
+        ensures few { length result.items ≤ 64 }
+    {
+        self.ranges
+    }
+
     /// How many ranges there are, at most 64. It takes no memory.
     pub fn len(&self) -> usize
         ensures length { result ≡ length self.now }

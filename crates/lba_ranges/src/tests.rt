@@ -21,17 +21,18 @@ fn ranges(rt: HostRuntime) -> Result<(), Fail> {
     Ok(())
 }
 
-/// Two ranges for which there was room.
+/// A list of one range, and then two for which there was room.
 #[test]
 fn ranges_with_room(rt: HostRuntime) -> Result<(), Fail> {
-    let mut builder = RangeListBuilder::empty(rt.alloc());
+    let mut list = RangeList::empty(rt.alloc());
+    list.push(Range { lba: 0, count: 1 })?;
+    let mut builder = RangeListBuilder::from_list(list);
     builder.reserve(2)?;
     builder.append(Range { lba: 10, count: 3 });
     builder.append(Range { lba: 20, count: 2 });
-    assert_eq!(rt; builder.len(), 2);
+    assert_eq!(rt; builder.len(), 3);
     let list = builder.into_list();
-    assert_eq!(rt; list.len(), 2);
-    assert!(rt; list.total() == 5 && list.at(1).lba == 20);
+    assert!(rt; list.total() == 6 && list.at(2).lba == 20);
     Ok(())
 }
 
