@@ -4,6 +4,7 @@ ghost use Rattle.cm_history.specs.declared.answer.Answer.{Answer};
 
 use crate::act::{Act, Entry};
 use crate::answer::{Answer, StatusList};
+use crate::token_text::TokenText;
 use cm_base::OutOfMemory;
 use lba_ranges::{BlockList, RangeList};
 use std::alloc::Global;
@@ -41,6 +42,12 @@ fn start(id: u32, background: bool, ranges: RangeList, rod: BlockList) -> Act
     }
 }
 
+fn redeem(text: TokenText, target: u16) -> Act
+    ensures { result ≡ Act.Redeem text target }
+{
+    Act::Redeem { text, target }
+}
+
 fn put(lba: u64, list: BlockList) -> Act
     ensures { result ≡ Act.Put lba list }
 {
@@ -62,7 +69,7 @@ impl Act {
                 timeout,
                 ref ranges,
             } => populate(id, timeout, ranges.copy(alloc)?),
-            Act::Redeem { text, target } => Act::Redeem { text, target },
+            Act::Redeem { ref text, target } => redeem(text.copy(alloc)?, target),
             Act::Delete { serial } => Act::Delete { serial },
             Act::Start {
                 id,

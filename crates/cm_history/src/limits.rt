@@ -58,7 +58,8 @@ pub fn within_limits(config: &Config, unit: u16, act: &Act) -> bool
             timeout,
             ranges,
         } => is_token_list(ranges) && 1 <= *timeout && *timeout <= 3600,
-        Act::Redeem { text, target } => is_named(unit, text) && config.is_configured(*target),
+        Act::Redeem { text, target } => is_named(unit, text.bytes())
+            && config.is_configured(*target),
         Act::Start {
             id: _,
             background: _,

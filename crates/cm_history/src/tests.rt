@@ -4,9 +4,10 @@ ghost use Rattle.cm_history.specs.Legal.{IsLegal};
 ghost use Rattle.cm_history.specs.PlainHolds.{AreWithin};
 
 use super::*;
-use cm_base::{Bytes, Config, Payload, UnitConfig, UnitList};
+use cm_base::{Bytes, Config, OutOfMemory, Payload, UnitConfig, UnitList};
 use lba_ranges::{BlockList, Fill, Piece, Range, RangeList};
 use scsi_sense::Sense;
+use std::alloc::Global;
 use std::test::Fail;
 
 /// One unit of four blocks of 512 bytes, of which two may be mapped.
@@ -155,7 +156,8 @@ fn redeemed(rt: &HostRuntime, config: &Config, moment: u64) -> Result<Answer, Fa
     ask(config, &mut history, 4, act)?;
     ask(config, &mut history, 5, write(rt, 3, 0x66)?)?;
     let text = rod_token::text(config, 0, 0, 4);
-    told(rt, config, &history, moment, &redeem(text, 0))
+    let act = redeem(rt.alloc(), &text, 0)?;
+    told(rt, config, &history, moment, &act)
 }
 
 /// The last block of a rod has bytes like this one.
@@ -282,8 +284,9 @@ fn read(count: u32) -> Act {
     Act::Read { lba: 9, count }
 }
 
-fn redeem(text: [u8; 512], target: u16) -> Act {
-    Act::Redeem { text, target }
+fn redeem(alloc: Global, text: &[u8; 512], target: u16) -> Result<Act, OutOfMemory> {
+    let text = TokenText::new(alloc, text)?;
+    Ok(Act::Redeem { text, target })
 }
 
 fn capture(count: u32) -> Act {
@@ -293,13 +296,14 @@ fn capture(count: u32) -> Act {
 #[test]
 fn numbers_have_limits(rt: HostRuntime) -> Result<(), Fail> {
     let config = one_unit(&rt)?;
+    let alloc = rt.alloc();
     let text = token_of_unit_0();
     let acts = [
         (read(2048), true),
         (read(2049), false),
-        (redeem(text, 0), true),
-        (redeem(text, 1), false),
-        (redeem([0; 512], 0), false),
+        (redeem(alloc, &text, 0)?, true),
+        (redeem(alloc, &text, 1)?, false),
+        (redeem(alloc, &[0; 512], 0)?, false),
         (capture(65_535), true),
         (capture(65_536), false),
         (close(CopyState::Done), true),

@@ -20,7 +20,7 @@ use crate::phase::Phase;
 use block_params::{WriteList, read_write_token};
 use cm_base::{Config, OutOfMemory, Payload};
 use cm_frame::Reply;
-use cm_history::{Act, Answer, OpState};
+use cm_history::{Act, Answer, OpState, TokenText};
 use cmd_program::Step;
 use lba_ranges::{BlockList, Fill, Piece};
 use rod_token::{TokenKind, classify};
@@ -273,7 +273,7 @@ impl Writing {
             Writing::Redeeming { write, creator } => Ok(Step::Do {
                 unit: *creator,
                 act: Act::Redeem {
-                    text: write.list.token,
+                    text: TokenText::new(alloc, &write.list.token)?,
                     target: write.unit,
                 },
             }),

@@ -17,8 +17,8 @@ use xcopy_exec::CopyCommand;
 #[derive(Drop)]
 pub enum AnyCommand {
     Plain(Command),
-    Token(TokenCommand),
-    Copy(CopyCommand),
+    Token(Box<TokenCommand>),
+    Copy(Box<CopyCommand>),
 }
 
 impl AnyCommand {
@@ -34,11 +34,11 @@ impl AnyCommand {
     {
         if TokenCommand::is_asked_by(&request.cdb) {
             let command = TokenCommand::begin(alloc, config, nexus, request)?;
-            return Ok(AnyCommand::Token(command));
+            return Ok(AnyCommand::Token(Box::new(alloc, command)?));
         }
         if CopyCommand::is_asked_by(&request.cdb) {
             let command = CopyCommand::begin(alloc, config, nexus, request)?;
-            return Ok(AnyCommand::Copy(command));
+            return Ok(AnyCommand::Copy(Box::new(alloc, command)?));
         }
         let command = Command::begin(alloc, config, nexus, request)?;
         Ok(AnyCommand::Plain(command))

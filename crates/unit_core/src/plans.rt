@@ -35,7 +35,7 @@ impl<B: Blocks + Drop> UnitOver<B> {
                 timeout,
                 ranges,
             } => self.plan_populate(actor, *id, *timeout, ranges),
-            Act::Redeem { text, target } => self.plan_redeem(moment, text, *target),
+            Act::Redeem { text, target } => self.plan_redeem(moment, text.bytes(), *target),
             Act::Delete { serial } => Ok(Plan::of_tokens(
                 Answer::Done,
                 TokenChange::Delete { serial: *serial },

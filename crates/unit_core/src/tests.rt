@@ -24,9 +24,9 @@ fn expiry(alloc: Global, config: &Config, unit: &mut Unit) -> Result<[Told; 4], 
 {
     Ok([
         populate(alloc, config, unit, 100, 10, 5)?,
-        redeem(config, unit, 110, 0),
-        redeem(config, unit, 121, 0),
-        redeem(config, unit, 50, 0),
+        redeem(alloc, config, unit, 110, 0)?,
+        redeem(alloc, config, unit, 121, 0)?,
+        redeem(alloc, config, unit, 50, 0)?,
     ])
 }
 
@@ -59,10 +59,10 @@ fn eviction(alloc: Global, config: &Config, unit: &mut Unit) -> Result<[Told; 4]
 {
     fill(alloc, config, unit, 64)?;
     Ok([
-        redeem(config, unit, 164, 0),
+        redeem(alloc, config, unit, 164, 0)?,
         populate(alloc, config, unit, 165, 300, 64)?,
-        redeem(config, unit, 166, 1),
-        redeem(config, unit, 166, 0),
+        redeem(alloc, config, unit, 166, 1)?,
+        redeem(alloc, config, unit, 166, 0)?,
     ])
 }
 
@@ -132,7 +132,7 @@ fn filling(alloc: Global, config: &Config, unit: &mut Unit) -> Result<[Told; 8],
     Ok([
         write(alloc, config, unit, 0x11, 0, 1)?,
         populate(alloc, config, unit, 0, 300, 0)?,
-        redeem(config, unit, 0, 0),
+        redeem(alloc, config, unit, 0, 0)?,
         start(alloc, config, unit, true, 1)?,
         write(alloc, config, unit, 0x44, 0, 1)?,
         pump(unit),

@@ -3,6 +3,7 @@ ghost use Rattle.rod_store.specs.Kept.{expired, live};
 ghost use Rattle.unit_core.specs.TokenChanges.{tokens_after, MayToken, is_make};
 
 use cm_base::{Config, OutOfMemory};
+use cm_history::TokenText;
 use lba_ranges::BlockList;
 use rod_store::RodStore;
 
@@ -18,7 +19,7 @@ pub(crate) enum TokenChange {
     },
     /// The token of the text is used.
     Use {
-        text: [u8; 512],
+        text: TokenText,
         target: u16,
     },
     Delete {
@@ -69,7 +70,7 @@ impl TokenChange {
                 let _ = tokens.populate(moment, timeout, blocks, list);
             }
             TokenChange::Use { text, target } => {
-                let _ = tokens.redeem(config, moment, &text, target);
+                let _ = tokens.redeem(config, moment, text.bytes(), target);
             }
             TokenChange::Delete { serial } => {
                 let _ = tokens.delete(serial);

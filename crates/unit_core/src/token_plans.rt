@@ -15,7 +15,7 @@ use crate::room::token_key;
 use crate::token_change::TokenChange;
 use crate::unit::UnitOver;
 use cm_base::OutOfMemory;
-use cm_history::{Actor, Answer};
+use cm_history::{Actor, Answer, TokenText};
 use lba_ranges::{Blocks, RangeList};
 
 /// Serials that a unit makes.
@@ -82,7 +82,7 @@ impl<B: Blocks + Drop> UnitOver<B> {
                 Ok(Plan::of_tokens(
                     Answer::Rod(list),
                     TokenChange::Use {
-                        text: *text,
+                        text: TokenText::new(self.alloc, text)?,
                         target,
                     },
                 ))

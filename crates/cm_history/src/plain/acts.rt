@@ -115,7 +115,7 @@ pub(crate) fn is_redeem_of(serial: u64, act: &Act) -> bool
     ensures { result ≡ is_redeem_of serial act.now }
 {
     match act {
-        Act::Redeem { text, target: _ } => serial_of(text) == serial,
+        Act::Redeem { text, target: _ } => serial_of(text.bytes()) == serial,
         _ => false,
     }
 }

@@ -265,7 +265,7 @@ impl PlainUnit {
             Act::Populate { id, ranges, .. } => Ok(self.populate(unit, actor, *id, ranges)),
             Act::Redeem { text, target } => {
                 let now = moment.max(self.past.moment());
-                self.redeem(alloc, config, number, now, text, *target)
+                self.redeem(alloc, config, number, now, text.bytes(), *target)
             }
             Act::Start {
                 id,

@@ -6,7 +6,9 @@ ghost use Rattle.cm_history.specs.Legal.{may_ask};
 
 use crate::Unit;
 use cm_base::{Config, Payload, UnitConfig, UnitList};
-use cm_history::{Act, ActRefused, Actor, Answer, CopyEnd, CopyState, OpState, within_limits};
+use cm_history::{
+    Act, ActRefused, Actor, Answer, CopyEnd, CopyState, OpState, TokenText, within_limits,
+};
 use lba_ranges::{BlockList, Range, RangeList};
 use std::alloc::Global;
 use std::test::Fail;
@@ -209,7 +211,13 @@ pub(crate) fn fill(alloc: Global, config: &Config, unit: &mut Unit, count: u32) 
 }
 
 /// Redeems a token of one block.
-pub(crate) fn redeem(config: &Config, unit: &mut Unit, moment: u64, serial: u64) -> Told
+pub(crate) fn redeem(
+    alloc: Global,
+    config: &Config,
+    unit: &mut Unit,
+    moment: u64,
+    serial: u64,
+) -> Result<Told, Fail>
     requires config { unit.old.config ≡ config.now }
     requires unit { unit.old.unit ≡ 0 }
     requires one { length config.now.units ≡ 1 }
@@ -217,8 +225,9 @@ pub(crate) fn redeem(config: &Config, unit: &mut Unit, moment: u64, serial: u64)
     ensures config { unit.new.config ≡ unit.old.config }
     ensures unit { unit.new.unit ≡ unit.old.unit }
 {
-    let text = rod_token::text(config, 0, serial, 1);
-    ask(config, unit, moment, Act::Redeem { text, target: 0 })
+    let text = TokenText::new(alloc, &rod_token::text(config, 0, serial, 1))?;
+    let act = Act::Redeem { text, target: 0 };
+    Ok(ask(config, unit, moment, act))
 }
 
 /// Begins to write so many blocks of 33h to the first blocks, by the identifier 2.

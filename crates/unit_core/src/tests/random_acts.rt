@@ -3,7 +3,7 @@ ghost use Rattle.std.specs.Prelude.{◌<◌, length, IfOk};
 ghost use Rattle.unit_core.specs.Asked.{IsOfNexus};
 
 use cm_base::{Config, Payload};
-use cm_history::{Act, CopyEnd, CopyState};
+use cm_history::{Act, CopyEnd, CopyState, TokenText};
 use lba_ranges::{BlockList, Fill, Piece, Range, RangeList};
 use std::alloc::Global;
 use std::test::Fail;
@@ -120,7 +120,7 @@ fn act_on_tokens(
             ranges: ranges(alloc, numbers)?,
         }),
         _ => Ok(Act::Redeem {
-            text: text(config, unit, numbers),
+            text: TokenText::new(alloc, &text(config, unit, numbers))?,
             target: numbers.below(2) as u16,
         }),
     }

@@ -32,9 +32,10 @@ returns-in-Populate-clause-planned g c =
 pub returns-in-Redeem-clause-planned : goal.returns-in-Redeem-clause-planned
 returns-in-Redeem-clause-planned g c =
     let s = c.args.self.now in
-    rw c.in-Redeem.is
-    (IfOk-weaker c.plan_redeem.result (λ (p : Plan). (actor : Actor) → IsPlan s.config s.unit (past s) actor c.args.moment (Act.Redeem c.in-Redeem.text c.in-Redeem.target) p)
-    (λ (p : Plan). IsPlan s.config s.unit (past s) c.args.actor c.args.moment (Act.Redeem c.in-Redeem.text c.in-Redeem.target) p) (λ p f. f c.args.actor) c.plan_redeem.ensures)
+    let text = c.bytes.result.now in
+    rw (c.in-Redeem.is, ← c.bytes.ensures)
+    (IfOk-weaker c.plan_redeem.result (λ (p : Plan). (actor : Actor) → IsPlan s.config s.unit (past s) actor c.args.moment (Act.Redeem text c.in-Redeem.target) p)
+    (λ (p : Plan). IsPlan s.config s.unit (past s) c.args.actor c.args.moment (Act.Redeem text c.in-Redeem.target) p) (λ p f. f c.args.actor) c.plan_redeem.ensures)
 
 pub returns-in-Start-clause-planned : goal.returns-in-Start-clause-planned
 returns-in-Start-clause-planned g c =

@@ -15,8 +15,8 @@ use Rattle.cm_history.proofs.Lists.{find-none}
 use Rattle.std.proofs.lemmas.Bool.{and_parts}
 use Rattle.unit_core.proofs.unit.UnitOver.plan_redeem.Goals as goal
 
-pub returns-in_ok-list-in-Ok : goal.returns-in_ok-list-in-Ok
-returns-in_ok-list-in-Ok g c =
+pub returns-in_ok-new-in-Ok : goal.returns-in_ok-new-in-Ok
+returns-in_ok-new-in-Ok g c =
     let u = c.self.inside in
     let past = past_of u.config u.unit u.history.entries in
     let text = c.args.text.now in
@@ -29,7 +29,7 @@ returns-in_ok-list-in-Ok g c =
     let told : judged u.config u.unit (max c.args.moment (moment past)) text c.args.target (tokens_of (unit_of u.config u.unit) past) ≡ Ok c.in-Ok.list.now = sym same ∙ c.in-Ok.ensures.ok in
     let limits = and_parts (is_named u.unit text) (nat_lt c.args.target (length u.config.units)) (rw (← c.self.view_is) at c.requires) in
     let few : c.args.target < length u.config.units = (let e = limits.1 in grind (arith, nat_tests)) in
-    rw (c.of_tokens.ensures, c.in_ok-list-in-Ok.ensures, ← c.self.view_is)
+    rw (c.of_tokens.ensures, c.in_ok-new-in-Ok.ensures, c.in_ok-list-in-Ok.ensures, ← c.self.view_is)
     (λ actor. redeem-plan u.config u.unit past actor c.args.moment text c.args.target c.in-Ok.list.now (sym (redeem-is u.config u.unit past actor c.args.moment text c.args.target ∙ ap answer_of told))
     (λ spare. record { configured = c.self.invariant.record_is.configured; named = limits.0; known = few; list = c.in-Ok.list.now; answer = told }))
 
