@@ -8,8 +8,8 @@ returns-in-Plain-clause-stands c = λ nexus request outcomes stands.
 
 pub returns-in-Token-clause-stands : goal.returns-in-Token-clause-stands
 returns-in-Token-clause-stands c = λ nexus request outcomes stands.
-    c.note-in-Token.ensures.stands nexus request outcomes (subst (λ a. StandsFor c.args.config.now a nexus request outcomes) c.in-Token.is stands)
+    c.note-in-Token.ensures.stands nexus request outcomes (rw c.deref_mut.ensures.value (subst (λ a. StandsFor c.args.config.now a nexus request outcomes) c.in-Token.is stands))
 
 pub returns-in-Copy-clause-stands : goal.returns-in-Copy-clause-stands
 returns-in-Copy-clause-stands c = λ nexus request outcomes stands.
-    c.note-in-Copy.ensures.stands nexus request outcomes (subst (λ a. StandsFor c.args.config.now a nexus request outcomes) c.in-Copy.is stands)
+    c.note-in-Copy.ensures.stands nexus request outcomes (rw c.deref_mut-in-Copy.ensures.value (subst (λ a. StandsFor c.args.config.now a nexus request outcomes) c.in-Copy.is stands))
