@@ -20,9 +20,13 @@ pub(crate) fn next_first(map: &Stored, from: u64, to: u64) -> Option<u64>
     ensures before { IfSome result (λ first. (b : ℕ) → from ≤ b → b < first → stored map.now.entries b ≡ None) }
     ensures none { IfNone result ((b : ℕ) → from ≤ b → b < to → stored map.now.entries b ≡ None) }
 {
-    match map.range(from..to).next() {
-        Some((first, _)) => Some(*first),
-        None => None,
+    if from == to {
+        return None;
+    }
+    // one search, where a range with two ends takes two
+    match map.range(from..).next() {
+        Some((first, _)) if *first < to => Some(*first),
+        _ => None,
     }
 }
 

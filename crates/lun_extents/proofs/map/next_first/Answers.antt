@@ -1,7 +1,6 @@
 use Rattle.std.proofs.Common.{◌≡◌, ℕ, ◌<◌, ◌≤◌, arith, refl, false}
 use Rattle.std.specs.Prelude.{Option, Some, None, IsSome}
 use Rattle.std.specs.Ordering.{nat_cmp, is_gt}
-use Rattle.std.specs.declared.cmp.Ordering.TheVariants.{Less}
 use Rattle.std.proofs.lemmas.Bool.Decides.{nat_tests}
 use Rattle.std.proofs.lemmas.Map.Keys.{le_from_not_gt}
 use Rattle.lba_ranges.specs.declared.fill.Piece.{Piece}
@@ -16,14 +15,9 @@ absent first b (Some extent) least low = absurd (omega (arith, le_from_not_gt fi
 not_above : (a b : ℕ) → a ≤ b → is_gt (nat_cmp a b) ≡ false
 not_above a b h = grind (arith, nat_tests)
 
-less : (a b c : ℕ) → a < b → nat_cmp b c ≡ Less → nat_cmp a c ≡ Less
-less a b c h e = grind (arith, nat_tests)
-
 pub returns-in-Some-clause-before : goal.returns-in-Some-clause-before
 returns-in-Some-clause-before c =
     λ b low high.
     let range = c.range.ensures.in_range tt in
-    let first = rw c.in-Some.ensures.steps at range.1 in
-    let before = less b c.in-Some.first.now c.args.to high first.0.1 in
     absent c.in-Some.first.now b (stored c.args.map.now.entries b)
-    (λ some. rw c.in-Some.ensures.steps at (range.2 b (not_above c.args.from b low, before) some)) high
+    (λ some. rw c.in-Some.ensures.steps at (range.2 b (not_above c.args.from b low, tt) some)) high
