@@ -1,3 +1,5 @@
 pub mod Grammar
 pub mod Reading
 pub mod Laws
+pub mod DataOut
+pub mod Gathering

@@ -1,5 +1,5 @@
 -- What stands at the front of some bytes: a whole value, a fault at a place, or too little to tell
-use Rattle.std.specs.Prelude.{ℕ, zero, suc, ◌+◌, ◌*◌, List, [], ◌∷◌, length, take, drop, Option, Some, None, Bool, ◌==◌, ◌&&◌, ◌||◌, not, nat_lt, nat_le, if◌then◌else◌, bytes_eq}
+use Rattle.std.specs.Prelude.{◌≡◌, ℕ, zero, suc, ◌+◌, ◌*◌, List, [], ◌∷◌, length, take, drop, Option, Some, None, Bool, ◌==◌, ◌&&◌, ◌||◌, not, nat_lt, nat_le, if◌then◌else◌, bytes_eq}
 use Rattle.cm_base.specs.Configuration.{Configuration}
 use Rattle.cm_base.specs.declared.config.UnitConfig.{UnitConfig}
 use Rattle.scsi_sense.specs.SenseCode.{SenseCode}
@@ -112,6 +112,10 @@ read_item bytes =
     else if byte bytes 0 == 2 then read_run bytes
     else if byte bytes 0 == 3 then read_pump bytes
     else Bad 0
+
+-- an item stands at the front, in so many bytes
+abbrev pub HasItem : List ℕ → ℕ → Type 0
+HasItem bytes used = (item : TraceItem) × (read_item bytes ≡ Whole item used)
 
 -- ---- replies
 

@@ -4,7 +4,9 @@
 mod frame;
 mod header;
 mod item;
+mod item_buffer;
 mod laws;
+mod long_item;
 mod reply;
 mod request;
 
@@ -12,6 +14,7 @@ pub use cm_base::Parsed;
 pub use frame::{Reply, Request};
 pub use header::{read_header, write_header};
 pub use item::{TraceItem, read_item, write_item};
+pub use item_buffer::ItemBuffer;
 pub use laws::{none_begins_law, one_spelling_law, read_back_law, stays_judged_law};
 pub use reply::{read_reply, reply_head, write_reply};
 pub use request::{DATA_LIMIT, read_request, write_request};
