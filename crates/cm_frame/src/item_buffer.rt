@@ -5,7 +5,7 @@ ghost use Rattle.cm_base.specs.declared.input_buffer.FillFailed.{FillFailed};
 ghost use Rattle.cm_frame.specs.Reading.{read_item, HasItem};
 
 use crate::item::{TraceItem, read_item};
-use crate::long_item::{FRONT, LongItem};
+use crate::long_item::LongItem;
 use cm_base::{FillFailed, InputBuffer, OutOfMemory, Parsed, Source};
 use std::alloc::Global;
 use std::marker::Model;
@@ -67,10 +67,12 @@ impl ItemBuffer {
         requires { HasItem self.old used }
         ensures { self.new ≡ drop used self.old }
     {
-        match self.long.take() {
-            None => self.rest.consume(used),
-            Some(long) => self.rest.consume(long.missing()),
-        }
+        let left = match &self.long {
+            Some(long) => long.missing(),
+            None => used,
+        };
+        self.long = None;
+        self.rest.consume(left);
     }
 
     /// Pulls once, and adds what came; 0 bytes come only at the end of the input.
@@ -96,16 +98,12 @@ impl ItemBuffer {
     fn make_room(&mut self, alloc: Global) -> Result<(), OutOfMemory>
         ensures { self.new ≡ self.old }
     {
-        if self.long.is_none() {
-            let Some(long) = LongItem::begin(alloc, self.rest.as_slice())? else {
-                return Ok(());
-            };
-            self.rest.consume(FRONT);
-            self.long = Some(long);
-        }
         match &mut self.long {
             Some(long) => long.gather(&mut self.rest),
-            None => Ok(()),
+            None => {
+                self.long = LongItem::begin(alloc, &mut self.rest)?;
+                Ok(())
+            }
         }
     }
 }

@@ -1,8 +1,8 @@
-ghost use Rattle.std.specs.Prelude.{◌≡◌, ◌+◌, ◌≤◌, ◌<◌, ◌++◌, ℕ, List, length, take, Option, Some, None, IfOk, IfSome, IfNone, OnOk};
+ghost use Rattle.std.specs.Prelude.{◌≡◌, ◌+◌, ◌≤◌, ◌<◌, ◌++◌, ℕ, List, length, take, Option, Some, None, IfOk, IfSome, IfNone, OnOk, OnErr};
 ghost use Rattle.std.specs.Option.{ForSome};
 ghost use Rattle.cm_base.specs.Fields.{byte, field};
 ghost use Rattle.cm_frame.specs.Grammar.{data_limit};
-ghost use Rattle.cm_frame.specs.DataOut.{so_far};
+ghost use Rattle.cm_frame.specs.DataOut.{IsFront, so_far};
 ghost use Rattle.cm_frame.specs.Reading.{read_item};
 
 use crate::frame::Request;
@@ -13,10 +13,25 @@ use std::alloc::Global;
 use std::mem;
 
 /// Bytes of an item that begins a command, before its data-out.
-pub(crate) const FRONT: usize = 35;
+const FRONT: usize = 35;
 
 /// Bytes from which on a data-out is long: as many as a pipe holds.
 const LONG: u32 = 65_536;
+
+/// Bytes of the data-out of the item that stands at the front of some bytes, if they are many.
+fn long_data(bytes: &[u8]) -> Option<usize>
+    ensures there { IfSome result (λ wanted. 35 ≤ length bytes.now) }
+    ensures front { IfSome result (λ wanted. IsFront (take 35 bytes.now) wanted) }
+{
+    if bytes.len() < FRONT || bytes[0] != 1 {
+        return None;
+    }
+    let wanted = get_u32(bytes, 13);
+    if wanted < LONG || wanted > DATA_LIMIT {
+        return None;
+    }
+    Some(wanted as usize)
+}
 
 /// An item with a long data-out, which is copied into its payload as it comes. So the next bytes
 /// come while these are copied, and no buffer of its length is wanted beside it.
@@ -30,36 +45,37 @@ pub(crate) struct LongItem {
     come: Vec<u8>,
     /// All of it.
     whole: Option<Payload>,
-    ghost begins: { byte front 0 ≡ 1 },
-    ghost told: { field front 13 16 ≡ wanted },
-    ghost limit: { wanted ≤ data_limit },
+    ghost is_front: { IsFront front wanted },
     ghost few: { length (so_far whole come.items) ≤ wanted },
     ghost all: { ForSome whole (λ bytes. length bytes ≡ wanted) },
 }
 
 impl LongItem {
-    ghost use Rattle.cm_frame.specs.Gathering.{gathered, HasTaken};
+    ghost use Rattle.cm_frame.specs.Gathering.{gathered, begun, HasTaken};
 
-    /// The item at the front of some bytes, if its data-out is long; nothing but the bytes before
-    /// that was taken.
-    pub(crate) fn begin(alloc: Global, bytes: &[u8]) -> Result<Option<LongItem>, OutOfMemory>
-        ensures there { IfOk result (λ begun. IfSome begun (λ l. 35 ≤ length bytes.now)) }
-        ensures front { IfOk result (λ begun. IfSome begun (λ l. gathered l ≡ take 35 bytes.now)) }
+    /// Begins the item at the front, if its data-out is long, and takes what waits of it.
+    pub(crate) fn begin(
+        alloc: Global,
+        rest: &mut InputBuffer,
+    ) -> Result<Option<LongItem>, OutOfMemory>
+        ensures same { IfOk result (λ long. begun long ++ rest.new ≡ rest.old) }
+        ensures err { OnErr result (rest.new ≡ rest.old) }
     {
-        if bytes.len() < FRONT || bytes[0] != 1 {
+        let bytes = rest.as_slice();
+        let Some(wanted) = long_data(bytes) else {
             return Ok(None);
-        }
-        let wanted = get_u32(bytes, 13);
-        if !matches!(wanted, LONG..=DATA_LIMIT) {
-            return Ok(None);
-        }
+        };
         let mut front = [0; FRONT];
         front.copy_from_slice(&bytes[..FRONT]);
-        let wanted = wanted as usize;
+        let waits = &bytes[FRONT..];
+        let count = waits.len().min(wanted);
+        let mut come = Vec::with_capacity(alloc, wanted)?;
+        come.extend_from_slice(&waits[..count])?;
+        rest.consume(FRONT + count);
         Ok(Some(LongItem {
             front,
             wanted,
-            come: Vec::with_capacity(alloc, wanted)?,
+            come,
             whole: None,
         }))
     }
