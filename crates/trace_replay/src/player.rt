@@ -2,7 +2,7 @@ ghost use Rattle.std.specs.Prelude.{◌≡◌, ◌+◌, ◌-◌, ◌^◌, ◌<�
 ghost use Rattle.std.specs.Io.KnownBytes.{Consumes, IsAtEnd};
 ghost use Rattle.cm_base.specs.Configuration.{Configuration};
 ghost use Rattle.cm_base.specs.declared.parsed.Parsed.TheVariants.{Whole, Short};
-ghost use Rattle.cm_frame.specs.Reading.{read_header, read_item};
+ghost use Rattle.cm_frame.specs.Reading.{read_header, read_item, HasItem};
 ghost use Rattle.cmd_program.specs.Judging.{step};
 ghost use Rattle.trace_replay.specs.Standing.{Standing};
 ghost use Rattle.trace_replay.specs.Replayed.{Replayed, IsCounted};
@@ -16,7 +16,7 @@ use crate::machine::{Effect, Machine};
 use crate::reply::{flush, write_reply};
 use crate::summary::Summary;
 use cm_base::{Config, InputBuffer, OutOfMemory, OutputBuffer, Parsed, Sink, Source};
-use cm_frame::{TraceItem, read_item};
+use cm_frame::{ItemBuffer, TraceItem};
 use std::alloc::Global;
 
 /// Items that a trace may have.
@@ -29,7 +29,7 @@ pub(crate) struct Player {
     machine: Machine,
     summary: Summary,
     /// Bytes that were pulled and not used yet.
-    input: InputBuffer,
+    input: ItemBuffer,
     /// Place of the first of them in the whole input.
     place: u64,
     /// Replies that were not pushed yet.
@@ -76,7 +76,7 @@ impl Player {
             alloc,
             machine: Machine::new(alloc, config)?,
             summary: Summary::none(),
-            input,
+            input: ItemBuffer::new(input),
             place: used as u64,
             output: OutputBuffer::new(alloc),
         })
@@ -154,7 +154,7 @@ impl Player {
         ensures counted { IsCountedBy (I.read_faults input.old) (I.read_faults input.new) (O.write_faults output.old) (O.write_faults output.new) result }
         ensures summary { self.new.summary ≡ self.old.summary }
     {
-        if !self.input.as_slice().is_empty() {
+        if !self.input.is_empty() {
             return Ok(true);
         }
         self.pull(input, output)
@@ -192,7 +192,7 @@ impl Player {
         ensures same { OnOk result ((self.new ≡ self.old) × (output.new ≡ output.old)) }
         ensures looked { IfOk result (LooksAt self.old.input) }
     {
-        match read_item(self.alloc, self.input.as_slice())? {
+        match self.input.item(self.alloc)? {
             Parsed::Whole { value: item, used } => Ok(Some(Found { item, used })),
             Parsed::Bad { place: _ } => Err(bad_record(self.place, &mut self.output, output)),
             Parsed::Short => Ok(None),
@@ -207,7 +207,7 @@ impl Player {
             (λ e. Replayed step left rest taken given (Err e)) }
         ensures counted { (reads writes : ℕ) → IsCountedBy reads reads writes writes result }
     {
-        if self.input.as_slice().is_empty() {
+        if self.input.is_empty() {
             Ok(None)
         } else {
             Err(ReplayFault::Torn { place: self.place })
@@ -230,7 +230,7 @@ impl Player {
         ensures summary { self.new.summary ≡ self.old.summary }
     {
         flush(&mut self.output, output)?;
-        let count = self.input.fill(input)?;
+        let count = self.input.fill(self.alloc, input)?;
         Ok(count > 0)
     }
 
@@ -262,7 +262,7 @@ impl Player {
 
     /// Goes on behind an item that was played.
     fn pass(&mut self, used: usize)
-        requires used { used ≤ length self.old.input }
+        requires item { HasItem self.old.input used }
         requires place { self.old.place + used < 2 ^ 64 }
         requires room { HasRoom self.old.summary }
         ensures { (config : Configuration) (s : Standing) → IsStanding config s self.old.machine
@@ -272,7 +272,7 @@ impl Player {
               summary = with_item self.old.summary (length s.entries);
             } }
     {
-        self.input.consume(used);
+        self.input.pass(used);
         self.place += used as u64;
         self.summary.count_item(self.machine.steps());
     }

@@ -11,5 +11,5 @@ returns-in_err-item-clause-failed g c = λ left rest taken is.
 
 pub returns-in-Bad-clause-failed : goal.returns-in-Bad-clause-failed
 returns-in-Bad-clause-failed g c = λ left rest taken is.
-    let bad = ap read_item (sym c.as_slice.ensures) ∙ sym c.in_ok-item.ensures.value ∙ c.in-Bad.is in
+    let bad = sym c.in_ok-item.ensures.value ∙ c.in-Bad.is in
     c.bad_record.ensures.ended left rest taken is.config is.s _ _ is.loop (bad-ends is.config is.s _ _ _ _ c.requires bad)

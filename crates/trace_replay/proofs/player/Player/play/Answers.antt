@@ -2,7 +2,7 @@ use Rattle.std.proofs.Common.{subst}
 use Rattle.std.proofs.lemmas.Result.{err_from_is_err_and}
 use Rattle.trace_replay.specs.Machines.{IsEffect}
 use Rattle.trace_replay.proofs.Playing.{ends-memory, unfit-ends}
-use Rattle.trace_replay.proofs.Counted.{used-within, room-item, quiet-at, passed-waits, replied-at}
+use Rattle.trace_replay.proofs.Counted.{room-item, quiet-at, passed-waits, replied-at}
 use Rattle.trace_replay.proofs.player.Player.play.Goals as goal
 
 pub returns-in_err-play-clause-played : goal.returns-in_err-play-clause-played
@@ -10,11 +10,11 @@ returns-in_err-play-clause-played g c = λ left rest taken is.
     let p = err_from_is_err_and c.from_residual.result c.from_residual.ensures.1 in
     rw (p.1, p.2) (ends-memory left rest taken _ is.config is.s _ _ _ _ is.loop)
 
-pub pass-requires-clause-used : goal.pass-requires-clause-used
-pass-requires-clause-used g c = used-within _ _ _ c.requires.found
+pub pass-requires-clause-item : goal.pass-requires-clause-item
+pass-requires-clause-item g c = (c.args.found.item, c.requires.found)
 
-pub pass-requires-in-Answers-clause-used : goal.pass-requires-in-Answers-clause-used
-pass-requires-in-Answers-clause-used g c = used-within _ _ _ c.requires.found
+pub pass-requires-in-Answers-clause-item : goal.pass-requires-in-Answers-clause-item
+pass-requires-in-Answers-clause-item g c = (c.args.found.item, c.requires.found)
 
 pub count_reply-requires-clause-room : goal.count_reply-requires-clause-room
 count_reply-requires-clause-room g c =
