@@ -90,6 +90,7 @@ impl RangeListRoom {
     pub(crate) fn pop(&mut self) -> Option<Range>
         ensures last { IfSome result (λ range. self.old.ranges ≡ self.new.ranges ++ range ∷ []) }
         ensures empty { IfNone result ((self.old.ranges ≡ []) × (self.new.ranges ≡ [])) }
+        ensures room { self.new.spare ≡ self.old.spare }
     {
         self.ranges.pop()
     }
