@@ -1,10 +1,11 @@
 -- Where two places of some ranges denote one block
-use Rattle.std.proofs.Common.{◌≡◌, ℕ, zero, suc, ◌+◌, ◌<◌, List, [], ◌∷◌, ◌++◌, ◌-◌, length, take, drop, refl, ◌∙◌, arith, true, false, Bool, get_or, add-one, drop-cons}
+use Rattle.std.proofs.Common.{◌≡◌, ℕ, zero, suc, ◌+◌, ◌<◌, List, [], ◌∷◌, ◌++◌, ◌-◌, length, take, drop, refl, ◌∙◌, arith, true, false, Bool, Some, sym, get_or, slice_get, add-one, drop-cons}
 use Rattle.std.specs.Prelude.{◌==◌, ◌||◌, ◌&&◌, nat_lt, nat_le}
 use Rattle.std.specs.List.{list_any}
 use Rattle.std.proofs.lemmas.Bool.Decides.{nat_tests}
 use Rattle.std.proofs.lemmas.List.Folds.{list_any-append}
 use Rattle.std.proofs.lemmas.List.{take_rest}
+use Rattle.std.proofs.lemmas.Option.{slice_get_within, get_or_from_slice_get}
 use Rattle.lba_ranges.specs.declared.ranges.Range.{Range}
 use Rattle.lba_ranges.specs.Denoted.{row, blocks_of, has_repeat, is_overlapping, meets}
 
@@ -68,11 +69,13 @@ overlapping-cons r rs =
     rw (repeat-append (row r.lba r.count) (blocks_of rs), row_apart r.lba r.count, shares-ranges r rs) refl
 
 -- the ranges from the i-th on overlap where that one meets a later one, or the later ones overlap
-pub overlapping-drop : (rs xs : List Range) (i : ℕ) (r : Range) (met : Bool) → i < length rs → r ≡ get_or rs i r → xs ≡ rs
-    → met ≡ list_any (meets r) (take (length xs - (i + 1)) (drop (i + 1) xs))
+pub overlapping-drop : (rs : List Range) (i : ℕ) (r : Range) (met : Bool) → slice_get rs i ≡ Some r
+    → met ≡ list_any (meets r) (take (length rs - (i + 1)) (drop (i + 1) rs))
     → is_overlapping (drop i rs) ≡ (met || is_overlapping (drop (i + 1) rs))
-overlapping-drop rs xs i r met h is same tested =
+overlapping-drop rs i r met there tested =
+    let h : i < length rs = slice_get_within rs i r there in
+    let is : r ≡ get_or rs i r = sym (get_or_from_slice_get rs i r r there) in
     let split : is_overlapping (drop i rs) ≡ (list_any (meets r) (drop (i + 1) rs) || is_overlapping (drop (i + 1) rs)) =
-    rw (add-one, drop-cons rs i r, ← is) (overlapping-cons r (drop (suc i) rs)) in
-    let rest : met ≡ list_any (meets r) (drop (i + 1) rs) = tested ∙ rw (take_rest xs (i + 1), same) refl in
+    rw (add-one, drop-cons rs i r h, ← is) (overlapping-cons r (drop (suc i) rs)) in
+    let rest : met ≡ list_any (meets r) (drop (i + 1) rs) = tested ∙ rw (take_rest rs (i + 1)) refl in
     rw rest split

@@ -3,3 +3,4 @@ pub mod Runs
 pub mod Denoted
 pub mod Writings
 pub mod Roomy
+pub mod Lending

@@ -1,4 +1,4 @@
--- A range list that is being built, as contracts see it
+-- A range list with its room, as contracts see it
 use Rattle.std.specs.Prelude.{ℕ, List}
 use Rattle.lba_ranges.specs.declared.ranges.Range.{Range}
 

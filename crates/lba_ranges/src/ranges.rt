@@ -1,7 +1,10 @@
 ghost use Rattle.std.specs.Prelude.{◌≡◌, ℕ, ◌+◌, ◌*◌, ◌<◌, ◌≤◌, ◌^◌, ◌++◌, ◌∷◌, [], length, get_or, slice_get, slice_range, OnOk, OnErr, IfOk, IfSome, IfNone, IsTrue};
+ghost use Rattle.std.specs.Borrow.{sem};
 ghost use Rattle.std.specs.List.{list_any};
 ghost use Rattle.lba_ranges.specs.Denoted.{row, blocks_of, total, is_within, is_overlapping, meets};
+ghost use Rattle.lba_ranges.specs.Lending.{LendsRoom};
 
+use crate::room::RangeListRoom;
 use cm_base::OutOfMemory;
 use std::alloc::Global;
 use std::marker::Model;
@@ -47,18 +50,16 @@ impl Range {
 /// At most 64 ranges.
 #[derive(Drop)]
 pub struct RangeList {
-    ranges: Vec<Range>,
+    room: RangeListRoom,
 }
 
 impl Model for RangeList {
-    ghost use Rattle.std.specs.Prelude.{List, length, ◌≤◌};
+    ghost use Rattle.std.specs.Prelude.{List};
     ghost use Rattle.lba_ranges.specs.declared.ranges.Range.{Range};
 
     ghost Value = { List Range };
 
-    ghost view = { λ l. l.ranges.items };
-
-    ghost invariant = { λ l. length l.ranges.items ≤ 64 };
+    ghost view = { λ l. l.room.ranges };
 }
 
 impl RangeList {
@@ -67,24 +68,16 @@ impl RangeList {
         ensures { result ≡ [] }
     {
         RangeList {
-            ranges: Vec::new(alloc),
+            room: RangeListRoom::empty(alloc),
         }
     }
 
-    /// The list of these ranges. It takes no memory.
-    pub(crate) fn from_vec(ranges: Vec<Range>) -> RangeList
-        requires { length ranges.items ≤ 64 }
-        ensures { result ≡ ranges.items }
+    /// The ranges in order. It takes no memory.
+    fn as_slice(&self) -> &[Range]
+        ensures ranges { result.now ≡ self.now }
+        ensures few { length result.now ≤ 64 }
     {
-        RangeList { ranges }
-    }
-
-    /// The ranges alone. It takes no memory.
-    pub(crate) fn into_vec(self) -> Vec<Range>
-        ensures ranges { result.items ≡ self }
-        ensures few { length result.items ≤ 64 }
-    {
-        self.ranges
+        self.room.as_slice()
     }
 
     /// How many ranges there are, at most 64. It takes no memory.
@@ -92,7 +85,7 @@ impl RangeList {
         ensures length { result ≡ length self.now }
         ensures few { result ≤ 64 }
     {
-        self.ranges.len()
+        self.room.len()
     }
 
     /// The range at this place; the first is at 0. It takes no memory.
@@ -100,7 +93,19 @@ impl RangeList {
         requires { index < length self.now }
         ensures { slice_get self.now index ≡ Some result }
     {
-        self.ranges[index]
+        self.as_slice()[index]
+    }
+
+    /// Makes room for so many more ranges, and lends the list with its room.
+    /// At `OutOfMemory` the list is as before.
+    pub fn reserve(&mut self, more: u64) -> Result<&mut RangeListRoom, OutOfMemory>
+        ensures* lent { sem 𝓛 (LendsRoom self.entry result) }
+        ensures same { IfOk result (λ room. room.now.ranges ≡ self.old) }
+        ensures room { IfOk result (λ room. more ≤ room.now.spare) }
+    {
+        let room = &mut self.room;
+        room.reserve(more)?;
+        Ok(room)
     }
 
     /// Adds a range to the end, as one of at most 64. At `OutOfMemory` the list is as before.
@@ -109,7 +114,7 @@ impl RangeList {
         ensures ok { OnOk result (self.new ≡ self.old ++ range ∷ []) }
         ensures err { OnErr result (self.new ≡ self.old) }
     {
-        self.ranges.push(range)?;
+        self.reserve(1)?.append(range);
         Ok(())
     }
 
@@ -118,7 +123,7 @@ impl RangeList {
         ensures last { IfSome result (λ range. self.old ≡ self.new ++ range ∷ []) }
         ensures empty { IfNone result ((self.old ≡ []) × (self.new ≡ [])) }
     {
-        self.ranges.pop()
+        self.room.pop()
     }
 
     /// How many blocks the ranges denote, a block once for each range that it is in.
@@ -128,7 +133,7 @@ impl RangeList {
         ensures few { result ≤ 64 * 4_294_967_295 }
     {
         let mut blocks = 0;
-        for range in &self.ranges {
+        for range in self.as_slice() {
             blocks += u64::from(range.count);
         }
         blocks
@@ -140,7 +145,7 @@ impl RangeList {
         ensures { IfOk result (λ blocks. blocks.items ≡ blocks_of self.now) }
     {
         let mut blocks = Vec::new(alloc);
-        for range in &self.ranges {
+        for range in self.as_slice() {
             range.push_blocks(&mut blocks)?;
         }
         Ok(blocks)
@@ -153,7 +158,7 @@ impl RangeList {
         ensures { result ≡ get_or (blocks_of self.now) place 0 }
     {
         let mut left = place;
-        for range in &self.ranges {
+        for range in self.as_slice() {
             if left < u64::from(range.count) {
                 return range.lba + left;
             }
@@ -166,8 +171,10 @@ impl RangeList {
     pub fn overlap(&self) -> bool
         ensures { result ≡ is_overlapping self.now }
     {
-        for index in 0..self.ranges.len() {
-            if self.ranges[index].meets_any(&self.ranges[index + 1..]) {
+        let ranges = self.as_slice();
+        for index in 0..ranges.len() {
+            let range = self.at(index);
+            if range.meets_any(&ranges[index + 1..]) {
                 return true;
             }
         }
@@ -178,7 +185,7 @@ impl RangeList {
     pub fn within(&self, blocks: u64) -> bool
         ensures { result ≡ is_within blocks self.now }
     {
-        for range in &self.ranges {
+        for range in self.as_slice() {
             if range.lba > blocks || u64::from(range.count) > blocks - range.lba {
                 return false;
             }
@@ -215,7 +222,7 @@ impl RangeList {
         let mut part = RangeList::empty(alloc);
         let mut skip = from;
         let mut left = count;
-        for range in &self.ranges {
+        for range in self.as_slice() {
             let whole = u64::from(range.count);
             let before = skip.min(whole);
             let taken = left.min(whole - before);
@@ -231,7 +238,7 @@ impl RangeList {
         ensures { IfOk result (λ l. l ≡ self.now) }
     {
         Ok(RangeList {
-            ranges: Vec::from_slice(alloc, &self.ranges)?,
+            room: self.room.copy(alloc)?,
         })
     }
 }

@@ -1,8 +1,8 @@
-ghost use Rattle.std.specs.Prelude.{◌≡◌, ◌+◌, ◌<◌, ◌≤◌, length, IfOk};
+ghost use Rattle.std.specs.Prelude.{◌≡◌, ◌+◌, ◌<◌, ◌≤◌, ◌++◌, ◌∷◌, [], length, IfOk, OnOk, OnErr};
 ghost use Rattle.lba_ranges.specs.HeldBlocks.{IsFull};
 
 use super::*;
-use cm_base::{Bytes, Payload};
+use cm_base::{Bytes, OutOfMemory, Payload};
 use std::alloc::Global;
 use std::test::Fail;
 
@@ -21,18 +21,27 @@ fn ranges(rt: HostRuntime) -> Result<(), Fail> {
     Ok(())
 }
 
+/// Adds both ranges, or none of them.
+fn add_both(list: &mut RangeList, first: Range, second: Range) -> Result<(), OutOfMemory>
+    requires { length list.old + 2 ≤ 64 }
+    ensures ok { OnOk result (list.new ≡ list.old ++ first ∷ second ∷ []) }
+    ensures err { OnErr result (list.new ≡ list.old) }
+{
+    let room = list.reserve(2)?;
+    room.append(first);
+    room.append(second);
+    Ok(())
+}
+
 /// A list of one range, and then two for which there was room.
 #[test]
 fn ranges_with_room(rt: HostRuntime) -> Result<(), Fail> {
     let mut list = RangeList::empty(rt.alloc());
     list.push(Range { lba: 0, count: 1 })?;
-    let mut builder = RangeListBuilder::from_list(list);
-    builder.reserve(2)?;
-    builder.append(Range { lba: 10, count: 3 });
-    builder.append(Range { lba: 20, count: 2 });
-    assert_eq!(rt; builder.len(), 3);
-    let list = builder.into_list();
-    assert!(rt; list.total() == 6 && list.at(2).lba == 20);
+    let first = Range { lba: 10, count: 3 };
+    add_both(&mut list, first, Range { lba: 20, count: 2 })?;
+    assert!(rt; list.len() == 3 && list.total() == 6);
+    assert!(rt; list.at(1).lba == 10 && list.at(2).lba == 20);
     Ok(())
 }
 

@@ -4,4 +4,4 @@ use Rattle.lba_ranges.proofs.ranges.RangeList.overlap.Given as goal
 
 abbrev pub invariant-loop-index : goal.invariant-loop-index
 invariant-loop-index l =
-    is_overlapping l.self-inside.ranges.items ≡ is_overlapping (drop l.index l.self-inside.ranges.items)
+    is_overlapping l.ranges ≡ is_overlapping (drop l.index l.ranges)

@@ -7,18 +7,18 @@ use Rattle.lba_ranges.proofs.ranges.RangeList.slice.Goals as goal
 
 pub loop-range-init : goal.loop-range-init
 loop-range-init c =
-    let same : c.deref-range-items.result.now ≡ c.args.self.now = c.deref-range-items.ensures.value ∙ c.self.view_is in
-    let long : length (blocks_of c.deref-range-items.result.now) ≡ total c.args.self.now = ap (λ rs. length (blocks_of rs)) same ∙ length-blocks_of c.args.self.now in
+    let same : c.as_slice-range-items.result.now ≡ c.args.self.now = c.as_slice-range-items.ensures.ranges in
+    let long : length (blocks_of c.as_slice-range-items.result.now) ≡ total c.args.self.now = ap (λ rs. length (blocks_of rs)) same ∙ length-blocks_of c.args.self.now in
     rw c.empty-part.ensures (refl, omega (arith, long), omega arith, omega arith, λ blocks all. refl)
 
 pub push_part-requires-clause-numbers : goal.push_part-requires-clause-numbers
 push_part-requires-clause-numbers c =
-    within-read (2 ^ 64) c.deref-range-items.result.now c.loop-range.range-index _
-    (rw (c.deref-range-items.ensures.value, c.self.view_is) c.requires.numbers) c.loop-range-test.true
+    within-read (2 ^ 64) c.as_slice-range-items.result.now c.loop-range.range-index _
+    (rw c.as_slice-range-items.ensures.ranges c.requires.numbers) c.loop-range-test.true
 
 pub loop-range-preserved : goal.loop-range-preserved
 loop-range-preserved c =
-    let items = c.deref-range-items.result.now in
+    let items = c.as_slice-range-items.result.now in
     let range : Range = get_or items c.loop-range.range-index (record { lba = 0; count = 0 }) in
     let next = blocks_of-drop items c.loop-range.range-index (record { lba = 0; count = 0 }) c.loop-range-test.true in
     let before : c.min-before.result ≡ min c.loop-range.skip range.count = omega arith in

@@ -1,47 +1,55 @@
-ghost use Rattle.std.specs.Prelude.{◌≡◌, ◌<◌, ◌≤◌, ◌+◌, ◌++◌, ◌∷◌, [], length, OnOk, OnErr};
+ghost use Rattle.std.specs.Prelude.{◌≡◌, ◌<◌, ◌≤◌, ◌+◌, ◌++◌, ◌∷◌, [], length, IfOk, OnOk, OnErr, IfSome, IfNone};
 
-use crate::ranges::{Range, RangeList};
+use crate::ranges::Range;
 use cm_base::OutOfMemory;
 use std::alloc::Global;
 use std::marker::Model;
 
-/// A range list that is being built. Contracts see its ranges, and how many more have room.
+/// At most 64 ranges with their room. Contracts see the ranges, and how many more have room.
 #[derive(Drop)]
-pub struct RangeListBuilder {
+pub struct RangeListRoom {
     ranges: Vec<Range>,
     spare: u64,
 }
 
-impl Model for RangeListBuilder {
+impl Model for RangeListRoom {
     ghost use Rattle.std.specs.Prelude.{◌≤◌, ◌+◌, length, vec_len, vec_capacity};
     ghost use Rattle.lba_ranges.specs.Roomy.{Roomy};
 
     ghost Value = { Roomy };
 
-    ghost view = { λ b. record { ranges = b.ranges.items; spare = b.spare } };
+    ghost view = { λ r. record { ranges = r.ranges.items; spare = r.spare } };
 
-    ghost invariant = { λ b. (length b.ranges.items ≤ 64) × (vec_len b.ranges + b.spare ≤ vec_capacity b.ranges) };
+    ghost invariant = { λ r. (length r.ranges.items ≤ 64) × (vec_len r.ranges + r.spare ≤ vec_capacity r.ranges) };
 }
 
-impl RangeListBuilder {
-    /// The builder without ranges. It takes no memory.
-    pub fn empty(alloc: Global) -> RangeListBuilder
+impl RangeListRoom {
+    /// No ranges, and room for none. It takes no memory.
+    pub(crate) fn empty(alloc: Global) -> RangeListRoom
         ensures { result ≡ record { ranges = []; spare = 0 } }
     {
-        RangeListBuilder {
+        RangeListRoom {
             ranges: Vec::new(alloc),
             spare: 0,
         }
     }
 
-    /// The builder that goes on from a list. It takes no memory.
-    pub fn from_list(list: RangeList) -> RangeListBuilder
-        ensures { result ≡ record { ranges = list; spare = 0 } }
+    /// Equal ranges, and room for no more.
+    pub(crate) fn copy(&self, alloc: Global) -> Result<RangeListRoom, OutOfMemory>
+        ensures { IfOk result (λ room. room ≡ record { ranges = self.now.ranges; spare = 0 }) }
     {
-        RangeListBuilder {
-            ranges: list.into_vec(),
+        Ok(RangeListRoom {
+            ranges: Vec::from_slice(alloc, &self.ranges)?,
             spare: 0,
-        }
+        })
+    }
+
+    /// The ranges in order. It takes no memory.
+    pub(crate) fn as_slice(&self) -> &[Range]
+        ensures ranges { result.now ≡ self.now.ranges }
+        ensures few { length result.now ≤ 64 }
+    {
+        self.ranges.as_slice()
     }
 
     /// How many ranges there are, at most 64. It takes no memory.
@@ -78,10 +86,12 @@ impl RangeListBuilder {
         self.spare -= 1;
     }
 
-    /// The list of the ranges. It takes no memory.
-    pub fn into_list(self) -> RangeList
-        ensures { result ≡ self.ranges }
+    /// Takes the last range out; `None` exactly where there are none. It takes no memory.
+    pub(crate) fn pop(&mut self) -> Option<Range>
+        ensures last { IfSome result (λ range. self.old.ranges ≡ self.new.ranges ++ range ∷ []) }
+        ensures empty { IfNone result ((self.old.ranges ≡ []) × (self.new.ranges ≡ [])) }
+        ensures room { self.new.spare ≡ self.old.spare }
     {
-        RangeList::from_vec(self.ranges)
+        self.ranges.pop()
     }
 }
