@@ -2,7 +2,7 @@ ghost use Rattle.std.specs.Prelude.{◌≤◌, length};
 ghost use Rattle.cm_frame.specs.Grammar.{data_limit, data_in};
 
 use super::*;
-use cm_base::{Bytes, Payload};
+use cm_base::{Bytes, CallList, InputBuffer, MemorySource, Payload};
 use scsi_sense::Sense;
 use std::test::Fail;
 
@@ -111,6 +111,61 @@ fn items_are_read_and_written(rt: HostRuntime) -> Result<(), Fail> {
     );
     let found = ending_of(read_request(rt.alloc(), &bytes.as_slice()[13..])?);
     assert_eq!(rt; found, Ending::Whole(1046));
+    Ok(())
+}
+
+/// The item at the front, if it is whole; it is passed.
+fn take_item(rt: &HostRuntime, waits: &mut ItemBuffer) -> Result<Option<TraceItem>, Fail> {
+    match waits.item(rt.alloc())? {
+        Parsed::Whole { value, used } => {
+            waits.pass(used);
+            Ok(Some(value))
+        }
+        _ => Ok(None),
+    }
+}
+
+/// Whether an item begins a command with so many bytes of data-out, and these first and last ones.
+fn begins_with(item: Option<TraceItem>, count: usize, first: u8, last: u8) -> bool {
+    let Some(TraceItem::Begin { request, .. }) = item else {
+        return false;
+    };
+    let out = request.out.as_slice();
+    out.len() == count && out.first() == Some(&first) && out.last() == Some(&last)
+}
+
+/// A WRITE of 65,536 bytes, the first one 3 and the last one 7, and then a run.
+fn long_write(rt: &HostRuntime) -> Result<Bytes, Fail> {
+    let mut data = vec![in rt.alloc(); 1u8; 65_536]?;
+    data[0] = 3;
+    data[65_535] = 7;
+    let mut bytes = Bytes::copy(rt.alloc(), &WRITE[..13])?;
+    bytes.extend(&65_536_u32.to_be_bytes())?;
+    bytes.extend(&WRITE[17..])?;
+    bytes.extend(&data)?;
+    bytes.extend(&[2, 0, 0, 0, 1, 0, 0, 0, 0, 0, 0, 0, 5])?;
+    Ok(bytes)
+}
+
+/// A long data-out comes in four pulls, and the item behind it with the last of them.
+#[test]
+fn a_long_item_is_gathered(rt: HostRuntime) -> Result<(), Fail> {
+    let none = CallList::empty(rt.alloc());
+    let mut source = MemorySource::new(long_write(&rt)?, 20_000, none);
+    let mut waits = ItemBuffer::new(InputBuffer::new(rt.alloc()));
+    assert!(rt; waits.is_empty());
+    for count in [20_000, 20_000, 20_000, 5584] {
+        assert!(rt; take_item(&rt, &mut waits)?.is_none());
+        assert_eq!(rt; waits.fill(rt.alloc(), &mut source)?, count);
+    }
+    assert!(rt; begins_with(take_item(&rt, &mut waits)?, 65_536, 3, 7));
+    assert!(rt;
+        matches!(
+            take_item(&rt, &mut waits)?,
+            Some(TraceItem::Run { moment: 5, .. })
+        )
+    );
+    assert!(rt; waits.is_empty());
     Ok(())
 }
 
