@@ -302,6 +302,20 @@ fn without_first_ended(
     Ok(next)
 }
 
+/// The records, without the first that has ended where there are as many as may be kept.
+fn with_room(
+    alloc: Global,
+    records: Vec<PlainOperation>,
+) -> Result<Vec<PlainOperation>, OutOfMemory>
+    ensures { IfOk result (λ next. next.items ≡ with_room records.items) }
+{
+    if records.len() == KEPT_RECORDS {
+        without_first_ended(alloc, &records)
+    } else {
+        Ok(records)
+    }
+}
+
 /// The records that are kept after one more deed.
 pub(crate) fn kept_after(
     alloc: Global,
@@ -318,11 +332,7 @@ pub(crate) fn kept_after(
     }
     let made = PlainOperation::new(alloc, deed)?;
     let others = others(alloc, records, &made)?;
-    let mut next = if others.len() == KEPT_RECORDS {
-        without_first_ended(alloc, &others)?
-    } else {
-        others
-    };
+    let mut next = with_room(alloc, others)?;
     next.push(made)?;
     Ok(next)
 }
