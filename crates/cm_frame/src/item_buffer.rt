@@ -6,6 +6,7 @@ ghost use Rattle.cm_frame.specs.Reading.{read_item, HasItem};
 
 use crate::item::{TraceItem, read_item};
 use crate::long_item::LongItem;
+use crate::memory::Memory;
 use cm_base::{FillFailed, InputBuffer, OutOfMemory, Parsed, Source};
 use std::alloc::Global;
 use std::marker::Model;
@@ -75,11 +76,16 @@ impl ItemBuffer {
         self.rest.consume(left);
     }
 
-    /// Pulls once, and adds what came; 0 bytes come only at the end of the input.
+    /// Pulls once, and adds what came; 0 bytes come only at the end of the input. A long data-out that
+    /// has begun goes into `memory`.
     ///
     /// `Read` where the source failed; `OutOfMemory` before anything was pulled. Both leave the
     /// bytes that wait.
-    pub fn fill<S: Source>(&mut self, alloc: Global, source: &mut S) -> Result<usize, FillFailed>
+    pub fn fill<M: Memory, S: Source>(
+        &mut self,
+        memory: &mut M,
+        source: &mut S,
+    ) -> Result<usize, FillFailed>
         ensures ok { IfOk result (λ n. (more : List ℕ) × (length more ≡ n) × (self.new ≡ self.old ++ more)
             × Consumes (S.left source.old) (S.left source.new) more) }
         ensures ended { IfOk result (λ n. n ≡ 0 → IsAtEnd (S.left source.new)) }
@@ -90,18 +96,18 @@ impl ItemBuffer {
         ensures memory { IfErr result (λ e. e ≡ FillFailed.OutOfMemory → source.new ≡ source.old) }
         ensures told { StaysTold (S.left source.old) (S.left source.new) }
     {
-        self.make_room(alloc)?;
+        self.make_room(memory)?;
         self.rest.fill(source)
     }
 
     /// Moves the bytes that wait into a long data-out, if one waits for them.
-    fn make_room(&mut self, alloc: Global) -> Result<(), OutOfMemory>
+    fn make_room<M: Memory>(&mut self, memory: &mut M) -> Result<(), OutOfMemory>
         ensures { self.new ≡ self.old }
     {
         match &mut self.long {
             Some(long) => long.gather(&mut self.rest),
             None => {
-                self.long = LongItem::begin(alloc, &mut self.rest)?;
+                self.long = LongItem::begin(memory, &mut self.rest)?;
                 Ok(())
             }
         }

@@ -7,9 +7,9 @@ ghost use Rattle.cm_frame.specs.Reading.{read_item};
 
 use crate::frame::Request;
 use crate::item::TraceItem;
+use crate::memory::Memory;
 use crate::request::DATA_LIMIT;
 use cm_base::{InputBuffer, OutOfMemory, Parsed, Payload, get_u16, get_u32, get_u64};
-use std::alloc::Global;
 use std::mem;
 
 /// Bytes of an item that begins a command, before its data-out.
@@ -54,8 +54,8 @@ impl LongItem {
     ghost use Rattle.cm_frame.specs.Gathering.{gathered, begun, HasTaken};
 
     /// Begins the item at the front, if its data-out is long, and takes what waits of it.
-    pub(crate) fn begin(
-        alloc: Global,
+    pub(crate) fn begin<M: Memory>(
+        memory: &mut M,
         rest: &mut InputBuffer,
     ) -> Result<Option<LongItem>, OutOfMemory>
         ensures same { IfOk result (λ long. begun long ++ rest.new ≡ rest.old) }
@@ -69,7 +69,7 @@ impl LongItem {
         front.copy_from_slice(&bytes[..FRONT]);
         let waits = &bytes[FRONT..];
         let count = waits.len().min(wanted);
-        let mut come = Vec::with_capacity(alloc, wanted)?;
+        let mut come = memory.room(wanted)?;
         come.extend_from_slice(&waits[..count])?;
         rest.consume(FRONT + count);
         Ok(Some(LongItem {

@@ -156,7 +156,7 @@ fn a_long_item_is_gathered(rt: HostRuntime) -> Result<(), Fail> {
     assert!(rt; waits.is_empty());
     for count in [20_000, 20_000, 20_000, 5584] {
         assert!(rt; take_item(&rt, &mut waits)?.is_none());
-        assert_eq!(rt; waits.fill(rt.alloc(), &mut source)?, count);
+        assert_eq!(rt; waits.fill(&mut rt.alloc(), &mut source)?, count);
     }
     assert!(rt; begins_with(take_item(&rt, &mut waits)?, 65_536, 3, 7));
     assert!(rt;
