@@ -3,6 +3,7 @@
 
 #[cfg(test)]
 mod random;
+mod ready;
 #[cfg(test)]
 mod rows;
 mod status;
@@ -11,12 +12,16 @@ mod tests;
 mod top;
 
 use cm_base::{OutOfMemory, StandardInput, StandardOutput, Word};
+use crossbeam_channel::bounded;
+use ready::{ReadyMemory, make_ready};
 use status::Status;
-use std::alloc::Global;
+use std::alloc::{AllocError, Global};
 use std::env::{self, Args};
+use std::io::{self, Input, Print};
 use std::process::ExitCode;
 use std::rt::Env;
-use std::{io, rt};
+use std::sync::Wait;
+use std::thread::{self, Threads};
 
 /// The words of the command line, without the program's name.
 fn words(alloc: Global, args: Args<Global>) -> Result<Vec<Word>, OutOfMemory> {
@@ -35,18 +40,36 @@ fn unread(error: io::Error) -> Status {
     }
 }
 
+/// How many data-outs there may be memory for before it is wanted.
+const READY: usize = 2;
+
+/// Does what the words say, while another thread makes memory ready. Where no thread can be made, memory
+/// is taken as it is asked for.
+fn work<R: Threads + Wait + Input + Print + Sync>(
+    rt: &R,
+    alloc: Global,
+    words: &[Word],
+) -> Result<Status, AllocError> {
+    let (orders, ordered) = bounded(alloc, READY)?;
+    let (made, ready) = bounded(alloc, READY)?;
+    let status = thread::scope(thread::scope_env(), rt, move |scope| {
+        let _ = scope.spawn(move || make_ready(rt, alloc, &ordered, &made));
+        let mut memory = ReadyMemory::new(rt, alloc, orders, ready);
+        let mut input = StandardInput::new(rt.reader());
+        let mut output = StandardOutput::new(io::writer(rt));
+        top::top(alloc, &mut memory, words, &mut input, &mut output)
+    });
+    Ok(status)
+}
+
 /// Does what the command line says. Words that are no text are words that the program doesn't know.
-fn run(rt: &HostRuntime) -> Status {
+fn run<R: Threads + Wait + Env + Input + Print + Alloc<A = Global> + Sync>(rt: &R) -> Status {
     let args = match env::args(rt) {
         Ok(args) => args,
         Err(error) => return unread(error),
     };
     match words(rt.alloc(), args) {
-        Ok(words) => {
-            let mut input = StandardInput::new(rt.reader());
-            let mut output = StandardOutput::new(io::writer(rt));
-            top::top(rt.alloc(), &words, &mut input, &mut output)
-        }
+        Ok(words) => work(rt, rt.alloc(), &words).unwrap_or(Status::OutOfMemory),
         Err(OutOfMemory) => Status::OutOfMemory,
     }
 }

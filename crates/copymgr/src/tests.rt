@@ -1,12 +1,17 @@
 ghost use Rattle.std.specs.Prelude.{◌<◌};
 
+use crate::ready::{ReadyMemory, make_ready};
 use crate::rows::first_path::{HEADER, ROWS, RUN};
-use crate::rows::{Row, copies, evictions, generated, operations, tokens, usual_copy};
+use crate::rows::{Row, copies, evictions, generated, long_data, operations, tokens, usual_copy};
 use crate::status::Status;
 use crate::top::top;
-use cm_base::{Bytes, CallList, MemorySink, MemorySource, Word};
+use cm_base::{Bytes, CallList, MemorySink, MemorySource, OutOfMemory, Word};
+use cm_frame::Memory;
+use crossbeam_channel::bounded;
 use std::alloc::Global;
+use std::sync::Wait;
 use std::test::Fail;
+use std::thread;
 
 /// The bytes of pieces of hex text.
 fn bytes_of(alloc: Global, pieces: &[&str]) -> Result<Bytes, Fail> {
@@ -39,7 +44,8 @@ fn played(
     words.push(Word::from_text(alloc, "replay")?)?;
     let mut input = MemorySource::new(bytes_of(alloc, row.trace)?, step, pulls);
     let mut output = MemorySink::new(alloc, step, pushes);
-    let status = top(alloc, &words, &mut input, &mut output);
+    let mut memory = alloc;
+    let status = top(alloc, &mut memory, &words, &mut input, &mut output);
     Ok((status, output))
 }
 
@@ -64,6 +70,20 @@ fn is_as_worked(alloc: Global, row: &Row, step: usize) -> Result<bool, Fail>
 fn worked_traces(rt: HostRuntime) -> Result<(), Fail> {
     for row in &ROWS {
         for step in [1, 7, 4096] {
+            assert!(rt;
+                is_as_worked(rt.alloc(), row, step)?,
+                "{} by {step}",
+                row.name
+            );
+        }
+    }
+    Ok(())
+}
+
+#[test]
+fn worked_traces_of_long_data(rt: HostRuntime) -> Result<(), Fail> {
+    for row in &long_data::ROWS {
+        for step in [1, 4096, 50_000] {
             assert!(rt;
                 is_as_worked(rt.alloc(), row, step)?,
                 "{} by {step}",
@@ -145,7 +165,8 @@ fn replies_are(alloc: Global, trace: Bytes, replies: &Bytes) -> Result<bool, Fai
     words.push(Word::from_text(alloc, "replay")?)?;
     let mut input = MemorySource::new(trace, 4096, CallList::empty(alloc));
     let mut output = MemorySink::new(alloc, 4096, CallList::empty(alloc));
-    let status = top(alloc, &words, &mut input, &mut output);
+    let mut memory = alloc;
+    let status = top(alloc, &mut memory, &words, &mut input, &mut output);
     Ok(status == Status::Done && output.as_slice() == replies.as_slice())
 }
 
@@ -237,6 +258,49 @@ fn failing_pushes(rt: HostRuntime) -> Result<(), Fail> {
     Ok(())
 }
 
+/// Memory that is ready comes empty, and as much is ordered again.
+#[test]
+fn ready_memory_is_given(rt: HostRuntime) -> Result<(), Fail> {
+    let alloc = rt.alloc();
+    let (orders, ordered) = bounded(alloc, 2)?;
+    let (made, ready) = bounded(alloc, 2)?;
+    let mut memory = ReadyMemory::new(&rt, alloc, orders, ready);
+    let used = vec![in alloc; 1u8; 100]?;
+    assert!(rt; made.send(&rt, used).is_ok());
+    let room = memory.room(100)?;
+    assert!(rt; room.is_empty() && room.capacity() >= 100);
+    assert!(rt; ordered.try_recv(&rt) == Ok(100));
+    let other = memory.room(200)?;
+    assert!(rt; other.is_empty() && other.capacity() >= 200);
+    Ok(())
+}
+
+/// Whether memory comes empty and with its room, three times of one length.
+fn is_given<R: Wait>(mut memory: ReadyMemory<'_, R>, bytes: usize) -> Result<bool, OutOfMemory> {
+    let mut given = true;
+    for _ in 0..3 {
+        let room = memory.room(bytes)?;
+        given = given && room.is_empty() && room.capacity() >= bytes;
+    }
+    Ok(given)
+}
+
+/// A thread makes memory ready as long as another one asks for it.
+#[test]
+fn memory_is_made_ready(rt: HostRuntime) -> Result<(), Fail> {
+    let alloc = rt.alloc();
+    let (orders, ordered) = bounded(alloc, 2)?;
+    let (made, ready) = bounded(alloc, 2)?;
+    let memory = ReadyMemory::new(&rt, alloc, orders, ready);
+    let (given, ()) = thread::join(
+        &rt,
+        move || is_given(memory, 100_000),
+        || make_ready(&rt, alloc, &ordered, &made),
+    );
+    assert!(rt; given?);
+    Ok(())
+}
+
 /// Other words are Usage, and nothing is taken.
 #[test]
 fn other_words(rt: HostRuntime) -> Result<(), Fail> {
@@ -258,7 +322,8 @@ fn other_words(rt: HostRuntime) -> Result<(), Fail> {
         let trace = bytes_of(alloc, ROWS[3].trace)?;
         let mut input = MemorySource::new(trace, 4096, CallList::empty(alloc));
         let mut output = MemorySink::new(alloc, 4096, CallList::empty(alloc));
-        assert!(rt; top(alloc, &words, &mut input, &mut output) == Status::Usage);
+        let mut memory = alloc;
+        assert!(rt; top(alloc, &mut memory, &words, &mut input, &mut output) == Status::Usage);
         assert!(rt; output.as_slice().is_empty());
     }
     Ok(())

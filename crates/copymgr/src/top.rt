@@ -4,6 +4,7 @@ ghost use Rattle.copymgr.specs.Ran.{replay_words, HasReplayed};
 
 use crate::status::Status;
 use cm_base::{Sink, Source, Word};
+use cm_frame::Memory;
 use std::alloc::Global;
 use trace_replay::replay;
 
@@ -18,9 +19,10 @@ fn is_replay(words: &[Word]) -> bool
 }
 
 /// Does what the words say: `replay` plays a trace from the input and writes its reply records to
-/// the output. Other words are Usage, and nothing is read or written.
-pub fn top<I: Source, O: Sink>(
+/// the output; long data-outs go into `memory`. Other words are Usage, and nothing is read or written.
+pub fn top<M: Memory, I: Source, O: Sink>(
     alloc: Global,
+    memory: &mut M,
     words: &[Word],
     input: &mut I,
     output: &mut O,
@@ -35,5 +37,5 @@ pub fn top<I: Source, O: Sink>(
     if !is_replay(words) {
         return Status::Usage;
     }
-    Status::from(replay(alloc, input, output))
+    Status::from(replay(alloc, memory, input, output))
 }

@@ -1,5 +1,5 @@
 -- What was played is a legal history
-use Rattle.std.proofs.Common.{◌≡◌, ℕ, ◌+◌, ◌<◌, ◌≤◌, List, [], ◌∷◌, ◌++◌, length, refl, sym, ◌∙◌, subst, arith, true, length-append}
+use Rattle.std.proofs.Common.{◌≡◌, ℕ, ◌<◌, ◌≤◌, List, [], ◌∷◌, ◌++◌, length, refl, sym, ◌∙◌, subst, arith, true, length-append}
 use Rattle.std.specs.Prelude.{All, Result, Ok, Err}
 use Rattle.std.proofs.lemmas.List.Elements.{All-append}
 use Rattle.cm_base.specs.Configuration.{Configuration}
@@ -12,7 +12,6 @@ use Rattle.cm_history.specs.Legal.{IsLegal, may_ask}
 use Rattle.cm_history.proofs.Lists.{Each-all}
 use Rattle.cm_history.proofs.LegalPush.{legal_push}
 use Rattle.cm_frame.specs.Laws.{IsJudged}
-use Rattle.cm_frame.specs.Reading.{read_header}
 use Rattle.cm_frame.proofs.Stays.{header-stays}
 use Rattle.trace_replay.specs.declared.summary.Summary.{Summary}
 use Rattle.trace_replay.specs.declared.fault.ReplayFault.{ReplayFault}

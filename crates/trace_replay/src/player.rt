@@ -16,7 +16,7 @@ use crate::machine::{Effect, Machine};
 use crate::reply::{flush, write_reply};
 use crate::summary::Summary;
 use cm_base::{Config, InputBuffer, OutOfMemory, OutputBuffer, Parsed, Sink, Source};
-use cm_frame::{ItemBuffer, TraceItem};
+use cm_frame::{ItemBuffer, Memory, TraceItem};
 use std::alloc::Global;
 
 /// Items that a trace may have.
@@ -83,8 +83,9 @@ impl Player {
     }
 
     /// Plays all items that come, and pushes all replies.
-    pub(crate) fn play_all<I: Source, O: Sink>(
+    pub(crate) fn play_all<M: Memory, I: Source, O: Sink>(
         &mut self,
+        memory: &mut M,
         input: &mut I,
         output: &mut O,
     ) -> Result<Summary, ReplayFault>
@@ -94,16 +95,17 @@ impl Player {
         ensures counted { IsCounted (I.read_faults input.old) (I.read_faults input.new) (O.write_faults output.old) (O.write_faults output.new) result }
     {
         while self.summary.records < ITEMS {
-            if !self.turn(input, output)? {
+            if !self.turn(memory, input, output)? {
                 return Ok(self.summary);
             }
         }
-        self.end(input, output)
+        self.end(memory, input, output)
     }
 
     /// Plays the next item. Whether there was one.
-    fn turn<I: Source, O: Sink>(
+    fn turn<M: Memory, I: Source, O: Sink>(
         &mut self,
+        memory: &mut M,
         input: &mut I,
         output: &mut O,
     ) -> Result<bool, ReplayFault>
@@ -115,7 +117,7 @@ impl Player {
         ensures counted { IsCountedBy (I.read_faults input.old) (I.read_faults input.new) (O.write_faults output.old) (O.write_faults output.new) result }
         ensures records { IfOk result (λ more. more ≡ true → self.new.summary.records ≡ self.old.summary.records + 1) }
     {
-        match self.next_item(input, output)? {
+        match self.next_item(memory, input, output)? {
             Some(found) => {
                 self.play(found, output)?;
                 Ok(true)
@@ -125,8 +127,9 @@ impl Player {
     }
 
     /// Ends behind the last item that is allowed.
-    fn end<I: Source, O: Sink>(
+    fn end<M: Memory, I: Source, O: Sink>(
         &mut self,
+        memory: &mut M,
         input: &mut I,
         output: &mut O,
     ) -> Result<Summary, ReplayFault>
@@ -135,7 +138,7 @@ impl Player {
             → Replayed step left (I.left input.new) taken (O.taken output.new) result }
         ensures counted { IsCounted (I.read_faults input.old) (I.read_faults input.new) (O.write_faults output.old) (O.write_faults output.new) result }
     {
-        if !self.has_more(input, output)? {
+        if !self.has_more(memory, input, output)? {
             return Ok(self.summary);
         }
         flush(&mut self.output, output)?;
@@ -143,8 +146,9 @@ impl Player {
     }
 
     /// Whether bytes wait, once more were pulled where none did.
-    fn has_more<I: Source, O: Sink>(
+    fn has_more<M: Memory, I: Source, O: Sink>(
         &mut self,
+        memory: &mut M,
         input: &mut I,
         output: &mut O,
     ) -> Result<bool, ReplayFault>
@@ -157,12 +161,13 @@ impl Player {
         if !self.input.is_empty() {
             return Ok(true);
         }
-        self.pull(input, output)
+        self.pull(memory, input, output)
     }
 
     /// Pulls until the next item is whole. There is none where the input ends between two items.
-    fn next_item<I: Source, O: Sink>(
+    fn next_item<M: Memory, I: Source, O: Sink>(
         &mut self,
+        memory: &mut M,
         input: &mut I,
         output: &mut O,
     ) -> Result<Option<Found>, ReplayFault>
@@ -177,7 +182,7 @@ impl Player {
             if let Some(found) = self.look(output)? {
                 return Ok(Some(found));
             }
-            if !self.pull(input, output)? {
+            if !self.pull(memory, input, output)? {
                 return self.at_end();
             }
         }
@@ -216,8 +221,9 @@ impl Player {
 
     /// Pushes all replies, so that those to all that was pulled are out, and pulls once. Whether
     /// there was more.
-    fn pull<I: Source, O: Sink>(
+    fn pull<M: Memory, I: Source, O: Sink>(
         &mut self,
+        memory: &mut M,
         input: &mut I,
         output: &mut O,
     ) -> Result<bool, ReplayFault>
@@ -230,7 +236,7 @@ impl Player {
         ensures summary { self.new.summary ≡ self.old.summary }
     {
         flush(&mut self.output, output)?;
-        let count = self.input.fill(self.alloc, input)?;
+        let count = self.input.fill(memory, input)?;
         Ok(count > 0)
     }
 

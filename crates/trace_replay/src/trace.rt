@@ -10,7 +10,7 @@ use crate::fault::ReplayFault;
 use crate::player::Player;
 use crate::summary::Summary;
 use cm_base::{Config, InputBuffer, Parsed, Sink, Source};
-use cm_frame::read_header;
+use cm_frame::{Memory, read_header};
 use std::alloc::Global;
 
 /// A header that was read, and how many bytes it has.
@@ -48,9 +48,11 @@ fn pull_header<I: Source>(
     }
 }
 
-/// Plays a trace: a header, and then items, up to the end of the input.
-pub fn replay<I: Source, O: Sink>(
+/// Plays a trace: a header, and then items, up to the end of the input. Long data-outs go into
+/// `memory`.
+pub fn replay<M: Memory, I: Source, O: Sink>(
     alloc: Global,
+    memory: &mut M,
     input: &mut I,
     output: &mut O,
 ) -> Result<Summary, ReplayFault>
@@ -60,5 +62,5 @@ pub fn replay<I: Source, O: Sink>(
     let mut waits = InputBuffer::new(alloc);
     let Header { config, used } = pull_header(alloc, &mut waits, input)?;
     let mut player = Player::new(alloc, config, used, waits)?;
-    player.play_all(input, output)
+    player.play_all(memory, input, output)
 }

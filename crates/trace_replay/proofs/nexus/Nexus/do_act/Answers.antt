@@ -1,4 +1,4 @@
-use Rattle.std.proofs.Common.{refl, ap, sym, ◌∙◌, ◌≡◌, subst, true}
+use Rattle.std.proofs.Common.{refl, ap, sym, ◌∙◌, ◌≡◌}
 use Rattle.std.specs.Prelude.{cond, ◌+◌, ◌∷◌, []}
 use Rattle.cm_history.specs.declared.act.Actor.{Actor}
 use Rattle.cm_history.specs.History.{answer}

@@ -1,6 +1,5 @@
-use Rattle.std.proofs.Common.{ap, sym, ◌∙◌}
+use Rattle.std.proofs.Common.{sym, ◌∙◌}
 use Rattle.std.proofs.lemmas.Result.{err_from_is_err_and}
-use Rattle.cm_frame.specs.Reading.{read_item}
 use Rattle.trace_replay.proofs.Playing.{ends-memory, bad-ends}
 use Rattle.trace_replay.proofs.player.Player.look.Goals as goal
 
