@@ -76,6 +76,9 @@ STYLES = {
         weights=dict(ALL, copy=16, recall=6), long=0.4, write=300, items=(50, 300), spoil=0.05, timeouts=LONGER,
         shape=wide,
     ),
+    "long": MIXED._replace(
+        weights=dict(ALL, read=20, write=20), long=0.3, write=2048, items=(10, 60), spoil=0.02, shape=wide
+    ),
     "lists": MIXED._replace(
         weights=dict(unmap=3, populate=4, use=4, copy=6, fixed=1, write=1), items=(50, 250), spoil=0.6
     ),
