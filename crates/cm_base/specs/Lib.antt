@@ -4,3 +4,5 @@ pub mod Units
 pub mod Outside
 pub mod Memory
 pub mod Windows
+pub mod Roomy
+pub mod Lending

@@ -1,13 +1,16 @@
-ghost use Rattle.std.specs.Prelude.{◌≡◌, ◌==◌, ◌<◌, ◌++◌, ◌∷◌, [], length, slice_get, IfOk, OnOk, OnErr, IfSome, IfNone};
+ghost use Rattle.std.specs.Prelude.{◌≡◌, ◌==◌, ◌<◌, ◌≤◌, ◌++◌, ◌∷◌, [], length, slice_get, IfOk, OnOk, OnErr, IfSome, IfNone};
+ghost use Rattle.std.specs.Borrow.{sem};
+ghost use Rattle.cm_base.specs.Lending.{LendsRoom};
 
 use crate::out_of_memory::OutOfMemory;
+use crate::room::SequenceRoom;
 use std::alloc::Global;
 use std::marker::Model;
 
 /// A list that grows at its end. Contracts see the list of its items.
 #[derive(Drop)]
 pub struct Sequence<T> {
-    items: Vec<T>,
+    room: SequenceRoom<T>,
 }
 
 /// Bytes that are still being gathered.
@@ -18,7 +21,7 @@ impl<T> Model for Sequence<T> {
 
     ghost Value = { List T };
 
-    ghost view = { λ s. s.items.items };
+    ghost view = { λ s. s.room.items };
 }
 
 impl<T> Sequence<T> {
@@ -27,7 +30,7 @@ impl<T> Sequence<T> {
         ensures { result ≡ [] }
     {
         Sequence {
-            items: Vec::new(alloc),
+            room: SequenceRoom::empty(alloc),
         }
     }
 
@@ -35,44 +38,58 @@ impl<T> Sequence<T> {
     pub fn from_vec(items: Vec<T>) -> Sequence<T>
         ensures { result ≡ items.items }
     {
-        Sequence { items }
+        Sequence {
+            room: SequenceRoom::from_vec(items),
+        }
     }
 
     /// The vector of the list's items. It takes no memory.
     pub fn into_vec(self) -> Vec<T>
         ensures { result.items ≡ self }
     {
-        let Sequence { items } = self;
-        items
+        let Sequence { room } = self;
+        room.into_vec()
     }
 
-    /// How many items there are.
+    /// How many items there are. It takes no memory.
     pub fn len(&self) -> usize
         ensures { result ≡ length self.now }
     {
-        self.items.len()
+        self.room.len()
     }
 
-    /// There is no item.
+    /// There is no item. It takes no memory.
     pub fn is_empty(&self) -> bool
         ensures { result ≡ (length self.now == 0) }
     {
-        self.items.is_empty()
+        self.room.is_empty()
     }
 
-    /// All items, in order.
+    /// All items, in order. It takes no memory.
     pub fn as_slice(&self) -> &[T]
         ensures { result.now ≡ self.now }
     {
-        self.items.as_slice()
+        self.room.as_slice()
     }
 
-    /// The item at this place.
+    /// The item at this place; the first is at 0. It takes no memory.
     pub fn at(&self, index: usize) -> &T
         requires { index < length self.now }
         ensures { slice_get self.now index ≡ Some result.now }
     {
-        &self.items[index]
+        self.room.at(index)
+    }
+
+    /// Makes room for so many more items, and lends the list with its room. At `OutOfMemory` the list is
+    /// as before.
+    pub fn reserve(&mut self, more: u64) -> Result<&mut SequenceRoom<T>, OutOfMemory>
+        ensures* lent { sem 𝓛 (LendsRoom T.row self.entry result) }
+        ensures same { IfOk result (λ room. room.now.items ≡ self.old) }
+        ensures room { IfOk result (λ room. more ≤ room.now.spare) }
+    {
+        let room = &mut self.room;
+        room.reserve(more)?;
+        Ok(room)
     }
 
     /// Adds an item at the end. At `OutOfMemory` the list is as before.
@@ -82,16 +99,15 @@ impl<T> Sequence<T> {
         ensures ok { OnOk result (self.new ≡ self.old ++ item ∷ []) }
         ensures err { OnErr result (self.new ≡ self.old) }
     {
-        self.items.push(item)?;
-        Ok(())
+        self.room.push(item)
     }
 
-    /// Takes the last item out; `None` exactly where the list is empty.
+    /// Takes the last item out; `None` exactly where the list is empty. It takes no memory.
     pub fn pop(&mut self) -> Option<T>
         ensures last { IfSome result (λ item. self.old ≡ self.new ++ item ∷ []) }
         ensures empty { IfNone result ((self.old ≡ []) × (self.new ≡ [])) }
     {
-        self.items.pop()
+        self.room.pop()
     }
 }
 
@@ -110,7 +126,6 @@ impl<T: Copy> Sequence<T> {
         ensures ok { OnOk result (self.new ≡ self.old ++ from.now) }
         ensures err { OnErr result (self.new ≡ self.old) }
     {
-        self.items.extend_from_slice(from)?;
-        Ok(())
+        self.room.extend(from)
     }
 }

@@ -1,4 +1,4 @@
-ghost use Rattle.std.specs.Prelude.{◌≡◌, length, IfOk};
+ghost use Rattle.std.specs.Prelude.{◌≡◌, ◌++◌, ◌∷◌, [], length, IfOk, OnOk, OnErr};
 
 use super::*;
 use std::io;
@@ -130,5 +130,32 @@ fn standard_output_is_written(rt: HostRuntime) -> Result<(), Fail> {
         Err(WriteFailed)
     );
     assert_eq!(rt; written.as_slice(), b"reply".as_slice());
+    Ok(())
+}
+
+/// Adds both numbers, or none of them.
+fn add_both(list: &mut CallList, first: u64, second: u64) -> Result<(), OutOfMemory>
+    ensures ok { OnOk result (list.new ≡ list.old ++ first ∷ second ∷ []) }
+    ensures err { OnErr result (list.new ≡ list.old) }
+{
+    let room = list.reserve(2)?;
+    room.append(first);
+    room.append(second);
+    Ok(())
+}
+
+#[test]
+fn a_list_lends_its_room(rt: HostRuntime) -> Result<(), Fail> {
+    let mut list = CallList::copy(rt.alloc(), &[1])?;
+    add_both(&mut list, 2, 3)?;
+    list.push(4)?;
+    assert!(rt; list.pop() == Some(4));
+    assert!(rt; list.as_slice() == [1, 2, 3].as_slice());
+    let room = list.reserve(3)?;
+    room.push(4)?;
+    assert!(rt; room.spare() >= 2 && room.len() == 4);
+    room.extend(&[5, 6])?;
+    assert!(rt; room.pop() == Some(6));
+    assert!(rt; list.into_vec().as_slice() == [1, 2, 3, 4, 5].as_slice());
     Ok(())
 }

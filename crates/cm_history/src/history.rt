@@ -1,26 +1,22 @@
-ghost use Rattle.std.specs.Prelude.{◌≡◌, ◌==◌, ◌<◌, ◌≤◌, ◌+◌, ◌++◌, ◌∷◌, [], length, slice_get, Some, OnOk, OnErr};
+ghost use Rattle.std.specs.Prelude.{◌≡◌, ◌==◌, ◌<◌, ◌≤◌, ◌+◌, ◌-◌, ◌++◌, ◌∷◌, [], length, slice_get, Some, OnOk, OnErr, IfSome, IfNone};
 
 use crate::act::Entry;
-use cm_base::OutOfMemory;
+use cm_base::{OutOfMemory, SequenceRoom};
 use std::alloc::Global;
 use std::marker::Model;
 
 /// What was asked of units, in order. Contracts see its entries, and how many more have room.
 #[derive(Drop)]
 pub struct History {
-    entries: Vec<Entry>,
-    spare: u64,
+    entries: SequenceRoom<Entry>,
 }
 
 impl Model for History {
-    ghost use Rattle.std.specs.Prelude.{◌≤◌, ◌+◌, vec_len, vec_capacity};
     ghost use Rattle.cm_history.specs.Record.{Record};
 
     ghost Value = { Record };
 
-    ghost view = { λ h. record { entries = h.entries.items; spare = h.spare } };
-
-    ghost invariant = { λ h. vec_len h.entries + h.spare ≤ vec_capacity h.entries };
+    ghost view = { λ h. record { entries = h.entries.items; spare = h.entries.spare } };
 }
 
 impl History {
@@ -29,8 +25,7 @@ impl History {
         ensures { result ≡ record { entries = []; spare = 0 } }
     {
         History {
-            entries: Vec::new(alloc),
-            spare: 0,
+            entries: SequenceRoom::empty(alloc),
         }
     }
 
@@ -53,7 +48,7 @@ impl History {
         requires { index < length self.now.entries }
         ensures { slice_get self.now.entries index ≡ Some result.now }
     {
-        &self.entries[index]
+        self.entries.at(index)
     }
 
     /// Makes room for so many more entries; where there is so much room it takes no memory. At `OutOfMemory` the room is
@@ -65,12 +60,7 @@ impl History {
         ensures err { OnErr result (self.new ≡ self.old) }
         ensures needed { OnErr result (self.old.spare < more) }
     {
-        if more <= self.spare {
-            return Ok(());
-        }
-        self.entries.reserve(more as usize)?;
-        self.spare = more;
-        Ok(())
+        self.entries.reserve(more)
     }
 
     /// Adds an entry to the end, for which there is room. It takes no memory.
@@ -79,7 +69,32 @@ impl History {
         ensures added { self.new.entries ≡ self.old.entries ++ entry ∷ [] }
         ensures room { self.new.spare + 1 ≡ self.old.spare }
     {
-        self.entries.push(entry).unwrap();
-        self.spare -= 1;
+        self.entries.append(entry);
+    }
+
+    /// How many more entries have room. It takes no memory.
+    pub fn spare(&self) -> u64
+        ensures { result ≡ self.now.spare }
+    {
+        self.entries.spare()
+    }
+
+    /// Adds an entry to the end. At `OutOfMemory` nothing changes.
+    pub fn push(&mut self, entry: Entry) -> Result<(), OutOfMemory>
+        ensures ok { OnOk result (self.new.entries ≡ self.old.entries ++ entry ∷ []) }
+        ensures room { OnOk result (self.new.spare ≡ self.old.spare - 1) }
+        ensures err { OnErr result (self.new ≡ self.old) }
+        ensures needed { OnErr result (self.old.spare ≡ 0) }
+    {
+        self.entries.push(entry)
+    }
+
+    /// Takes the last entry out; `None` exactly where there is none. It takes no memory.
+    pub fn pop(&mut self) -> Option<Entry>
+        ensures last { IfSome result (λ entry. self.old.entries ≡ self.new.entries ++ entry ∷ []) }
+        ensures empty { IfNone result ((self.old.entries ≡ []) × (self.new.entries ≡ [])) }
+        ensures room { self.new.spare ≡ self.old.spare }
+    {
+        self.entries.pop()
     }
 }

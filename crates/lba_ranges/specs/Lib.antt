@@ -2,5 +2,4 @@ pub mod HeldBlocks
 pub mod Runs
 pub mod Denoted
 pub mod Writings
-pub mod Roomy
 pub mod Lending

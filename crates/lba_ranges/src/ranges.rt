@@ -59,7 +59,7 @@ impl Model for RangeList {
 
     ghost Value = { List Range };
 
-    ghost view = { λ l. l.room.ranges };
+    ghost view = { λ l. l.room.items };
 }
 
 impl RangeList {
@@ -100,7 +100,7 @@ impl RangeList {
     /// At `OutOfMemory` the list is as before.
     pub fn reserve(&mut self, more: u64) -> Result<&mut RangeListRoom, OutOfMemory>
         ensures* lent { sem 𝓛 (LendsRoom self.entry result) }
-        ensures same { IfOk result (λ room. room.now.ranges ≡ self.old) }
+        ensures same { IfOk result (λ room. room.now.items ≡ self.old) }
         ensures room { IfOk result (λ room. more ≤ room.now.spare) }
     {
         let room = &mut self.room;
