@@ -1,4 +1,4 @@
-ghost use Rattle.std.specs.Prelude.{◌≡◌, [], IfOk};
+ghost use Rattle.std.specs.Prelude.{◌≡◌, ◌≤◌, [], IfOk, vec_capacity};
 
 use cm_base::OutOfMemory;
 use std::alloc::Global;
@@ -7,7 +7,8 @@ use std::alloc::Global;
 pub trait Memory {
     /// An empty vector with room for so many bytes.
     fn room(&mut self, bytes: usize) -> Result<Vec<u8>, OutOfMemory>
-        ensures { IfOk result (λ room. room.items ≡ []) };
+        ensures empty { IfOk result (λ room. room.items ≡ []) }
+        ensures room { IfOk result (λ room. bytes ≤ vec_capacity room) };
 }
 
 /// Memory that is taken when it is asked for.
