@@ -66,14 +66,14 @@ pub record Among (d : Deed) (os : List Operation) : Type 0 where
   pub there : In operation os
   pub made : operation.made ≡ d
 
-among-more : (d x : Deed) (past : List Deed) → Among d (operations past) → Among d (operations (x ∷ past))
+pub among-more : (d x : Deed) (past : List Deed) → Among d (operations past) → Among d (operations (x ∷ past))
 among-more d x past a = record {
   operation = operation_after x a.operation;
   there = In-append _ _ _ (In-map (operation_after x) (operations past) a.operation a.there);
   made = made-after x a.operation ∙ a.made;
 }
 
-among-made : (d : Deed) (past : List Deed) → makes_operation d ≡ true → Among d (operations (d ∷ past))
+pub among-made : (d : Deed) (past : List Deed) → makes_operation d ≡ true → Among d (operations (d ∷ past))
 among-made d past e = record {
   operation = made_operation d;
   there = In-append_right (map (operation_after d) (operations past)) _ _ (rw e (inl refl));

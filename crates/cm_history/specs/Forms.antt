@@ -26,10 +26,41 @@ pub record IsReport (r : OpReport) : Type 0 where
   pub token : is_some r.serial ≡ r.populate
   pub serial : IfSome r.serial (λ serial. serial < 2 ^ 48)
 
+-- an act that may be refused
+abbrev pub MayRefuse : Act → Type 0
+MayRefuse Act.Pump = ⊥
+MayRefuse (Act.Delete serial) = ⊥
+MayRefuse act = Unit {0}
+
+-- a refusal, or the one kind of answer that the act has
+abbrev pub HasKind : Act → Answer → Type 0
+HasKind act (Answer.Refused sense) = MayRefuse act
+HasKind (Act.Read lba count) (Answer.Blocks list) = Unit {0}
+HasKind (Act.Capture lba count) (Answer.Blocks list) = Unit {0}
+HasKind (Act.Write lba list) Answer.Done = Unit {0}
+HasKind (Act.Put lba list) Answer.Done = Unit {0}
+HasKind (Act.Unmap ranges) Answer.Done = Unit {0}
+HasKind (Act.MapStatus lba) (Answer.Status runs) = Unit {0}
+HasKind (Act.Populate id timeout ranges) (Answer.Made serial) = Unit {0}
+HasKind (Act.Redeem text target) (Answer.Rod rod) = Unit {0}
+HasKind (Act.Delete serial) Answer.Done = Unit {0}
+HasKind (Act.Start id background ranges rod) (Answer.Progress state count) = Unit {0}
+HasKind (Act.Advance id) (Answer.Progress state count) = Unit {0}
+HasKind Act.Pump (Answer.Progress state count) = Unit {0}
+HasKind Act.Pump Answer.Idle = Unit {0}
+HasKind (Act.End id) (Answer.Progress state count) = Unit {0}
+HasKind (Act.Abort id) Answer.Done = Unit {0}
+HasKind (Act.Report id) (Answer.Report report) = Unit {0}
+HasKind (Act.Open id) Answer.Done = Unit {0}
+HasKind (Act.Close id result) Answer.Done = Unit {0}
+HasKind (Act.Recall id) (Answer.Copy result) = Unit {0}
+HasKind act answer = ⊥
+
+-- the answer has the kind of the act, and what it holds is as long as the act can be answered
 abbrev pub HasForm : Configuration → ℕ → Act → Answer → Type 0
 HasForm config unit (Act.Read lba count) (Answer.Blocks list) = AreBlocksOf config unit count list
 HasForm config unit (Act.Capture lba count) (Answer.Blocks list) = AreBlocksOf config unit count list
 HasForm config unit (Act.MapStatus lba) (Answer.Status runs) = length runs ≤ told_runs
 HasForm config unit (Act.Redeem text target) (Answer.Rod rod) = IsRod config target rod
 HasForm config unit (Act.Report id) (Answer.Report report) = IsReport report
-HasForm config unit act answer = Unit {0}
+HasForm config unit act answer = HasKind act answer

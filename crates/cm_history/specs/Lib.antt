@@ -15,6 +15,8 @@ pub mod Room
 pub mod Legal
 pub mod Needed
 pub mod Laws
+pub mod Refusing
+pub mod Completeness
 pub mod Merged
 pub mod Image
 pub mod PlainWritings
