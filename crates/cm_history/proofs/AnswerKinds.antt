@@ -74,7 +74,7 @@ recall-kind : (id : ℕ) (w : Option Operation) → HasKind (Act.Recall id) (ans
 recall-kind id None = tt
 recall-kind id (Some o) = tt
 
-after-kind : (config : Configuration) (unit : ℕ) (past : List Deed) (actor : Actor) (now : ℕ) (act : Act)
+pub after-kind : (config : Configuration) (unit : ℕ) (past : List Deed) (actor : Actor) (now : ℕ) (act : Act)
     → HasKind act (answer_after config unit past actor now act)
 after-kind config unit past actor now (Act.Read lba count) =
     either (Act.Read lba count) (nat_le (lba + count) (unit_of config unit).blocks)

@@ -29,6 +29,7 @@ use Rattle.cm_history.specs.Operations.{Operation, OfToken, OfCopy, form_of, has
 use Rattle.cm_history.specs.Answers.{answer_after, answer_report, is_busy, is_crowded, serial_made}
 use Rattle.cm_history.specs.History.{past_of, answer}
 use Rattle.cm_history.specs.Forms.{HasForm}
+use Rattle.cm_history.proofs.AnswerKinds.{after-kind}
 use Rattle.cm_history.proofs.Lists.{In, Each, Each-in, Each-by, Each-map, Each-append, find-in, get-in}
 use Rattle.cm_history.proofs.Counts.{IsPast, IsBegun, begun, made-after}
 use Rattle.cm_history.proofs.Records.{kept_in}
@@ -211,7 +212,7 @@ after-formed config unit past actor at (Act.MapStatus lba) known =
     status-formed config unit (held past) lba ((unit_of config unit).blocks - lba) (nat_lt lba (unit_of config unit).blocks)
 after-formed config unit past actor at (Act.Redeem text target) known = redeem-formed config unit past _ text target known.asked
 after-formed config unit past actor at (Act.Report id) known = report-formed config unit past actor id known
-after-formed config unit past actor at _ known = tt
+after-formed config unit past actor at _ known = after-kind config unit past actor at _
 
 pub answer-formed : (config : Configuration) (entries : List Entry) (unit : ℕ) (actor : Actor) (at : ℕ) (act : Act) → IsRecord config unit entries
     → HasForm config unit act (answer config entries unit actor at act)
