@@ -8,3 +8,9 @@ pub mod Kinds
 pub mod Judging
 pub mod Meaning
 pub mod Running
+pub mod Honest
+pub mod Short
+pub mod InHistory
+pub mod WriteEnds
+pub mod Exchanges
+pub mod Conversations

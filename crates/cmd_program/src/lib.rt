@@ -5,6 +5,7 @@ mod blocks;
 mod command;
 mod fixed;
 mod judging;
+pub mod laws;
 mod map_status;
 mod phase;
 mod runs;
