@@ -5,6 +5,7 @@ pub mod Deeds
 pub mod Blocks
 pub mod Tokens
 pub mod Operations
+pub mod Ends
 pub mod Status
 pub mod Redeeming
 pub mod Answers

@@ -11,3 +11,5 @@ pub mod Sizes
 pub mod Playing
 pub mod Counted
 pub mod Machining
+mod Quiet
+mod PlayedWrites

@@ -3,6 +3,7 @@
 
 mod any_command;
 mod fault;
+mod laws;
 mod machine;
 mod nexus;
 mod player;
@@ -13,5 +14,6 @@ mod units;
 
 pub use any_command::AnyCommand;
 pub use fault::ReplayFault;
+pub use laws::{played_writes_law, quiet_law};
 pub use summary::Summary;
 pub use trace::replay;

@@ -212,7 +212,19 @@ after-formed config unit past actor at (Act.MapStatus lba) known =
     status-formed config unit (held past) lba ((unit_of config unit).blocks - lba) (nat_lt lba (unit_of config unit).blocks)
 after-formed config unit past actor at (Act.Redeem text target) known = redeem-formed config unit past _ text target known.asked
 after-formed config unit past actor at (Act.Report id) known = report-formed config unit past actor id known
-after-formed config unit past actor at _ known = after-kind config unit past actor at _
+after-formed config unit past actor at (Act.Write lba list) known = after-kind config unit past actor at (Act.Write lba list)
+after-formed config unit past actor at (Act.Put lba list) known = after-kind config unit past actor at (Act.Put lba list)
+after-formed config unit past actor at (Act.Unmap ranges) known = after-kind config unit past actor at (Act.Unmap ranges)
+after-formed config unit past actor at (Act.Populate id timeout ranges) known = after-kind config unit past actor at (Act.Populate id timeout ranges)
+after-formed config unit past actor at (Act.Delete serial) known = after-kind config unit past actor at (Act.Delete serial)
+after-formed config unit past actor at (Act.Start id background ranges rod) known = after-kind config unit past actor at (Act.Start id background ranges rod)
+after-formed config unit past actor at (Act.Advance id) known = after-kind config unit past actor at (Act.Advance id)
+after-formed config unit past actor at Act.Pump known = after-kind config unit past actor at Act.Pump
+after-formed config unit past actor at (Act.End id) known = after-kind config unit past actor at (Act.End id)
+after-formed config unit past actor at (Act.Abort id) known = after-kind config unit past actor at (Act.Abort id)
+after-formed config unit past actor at (Act.Open id) known = after-kind config unit past actor at (Act.Open id)
+after-formed config unit past actor at (Act.Close id result) known = after-kind config unit past actor at (Act.Close id result)
+after-formed config unit past actor at (Act.Recall id) known = after-kind config unit past actor at (Act.Recall id)
 
 pub answer-formed : (config : Configuration) (entries : List Entry) (unit : ℕ) (actor : Actor) (at : ℕ) (act : Act) → IsRecord config unit entries
     → HasForm config unit act (answer config entries unit actor at act)

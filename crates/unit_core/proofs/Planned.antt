@@ -30,7 +30,7 @@ use Rattle.rod_store.specs.Kept.{expired, populated, used, deleted}
 use Rattle.unit_core.specs.declared.block_change.BlockChange.{BlockChange}
 use Rattle.unit_core.specs.declared.job_change.JobChange.{JobChange}
 use Rattle.unit_core.specs.declared.token_change.TokenChange.{TokenChange}
-use Rattle.unit_core.specs.Acting.{ends}
+use Rattle.cm_history.specs.Ends.{ends_operation}
 use Rattle.unit_core.specs.Agreeing.{AllAsked}
 use Rattle.unit_core.specs.BlockChanges.{writings_of, MayChange}
 use Rattle.unit_core.specs.JobChanges.{MayJob}
@@ -85,7 +85,7 @@ populate-makes : (act : Act) (t : Bool) → (is_making act && t) ≡ false → (
 populate-makes (Act.Populate id timeout ranges) t e = e
 populate-makes _ t e = refl
 
-pub ends-serves : (past : List Deed) (actor : Actor) (act : Act) → ends past actor act ≡ true → is_some (would_serve past actor act) ≡ true
+pub ends-serves : (past : List Deed) (actor : Actor) (act : Act) → ends_operation past actor act ≡ true → is_some (would_serve past actor act) ≡ true
 ends-serves past actor (Act.End id) e = e
 ends-serves past actor (Act.Abort id) e = e
 ends-serves past actor (Act.Close id result) e = e

@@ -30,7 +30,7 @@ use Rattle.unit_core.specs.declared.block_change.BlockChange.{BlockChange}
 use Rattle.unit_core.specs.declared.job_change.JobChange.{JobChange}
 use Rattle.unit_core.specs.declared.token_change.TokenChange.{TokenChange}
 use Rattle.unit_core.specs.declared.plan.Plan.{Plan}
-use Rattle.unit_core.specs.Acting.{ends}
+use Rattle.cm_history.specs.Ends.{ends_operation}
 use Rattle.unit_core.specs.BlockChanges.{writings_of, MayChange, MayPut}
 use Rattle.unit_core.specs.JobChanges.{jobs_after, MayJob, grows}
 use Rattle.unit_core.specs.Tables.{key_of, is_copy, job_of, jobs_of}
@@ -72,7 +72,7 @@ pub served-plan : (config : Configuration) (unit : ℕ) (past : List Deed) (acto
     → MayChange (unit_of config unit).blocks (unit_of config unit).block_length blocks → MayJob j (jobs_of past)
     → jobs_after j (jobs_of past) ≡ change (jobs.runs_as (own_key o)) g (jobs_of past) → grows j ≡ false
     → ((d : Deed) → IsDeed config unit past actor at act d → job_of (record o { servers = d ∷ o.servers }) ≡ g (job_of o))
-    → (ends past actor act ≡ true → takes_none (record { answer = answer; blocks = blocks; jobs = j; tokens = TokenChange.Nothing }) ≡ true)
+    → (ends_operation past actor act ≡ true → takes_none (record { answer = answer; blocks = blocks; jobs = j; tokens = TokenChange.Nothing }) ≡ true)
     → IsPlan config unit past actor at act (record { answer = answer; blocks = blocks; jobs = j; tokens = TokenChange.Nothing })
 served-plan config unit past actor at act o answer blocks j g known found told wrote may_b may_j after grow becomes none = record {
   answer = told;
@@ -218,7 +218,7 @@ pub record IsForPiece (config : Configuration) (unit : ℕ) (past : List Deed) (
   pub writes : writings past actor asked ≡ next_piece o
   pub start : (is_foreground o.made.entry.act || is_background o.made.entry.act) ≡ true
   pub on : is_ending asked ≡ false
-  pub ends : ends past actor asked ≡ false
+  pub ends : ends_operation past actor asked ≡ false
 
 goes : (state : Bool) (n : ℕ) (ws : List Writing) → wrote_of (Answer.Progress (if state then OpState.Done else OpState.Running) n) ws ≡ ws
 goes true n ws = refl
@@ -261,7 +261,7 @@ piece-plan config unit past actor at act o p known is of = go (nat_lt u.quota (m
       tokens = TokenChange.Nothing;
     }
 
-    none : (plan : Plan) → ends past actor act ≡ true → takes_none plan ≡ true
+    none : (plan : Plan) → ends_operation past actor act ≡ true → takes_none plan ≡ true
     none plan e = let no = sym e ∙ is.ends in cc
 
     stopped : nat_lt u.quota (mapped_with u (held past) (next_piece o)) ≡ true → IsPlan config unit past actor at act stop

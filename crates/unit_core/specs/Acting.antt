@@ -10,6 +10,7 @@ use Rattle.cm_history.specs.declared.act.Actor.{Actor}
 use Rattle.cm_history.specs.declared.act.Entry.{Entry}
 use Rattle.cm_history.specs.Deeds.{Deed, last_stamp, moment}
 use Rattle.cm_history.specs.History.{past_of}
+use Rattle.cm_history.specs.Ends.{ends_operation}
 use Rattle.cm_history.specs.Operations.{OfToken, OfCopy, would_serve}
 use Rattle.cm_history.specs.Answers.{is_busy}
 use Rattle.cm_history.specs.Tokens.{Token, Live, tokens, is_live, is_over}
@@ -31,15 +32,9 @@ entry_at s actor seq stamp moment act =
 abbrev pub serves_operation : Standing → Actor → Act → Bool
 serves_operation s actor act = is_some (would_serve (past s) actor act)
 
--- an End, Abort or Close that serves an operation
-abbrev pub ends : List Deed → Actor → Act → Bool
-ends past actor (Act.End id) = is_some (would_serve past actor (Act.End id))
-ends past actor (Act.Abort id) = is_some (would_serve past actor (Act.Abort id))
-ends past actor (Act.Close id result) = is_some (would_serve past actor (Act.Close id result))
-ends past actor _ = false
-
-abbrev pub ends_operation : Standing → Actor → Act → Bool
-ends_operation s actor act = ends (past s) actor act
+-- it is an End, Abort or Close that serves an operation
+abbrev pub ends_operation_at : Standing → Actor → Act → Bool
+ends_operation_at s actor act = ends_operation (past s) actor act
 
 -- an operation of the actor and the identifier runs
 abbrev pub is_busy_at : Standing → Actor → Bool → ℕ → Bool

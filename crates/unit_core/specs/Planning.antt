@@ -27,7 +27,7 @@ use Rattle.unit_core.specs.BlockChanges.{writings_of, MayChange, is_nothing}
 use Rattle.unit_core.specs.JobChanges.{jobs_after, MayJob, grows}
 use Rattle.unit_core.specs.TokenChanges.{tokens_after, MayToken, is_make}
 use Rattle.unit_core.specs.Tables.{key_of, tokens_of, jobs_of}
-use Rattle.unit_core.specs.Acting.{ends}
+use Rattle.cm_history.specs.Ends.{ends_operation}
 
 -- nothing is to change
 abbrev pub quiet : Answer → Plan
@@ -61,7 +61,7 @@ pub record IsPlan (config : Configuration) (unit : ℕ) (past : List Deed) (acto
       → MayToken config (record { unit = unit; tokens = tokens_of (unit_of config unit) past; spare = spare }) (max at (moment past)) plan.tokens
   -- what may fail in one table leaves the others
   pub apart : grows plan.jobs ≡ true → is_nothing plan.blocks ≡ true
-  pub ends : ends past actor act ≡ true → takes_none plan ≡ true
+  pub ends : ends_operation past actor act ≡ true → takes_none plan ≡ true
 
 -- ---- the acts that are planned alike
 

@@ -6,7 +6,7 @@ ghost use Rattle.cm_history.specs.Deeds.{last_stamp};
 ghost use Rattle.cm_history.specs.History.{answer};
 ghost use Rattle.cm_history.specs.Limits.{within_limits};
 ghost use Rattle.cm_history.specs.Legal.{may_ask};
-ghost use Rattle.unit_core.specs.Acting.{past, entry_at, ends_operation, is_busy_at, live_at};
+ghost use Rattle.unit_core.specs.Acting.{past, entry_at, ends_operation_at, is_busy_at, live_at};
 
 use crate::room::token_key;
 use crate::unit::UnitOver;
@@ -19,7 +19,7 @@ impl<B: Blocks + Drop> UnitOver<B> {
     fn finish(&mut self, actor: Actor, seq: u64, stamp: u64, moment: u64, act: Act) -> Answer
         requires limits { within_limits self.old.config self.old.unit act ≡ true }
         requires asked { may_ask self.old.unit actor act ≡ true }
-        requires runs { ends_operation self.old actor act ≡ true }
+        requires runs { ends_operation_at self.old actor act ≡ true }
         requires stamps { max stamp (last_stamp (past self.old)) < 2 ^ 64 - 1 }
         ensures answer { result ≡ answer self.old.config self.old.entries self.old.unit actor moment act }
         ensures added { self.new
@@ -34,7 +34,7 @@ impl<B: Blocks + Drop> UnitOver<B> {
     /// Ends the foreground operation of the identifier (own profile). It takes no memory.
     pub fn end(&mut self, actor: Actor, seq: u64, stamp: u64, moment: u64, id: u32) -> Answer
         requires asked { may_ask self.old.unit actor (Act.End id) ≡ true }
-        requires runs { ends_operation self.old actor (Act.End id) ≡ true }
+        requires runs { ends_operation_at self.old actor (Act.End id) ≡ true }
         requires stamps { max stamp (last_stamp (past self.old)) < 2 ^ 64 - 1 }
         ensures answer { result ≡ answer self.old.config self.old.entries self.old.unit actor moment (Act.End id) }
         ensures added { self.new
@@ -46,7 +46,7 @@ impl<B: Blocks + Drop> UnitOver<B> {
     /// Ends the background operation of the identifier (SPC-4, COPY OPERATION ABORT). It takes no memory.
     pub fn abort(&mut self, actor: Actor, seq: u64, stamp: u64, moment: u64, id: u32) -> Answer
         requires asked { may_ask self.old.unit actor (Act.Abort id) ≡ true }
-        requires runs { ends_operation self.old actor (Act.Abort id) ≡ true }
+        requires runs { ends_operation_at self.old actor (Act.Abort id) ≡ true }
         requires stamps { max stamp (last_stamp (past self.old)) < 2 ^ 64 - 1 }
         ensures answer { result ≡ answer self.old.config self.old.entries self.old.unit actor moment (Act.Abort id) }
         ensures added { self.new
@@ -67,7 +67,7 @@ impl<B: Blocks + Drop> UnitOver<B> {
     ) -> Answer
         requires limits { within_limits self.old.config self.old.unit (Act.Close id end) ≡ true }
         requires asked { may_ask self.old.unit actor (Act.Close id end) ≡ true }
-        requires runs { ends_operation self.old actor (Act.Close id end) ≡ true }
+        requires runs { ends_operation_at self.old actor (Act.Close id end) ≡ true }
         requires stamps { max stamp (last_stamp (past self.old)) < 2 ^ 64 - 1 }
         ensures answer { result ≡ answer self.old.config self.old.entries self.old.unit actor moment (Act.Close id end) }
         ensures added { self.new

@@ -5,7 +5,7 @@ ghost use Rattle.cm_history.specs.declared.act.Act.{Act};
 ghost use Rattle.cm_history.specs.declared.act.Actor.{Actor};
 ghost use Rattle.cm_history.specs.Limits.{within_limits};
 ghost use Rattle.cm_history.specs.Legal.{may_ask};
-ghost use Rattle.unit_core.specs.Acting.{past, ends_operation};
+ghost use Rattle.unit_core.specs.Acting.{past, ends_operation_at};
 ghost use Rattle.unit_core.specs.Planning.{IsPlan, Reads, Writes};
 
 use crate::plan::Plan;
@@ -23,7 +23,7 @@ impl<B: Blocks + Drop> UnitOver<B> {
         requires limits { within_limits self.now.config self.now.unit act.now ≡ true }
         requires asked { may_ask self.now.unit actor act.now ≡ true }
         ensures planned { IfOk result (λ p. IsPlan self.now.config self.now.unit (past self.now) actor moment act.now p) }
-        ensures memory { OnErr result (ends_operation self.now actor act.now ≡ false) }
+        ensures memory { OnErr result (ends_operation_at self.now actor act.now ≡ false) }
     {
         match act {
             Act::Read { lba, count } | Act::Capture { lba, count } => self.plan_read(*lba, *count),

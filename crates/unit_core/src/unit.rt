@@ -9,7 +9,7 @@ ghost use Rattle.cm_history.specs.History.{on, answer};
 ghost use Rattle.cm_history.specs.Forms.{HasForm};
 ghost use Rattle.unit_core.specs.Standing.{Standing};
 ghost use Rattle.cm_history.specs.Tokens.{Token, rod};
-ghost use Rattle.unit_core.specs.Acting.{past, is_full_at, entry_at, serves_operation, ends_operation, MayRedeem};
+ghost use Rattle.unit_core.specs.Acting.{past, is_full_at, entry_at, serves_operation, ends_operation_at, MayRedeem};
 
 use crate::room::bytes_in;
 use crate::tables::Tables;
@@ -94,7 +94,7 @@ impl<B: Blocks + Drop> UnitOver<B> {
         ensures redeems { IfOk result (λ a. (text : List ℕ) (target : ℕ) (t : Token) → act ≡ Act.Redeem text target
             → MayRedeem self.old moment text target t → a ≡ Answer.Rod (rod (unit_of self.old.config self.old.unit) t)) }
         ensures refused { OnErr result (self.new ≡ self.old) }
-        ensures ends { IfErr result (λ e. e ≡ ActRefused.OutOfMemory → ends_operation self.old actor act ≡ false) }
+        ensures ends { IfErr result (λ e. e ≡ ActRefused.OutOfMemory → ends_operation_at self.old actor act ≡ false) }
     {
         if self.is_full(actor, stamp, &act) {
             return Err(ActRefused::Full);

@@ -18,7 +18,8 @@ use Rattle.cm_history.specs.Answers.{deed}
 use Rattle.cm_history.specs.Room.{is_full, reserved, need}
 use Rattle.rod_store.specs.declared.kept.Kept.{Kept}
 use Rattle.cm_history.specs.Answers.{answer_after}
-use Rattle.unit_core.specs.Acting.{ends, MayRedeem}
+use Rattle.cm_history.specs.Ends.{ends_operation}
+use Rattle.unit_core.specs.Acting.{MayRedeem}
 use Rattle.unit_core.specs.Agreeing.{IsAsked}
 use Rattle.unit_core.specs.TokenChanges.{MayToken, tokens_after}
 use Rattle.unit_core.proofs.Reserving.{reserved-is}
@@ -54,11 +55,11 @@ returns-in_err-reserve-clause-ends g c =
     let limit = unit_of u.config u.unit in
     let free : c.reserved.result ≡ reserved past = c.reserved.ensures.reserved ∙ ap jobs.reserved c.self.invariant.jobs.jobs ∙ reserved-is u.config u.unit past known.is in
     let needed : c.need.result ≡ need past c.args.actor c.args.act = rw (← c.self.view_is) at c.need.ensures.need in
-    let never : ends past c.args.actor c.args.act ≡ false = go u.config u.unit past c.args.actor c.args.act u.history.spare c.reserved.result c.need.result free needed c.self.invariant.jobs.free c.in_err-reserve.ensures.needed (ends past c.args.actor c.args.act) refl in
+    let never : ends_operation past c.args.actor c.args.act ≡ false = go u.config u.unit past c.args.actor c.args.act u.history.spare c.reserved.result c.need.result free needed c.self.invariant.jobs.free c.in_err-reserve.ensures.needed (ends_operation past c.args.actor c.args.act) refl in
     if-err c.from_residual-in_err-reserve.result _ (λ f same. rw (← c.self.view_is) never)
   where
     go : (config : Configuration) (unit : ℕ) (past : List Deed) (actor : Actor) (act : Act) (spare own more : ℕ) → own ≡ reserved past → more ≡ need past actor act → reserved past ≤ spare → spare < own + more
-        → (t : Bool) → ends past actor act ≡ t → t ≡ false
+        → (t : Bool) → ends_operation past actor act ≡ t → t ≡ false
     go config unit past actor act spare own more free needed room short false e = refl
     go config unit past actor act spare own more free needed room short true e =
         let there = some-there (would_serve past actor act) (ends-serves past actor act e) in
