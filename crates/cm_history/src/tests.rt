@@ -412,6 +412,22 @@ fn laws_can_be_called(rt: HostRuntime) -> Result<(), Fail> {
     token_law(&config, &history, 0);
     count_law(&config, &history, 0, 1);
     locality_law(&config, &history, 0);
+    kind_law(&config, &history, 0);
+    refused_law(&config, &history, 0);
+    write_law(&config, &history, 0);
     assert_eq!(rt; history.len(), 1);
+    Ok(())
+}
+
+#[test]
+fn a_history_grows_at_its_end(rt: HostRuntime) -> Result<(), Fail> {
+    let config = one_unit(&rt)?;
+    let mut history = one_read(&rt, &config)?;
+    let mut next = history.at(0).copy(rt.alloc())?;
+    next.seq = 1;
+    history.push(next)?;
+    assert_eq!(rt; history.len(), 2);
+    assert!(rt; matches!(history.pop(), Some(Entry { seq: 1, .. })));
+    assert!(rt; history.at(0).seq == 0 && history.spare() == 0);
     Ok(())
 }
