@@ -20,19 +20,13 @@ fn list_of(alloc: Global, size: usize, numbers: &[(usize, u16)]) -> Result<Vec<u
     Ok(list)
 }
 
-/// The additional sense code of a refusal, or 0.
-fn code_of(fault: ParamFault) -> u8 {
-    match fault {
-        ParamFault::Refused(sense) => sense.asc(),
-        ParamFault::OutOfMemory => 0,
+/// The additional sense code of a refusal, and 0 where the list was taken. Want of memory is neither.
+fn refusal<T: Drop>(read: Result<T, ParamFault>) -> Result<u8, ParamFault> {
+    match read {
+        Ok(_) => Ok(0),
+        Err(ParamFault::Refused(sense)) => Ok(sense.asc()),
+        Err(ParamFault::OutOfMemory) => Err(ParamFault::OutOfMemory),
     }
-}
-
-fn refusal<T: Drop>(read: Result<T, ParamFault>) -> u8 {
-    let Err(fault) = read else {
-        return 0;
-    };
-    code_of(fault)
 }
 
 /// UNMAP lists that were made to be refused, and their neighbours, in the order of the checks.
@@ -48,7 +42,7 @@ fn hostile_unmaps(rt: HostRuntime) -> Result<(), ParamFault> {
     ];
     for (size, numbers, wanted) in unmaps {
         let list = list_of(alloc, size, numbers)?;
-        let code = refusal(read_unmap(alloc, &list));
+        let code = refusal(read_unmap(alloc, &list))?;
         assert_eq!(rt; code, wanted, "UNMAP of {size}");
     }
     Ok(())
@@ -87,7 +81,7 @@ fn hostile_populates(rt: HostRuntime) -> Result<(), ParamFault> {
     ];
     for (size, numbers, wanted) in populates {
         let list = list_of(alloc, size, numbers)?;
-        let code = refusal(read_populate(alloc, &list));
+        let code = refusal(read_populate(alloc, &list))?;
         assert_eq!(rt; code, wanted, "POPULATE of {size}");
     }
     Ok(())
@@ -104,7 +98,7 @@ fn hostile_token_writes(rt: HostRuntime) -> Result<(), ParamFault> {
     ];
     for (size, numbers, wanted) in writes {
         let list = list_of(alloc, size, numbers)?;
-        let code = refusal(read_write_token(alloc, &list));
+        let code = refusal(read_write_token(alloc, &list))?;
         assert_eq!(rt; code, wanted, "WRITE of {size}");
     }
     Ok(())

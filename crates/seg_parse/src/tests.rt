@@ -16,19 +16,13 @@ fn list_of(alloc: Global, size: usize, numbers: &[(usize, u16)]) -> Result<Vec<u
     Ok(list)
 }
 
-/// Additional sense code and qualifier of a refusal, or 0.
-fn code_of(fault: ParamFault) -> (u8, u8) {
-    match fault {
-        ParamFault::Refused(sense) => (sense.asc(), sense.ascq()),
-        ParamFault::OutOfMemory => (0, 0),
+/// Additional sense code and qualifier of a refusal, and 0 where the list was taken. Want of memory is neither.
+fn refusal(alloc: Global, list: &[u8]) -> Result<(u8, u8), ParamFault> {
+    match read_lid1(alloc, list) {
+        Ok(_) => Ok((0, 0)),
+        Err(ParamFault::Refused(sense)) => Ok((sense.asc(), sense.ascq())),
+        Err(ParamFault::OutOfMemory) => Err(ParamFault::OutOfMemory),
     }
-}
-
-fn refusal(alloc: Global, list: &[u8]) -> (u8, u8) {
-    let Err(fault) = read_lid1(alloc, list) else {
-        return (0, 0);
-    };
-    code_of(fault)
 }
 
 /// A segment that writes to the second unit of a list of one.
@@ -71,7 +65,8 @@ fn hostile_lists(rt: HostRuntime) -> Result<(), ParamFault> {
     ];
     for (size, numbers, wanted) in lists {
         let list = list_of(alloc, size, numbers)?;
-        assert_eq!(rt; refusal(alloc, &list), wanted, "list of {size}");
+        let code = refusal(alloc, &list)?;
+        assert_eq!(rt; code, wanted, "list of {size}");
     }
     Ok(())
 }

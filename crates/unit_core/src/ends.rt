@@ -76,13 +76,17 @@ impl<B: Blocks + Drop> UnitOver<B> {
         self.finish(actor, seq, stamp, moment, Act::Close { id, result: end })
     }
 
-    /// An operation of the identifier runs: of a token, or a copy. It takes no memory.
+    /// An operation of the actor and the identifier runs: of a token, or a copy. A pump has none. It takes no memory.
     pub fn runs(&self, actor: Actor, copy: bool, id: u32) -> bool
-        requires { may_ask self.now.unit actor (Act.Report id) ≡ true }
         ensures { result ≡ is_busy_at self.now actor copy id }
     {
-        let key = token_key(actor, id);
-        self.tables.jobs.runs(Key { copy, ..key })
+        match actor {
+            Actor::Nexus(_) => {
+                let key = token_key(actor, id);
+                self.tables.jobs.runs(Key { copy, ..key })
+            }
+            Actor::Pump(_) => false,
+        }
     }
 
     /// How many tokens are live, at most 64. It takes no memory.

@@ -1,9 +1,9 @@
 // Random histories of two units, whose answers are compared with those of the plain model.
-ghost use Rattle.std.specs.Prelude.{◌≡◌, ◌<◌, length, IfOk, OnOk, true};
+ghost use Rattle.std.specs.Prelude.{◌≡◌, ◌<◌, ◌≤◌, ◌^◌, length, IfOk, OnOk, true};
 ghost use Rattle.cm_history.specs.Legal.{may_ask};
 ghost use Rattle.cm_history.specs.PlainHolds.{AreWithin};
 
-use super::random_acts::{Numbers, random_act};
+use super::random_acts::{Numbers, Style, random_act};
 use crate::Unit;
 use cm_base::{Config, UnitConfig, UnitList};
 use cm_history::{
@@ -17,15 +17,18 @@ use std::test::Fail;
 /// Acts of a history.
 const ACTS: u32 = 40;
 
-/// Two units of 40 blocks of 512 bytes, of which 25 may be mapped.
-fn machine(alloc: Global) -> Result<Config, Fail>
+/// Two units of so many blocks of 512 bytes, of which a quota may be mapped.
+fn machine(alloc: Global, blocks: u64, quota: u64) -> Result<Config, Fail>
+    requires blocks { 1 ≤ blocks }
+    requires few { blocks ≤ 2 ^ 32 }
+    requires quota { quota ≤ blocks }
     ensures { IfOk result (λ config. length config.units ≡ 2) }
 {
     let unit = UnitConfig {
-        blocks: 40,
+        blocks,
         block_length: 512,
         entries: 4096,
-        quota: 25,
+        quota,
         payload: 1_048_576,
         group: 0,
     };
@@ -182,6 +185,7 @@ fn next_entry(
     alloc: Global,
     config: &Config,
     number: u16,
+    style: Style,
     numbers: &mut Numbers,
 ) -> Result<Entry, Fail>
     requires { number < length config.now.units }
@@ -193,7 +197,7 @@ fn next_entry(
         return Ok(entry(number, Actor::Pump(number), moment, Act::Pump));
     }
     let actor = Actor::Nexus(numbers.below(2));
-    let act = random_act(alloc, config, number, numbers)?;
+    let act = random_act(alloc, config, number, style, numbers)?;
     Ok(entry(number, actor, moment, act))
 }
 
@@ -202,6 +206,7 @@ fn history_is_as_plain(
     alloc: Global,
     config: &Config,
     number: u16,
+    style: Style,
     numbers: &mut Numbers,
 ) -> Result<bool, Fail>
     requires { number < length config.now.units }
@@ -209,7 +214,7 @@ fn history_is_as_plain(
     let mut unit = Unit::new(alloc, config, number)?;
     let mut asked = History::empty(alloc);
     for _ in 0..ACTS {
-        let next = next_entry(alloc, config, number, numbers)?;
+        let next = next_entry(alloc, config, number, style, numbers)?;
         if !is_as_plain(alloc, config, &mut unit, &mut asked, next)? {
             return Ok(false);
         }
@@ -220,13 +225,26 @@ fn history_is_as_plain(
 #[test]
 fn random_histories(rt: HostRuntime) -> Result<(), Fail> {
     let alloc = rt.alloc();
-    let config = machine(alloc)?;
+    let config = machine(alloc, 40, 25)?;
     for seed in 0..4 {
         let mut numbers = Numbers::new(seed);
         for number in 0..2 {
-            let same = history_is_as_plain(alloc, &config, number, &mut numbers)?;
+            let same = history_is_as_plain(alloc, &config, number, Style::Mixed, &mut numbers)?;
             assert!(rt; same, "unit {number} of seed {seed}");
         }
+    }
+    Ok(())
+}
+
+/// Operations of several pieces, some of which the quota stops.
+#[test]
+fn histories_of_long_operations(rt: HostRuntime) -> Result<(), Fail> {
+    let alloc = rt.alloc();
+    let config = machine(alloc, 1100, 3)?;
+    for seed in 0..4 {
+        let mut numbers = Numbers::new(seed);
+        let same = history_is_as_plain(alloc, &config, 0, Style::Long, &mut numbers)?;
+        assert!(rt; same, "seed {seed}");
     }
     Ok(())
 }

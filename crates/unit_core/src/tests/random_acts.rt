@@ -1,4 +1,4 @@
-// Random acts on units of 40 blocks.
+// Random acts on units of 40 blocks, and on one of 1100.
 ghost use Rattle.std.specs.Prelude.{◌<◌, length, IfOk};
 ghost use Rattle.unit_core.specs.Asked.{IsOfNexus};
 
@@ -145,6 +145,47 @@ fn act_on_operations(alloc: Global, numbers: &mut Numbers) -> Result<Act, Fail>
     }
 }
 
+/// A token write of 1024 to 1027 blocks, whose last piece may be a few blocks or none: two mapped blocks, and unmapped ones.
+fn long_start(alloc: Global, numbers: &mut Numbers) -> Result<Act, Fail>
+    ensures { IfOk result IsOfNexus }
+{
+    let count = 1022 + numbers.below(4);
+    let mut ranges = RangeList::empty(alloc);
+    ranges.push(Range {
+        lba: u64::from(numbers.below(4)) * 1030,
+        count: 2,
+    })?;
+    ranges.push(Range { lba: 2, count })?;
+    let mut rod = mapped_blocks(alloc, numbers)?;
+    rod.push(Piece {
+        count,
+        fill: Fill::Hole,
+    })?;
+    Ok(Act::Start {
+        id: numbers.below(2),
+        background: numbers.below(2) == 0,
+        ranges,
+        rod,
+    })
+}
+
+/// An act on operations of several pieces, or a look at what they wrote.
+fn act_on_long_operations(alloc: Global, numbers: &mut Numbers) -> Result<Act, Fail>
+    ensures { IfOk result IsOfNexus }
+{
+    let id = numbers.below(2);
+    match numbers.below(7) {
+        0 | 1 => long_start(alloc, numbers),
+        2 | 3 => Ok(Act::Advance { id }),
+        4 => Ok(Act::End { id }),
+        5 => Ok(Act::Report { id }),
+        _ => Ok(Act::Read {
+            lba: u64::from(numbers.below(2)) * 1022,
+            count: 8,
+        }),
+    }
+}
+
 /// An act on the record of a copy.
 fn act_on_copies(numbers: &mut Numbers) -> Act
     ensures { IsOfNexus result }
@@ -164,16 +205,29 @@ fn act_on_copies(numbers: &mut Numbers) -> Act
     }
 }
 
+/// What a random history is made of.
+#[derive(Drop, Clone, Copy)]
+pub(crate) enum Style {
+    /// Acts of all kinds, on a few blocks.
+    Mixed,
+    /// Token writes of several pieces.
+    Long,
+}
+
 /// An act of a nexus.
 pub(crate) fn random_act(
     alloc: Global,
     config: &Config,
     unit: u16,
+    style: Style,
     numbers: &mut Numbers,
 ) -> Result<Act, Fail>
     requires { unit < length config.now.units }
     ensures { IfOk result IsOfNexus }
 {
+    if matches!(style, Style::Long) {
+        return act_on_long_operations(alloc, numbers);
+    }
     match numbers.below(4) {
         0 => act_on_blocks(alloc, numbers),
         1 => act_on_tokens(alloc, config, unit, numbers),
