@@ -1,5 +1,5 @@
 // Random acts on units of 40 blocks, and on one of 1100.
-ghost use Rattle.std.specs.Prelude.{◌<◌, length, IfOk};
+ghost use Rattle.std.specs.Prelude.{◌≡◌, ◌<◌, length, IfOk};
 ghost use Rattle.unit_core.specs.Asked.{IsOfNexus};
 
 use cm_base::{Config, Payload};
@@ -47,7 +47,9 @@ fn ranges(alloc: Global, numbers: &mut Numbers) -> Result<RangeList, Fail> {
 }
 
 /// Two mapped blocks.
-fn mapped_blocks(alloc: Global, numbers: &mut Numbers) -> Result<BlockList, Fail> {
+fn mapped_blocks(alloc: Global, numbers: &mut Numbers) -> Result<BlockList, Fail>
+    ensures { IfOk result (λ list. length list.items ≡ 2) }
+{
     let byte = numbers.below(200) as u8 + 1;
     let bytes = vec![in alloc; byte; 1024]?;
     Ok(BlockList::from_payload(alloc, 512, 2, Payload::from_vec(bytes)?)?)
