@@ -1,0 +1,271 @@
+// The gate: a table of two words, the length of the history and the turn, and one slot, the value.
+ghost use Rattle.std.specs.Prelude.{◌≡◌, ◌≢◌, ℕ, ◌+◌, ◌^◌, ◌<◌, ◌≤◌, List, [], ◌∷◌, ◌++◌, length, true, false, Some, IsOk, IsSome, IfOk, IfErr, OnOk, IfSome, IfNone, OnSome};
+ghost use mathlib.Core.List.{IsPrefix};
+ghost use Rattle.turn_gate.specs.Marks.{AtMost, greatest};
+ghost use Rattle.turn_gate.specs.Places.{EachOnce};
+ghost use Rattle.turn_gate.specs.Seats.{IsSound, IsTable, first_seat, split_off, with_newest, and_newest, unopened, opened};
+
+
+use crate::plays::{Begin, Both, Claim, Count, Give, Look, Opens, Part, Said};
+use crate::told::Told;
+use crate::turn::Turn;
+use crate::view::View;
+use atomic_table::{Seat, Shared, Table, TableRule};
+use cm_base::OutOfMemory;
+use std::alloc::Global;
+use std::marker::{Brand, Model, PhantomData};
+use std::sync::Wait;
+
+// Words of the table.
+const COUNT: usize = 0;
+
+const TURN: usize = 1;
+
+/// The rule of a gate's table. No value of it is made.
+pub struct InTurns<V> {
+    of: PhantomData<V>,
+}
+
+impl<V: Told> TableRule<Option<V>, View<V::Entry, V::Kin>, V> for InTurns<V> {
+    ghost use Rattle.turn_gate.specs.Seats.{unopened};
+    ghost use Rattle.turn_gate.specs.Rule.{IsKept};
+
+    ghost holds = { IsKept V.stands_for V.kin V.marks };
+
+    ghost first = { λ _. unopened };
+}
+
+/// A value under turns. Contracts see which gate it is, and what no turn changes of its value.
+#[derive(Drop)]
+pub struct Gate<V: Told> {
+    table: Table<Option<V>, View<V::Entry, V::Kin>, V, InTurns<V>, Global>,
+}
+
+impl<V: Told> Model for Gate<V> {
+    ghost use Rattle.std.specs.Prelude.{Some};
+    ghost use Rattle.turn_gate.specs.Seats.{GateName, IsTable};
+
+    ghost Value = { GateName V.Kin };
+
+    ghost view = { λ g. record { table = g.table.shared.table_id; kin = Some (V.kin g.table.shared.key) } };
+
+    ghost invariant = { λ g. IsTable g.table.shared.table_id };
+}
+
+/// A token of one thread, with what it has seen of the value's history and made of it.
+#[derive(Drop)]
+pub struct GateSeat<V: Told> {
+    seat: Seat<Option<V>, View<V::Entry, V::Kin>>,
+}
+
+impl<V: Told> Model for GateSeat<V> {
+    ghost use Rattle.turn_gate.specs.Seats.{SeatState, state_of, IsSeated};
+
+    ghost Value = { SeatState V.Entry V.Kin };
+
+    ghost view = { λ s. state_of s.seat.table_id s.seat.me.0 };
+
+    ghost invariant = { λ s. IsSeated s.seat.table_id s.seat.me };
+}
+
+impl<V: Told> GateSeat<V> {
+    /// What is true of every seat. It does nothing when it runs.
+    pub fn sound(&self)
+        ensures { IsSound self.now }
+    {
+        let _ = &self.seat;
+    }
+}
+
+// The first seat takes the turn of a table that has no value yet.
+fn begin<V: Told, N: Opens<V::Entry, V::Kin>>(
+    shared: &Shared<Option<V>, View<V::Entry, V::Kin>, V, InTurns<V>>,
+    seat: Seat<Option<V>, View<V::Entry, V::Kin>>,
+    value: &V,
+) -> GateSeat<V>
+    requires table { IsTable shared.now.table_id }
+    requires seat { seat.table_id ≡ shared.now.table_id }
+    requires fresh { seat.me ≡ (unopened, []) }
+    requires key { shared.now.key ≡ value.now }
+    requires view { N.view ≡ opened (V.kin value.now) N.view.seen (V.marks value.now) }
+    requires stands { V.stands_for value.now N.view.seen }
+    ensures gate { result.gate ≡ record { table = shared.now.table_id; kin = Some (V.kin value.now) } }
+    ensures seat { result ≡ record (first_seat result.gate N.view.seen (V.marks value.now)) { holds = true } }
+{
+    let mut seat = seat;
+    shared.store::<Begin<N>>(&mut seat, TURN, 1);
+    GateSeat { seat }
+}
+
+impl<V: Told> Gate<V> {
+    /// A gate round the value, and its first seat.
+    pub fn new(alloc: Global, value: V) -> Result<(Gate<V>, GateSeat<V>), (V, OutOfMemory)>
+        ghost opening: { List V.Entry }
+        requires { V.stands_for value opening }
+        ensures kin { IfOk result (λ r. r.0.kin ≡ Some (V.kin value)) }
+        ensures seat { IfOk result (λ r. r.1 ≡ first_seat r.0 opening (V.marks value)) }
+        ensures back { IfErr result (λ e. e.0 ≡ value) }
+    {
+        let words = [value.length(), 1];
+        match Table::vacant(alloc, &words, 1, &value) {
+            Ok((table, seat)) => {
+                let mut seat = begin::<V, Brand>(&table.shared, seat, &value);
+                let gate = Gate { table };
+                gate.leave(&mut seat, Turn { value });
+                Ok((gate, seat))
+            }
+            Err(_) => Err((value, OutOfMemory)),
+        }
+    }
+
+    /// Takes the turn if it is free. It makes one exchange on the turn word and takes no memory.
+    pub fn try_enter(&self, seat: &mut GateSeat<V>) -> Option<Turn<V>>
+        requires gate { seat.old.gate ≡ self.now }
+        requires idle { seat.old.holds ≡ false }
+        ensures stands { IfSome result (λ t. V.stands_for t seat.new.seen) }
+        ensures kin { IfSome result (λ t. self.now.kin ≡ Some (V.kin t)) }
+        ensures longer { OnSome result (IsPrefix seat.old.seen seat.new.seen) }
+        ensures above { IfSome result (λ t. AtMost seat.old.marks (V.marks t)) }
+        ensures seat { IfSome result (λ t. seat.new ≡ record seat.old { seen = seat.new.seen; holds = true; marks = V.marks t }) }
+        ensures none { IfNone result (seat.new ≡ record seat.old { misses = seat.old.misses + 1 }) }
+        ensures alone { seat.old.first ≡ true → seat.old.out ≡ 0 → IsSome result }
+    {
+        if self
+            .table
+            .shared
+            .compare_exchange::<Claim<V>>(&mut seat.seat, TURN, 0, 1)
+            != 0
+        {
+            return None;
+        }
+        let slot = self.table.shared.exchange(&mut seat.seat, 0, None);
+        let Some(value) = slot else { unreachable!() };
+        Some(Turn { value })
+    }
+
+    /// Waits for the turn, and takes it.
+    pub fn enter<R: Wait>(&self, rt: &R, seat: &mut GateSeat<V>) -> Turn<V>
+        requires gate { seat.old.gate ≡ self.now }
+        requires idle { seat.old.holds ≡ false }
+        ensures stands { V.stands_for result seat.new.seen }
+        ensures kin { self.now.kin ≡ Some (V.kin result) }
+        ensures longer { IsPrefix seat.old.seen seat.new.seen }
+        ensures above { AtMost seat.old.marks (V.marks result) }
+        ensures misses { seat.old.misses ≤ seat.new.misses }
+        ensures seat { seat.new ≡ record seat.old { seen = seat.new.seen; holds = true; marks = V.marks result; misses = seat.new.misses } }
+    {
+        for _ in rt.forever() {
+            if let Some(turn) = self.try_enter(seat) {
+                return turn;
+            }
+            self.table.shared.park(rt, TURN, 1);
+        }
+        unreachable!()
+    }
+
+    /// Adds the value's newest entry to what the seat has seen and made. The value is unchanged.
+    pub fn count(&self, seat: &mut GateSeat<V>, turn: &mut Turn<V>)
+        requires gate { seat.old.gate ≡ self.now }
+        requires holds { seat.old.holds ≡ true }
+        requires newest { IsSome (V.newest turn.old) }
+        requires stands { V.stands_for turn.old (and_newest seat.old.seen (V.newest turn.old)) }
+        ensures value { turn.new ≡ turn.old }
+        ensures seat { seat.new ≡ with_newest seat.old (V.newest turn.old) }
+    {
+        let _ = turn.value.length();
+        self.counted::<Brand>(seat, &turn.value);
+    }
+
+    fn counted<N: Said<V::Entry>>(&self, seat: &mut GateSeat<V>, value: &V)
+        requires gate { seat.old.gate ≡ self.now }
+        requires holds { seat.old.holds ≡ true }
+        requires room { length seat.old.seen + 1 < 2 ^ 64 }
+        requires entry { N.entry ≡ V.newest value.now }
+        requires newest { IsSome N.entry }
+        ensures { seat.new ≡ with_newest seat.old N.entry }
+    {
+        let _ = value;
+        self.table
+            .shared
+            .fetch_add::<Count<N>>(&mut seat.seat, COUNT, 1);
+    }
+
+    /// Gives the turn back, with the value.
+    pub fn leave(&self, seat: &mut GateSeat<V>, turn: Turn<V>)
+        requires gate { seat.old.gate ≡ self.now }
+        requires holds { seat.old.holds ≡ true }
+        requires stands { V.stands_for turn seat.old.seen }
+        requires kin { self.now.kin ≡ Some (V.kin turn) }
+        requires marks { AtMost seat.old.marks (V.marks turn) }
+        ensures { seat.new ≡ record seat.old { holds = false; marks = V.marks turn } }
+    {
+        let Turn { value } = turn;
+        let slot = self.table.shared.exchange(&mut seat.seat, 0, Some(value));
+        let None = slot else { unreachable!() };
+        self.table.shared.swap::<Give<V>>(&mut seat.seat, TURN, 0);
+        self.table.shared.wake_one(TURN);
+    }
+
+    /// How long the history is, all of which the seat then has seen.
+    pub fn seen(&self, seat: &mut GateSeat<V>) -> u64
+        requires gate { seat.old.gate ≡ self.now }
+        ensures count { result ≡ length seat.new.seen }
+        ensures longer { IsPrefix seat.old.seen seat.new.seen }
+        ensures holder { seat.old.holds ≡ true → seat.new.seen ≡ seat.old.seen }
+        ensures seat { seat.new ≡ record seat.old { seen = seat.new.seen } }
+    {
+        self.table.shared.load::<Look>(&mut seat.seat, COUNT)
+    }
+
+    /// One more seat, for another thread. It takes no memory, so it does not fail.
+    pub fn split(&self, seat: &mut GateSeat<V>) -> Result<GateSeat<V>, OutOfMemory>
+        requires gate { seat.old.gate ≡ self.now }
+        requires first { seat.old.first ≡ true }
+        ensures made { IsOk result }
+        ensures new { IfOk result (λ s. s ≡ split_off seat.old) }
+        ensures seat { OnOk result (seat.new ≡ record seat.old { out = seat.old.out + 1 }) }
+    {
+        Ok(GateSeat {
+            seat: self.table.shared.split_seat::<Part>(&mut seat.seat),
+        })
+    }
+
+    /// Joins a seat into the first one, which keeps what it made and had seen.
+    pub fn join(&self, into: &mut GateSeat<V>, seat: GateSeat<V>)
+        requires gate { into.old.gate ≡ self.now }
+        requires first { into.old.first ≡ true }
+        requires same { seat.gate ≡ self.now }
+        requires idle { seat.holds ≡ false }
+        ensures out { into.old.out ≡ into.new.out + 1 }
+        ensures longer { IsPrefix into.old.seen into.new.seen }
+        ensures part { IsPrefix seat.seen into.new.seen }
+        ensures holder { into.old.holds ≡ true → into.new.seen ≡ into.old.seen }
+        ensures seat { into.new ≡ record into.old { seen = into.new.seen; joined = into.old.joined ++ (record { own = seat.own; seen = seat.seen }) ∷ []; out = into.new.out; marks = greatest into.old.marks seat.marks } }
+    {
+        let GateSeat { seat } = seat;
+        self.table.shared.join_seat::<Both>(&mut into.seat, seat);
+        let _ = self.table.shared.load::<Look>(&mut into.seat, COUNT);
+    }
+
+    /// The value at the end, when all seats were joined. Each entry of its history was made once, by one of them.
+    pub fn close(self, seat: GateSeat<V>) -> V
+        requires gate { seat.gate ≡ self }
+        requires first { seat.first ≡ true }
+        requires idle { seat.holds ≡ false }
+        requires out { seat.out ≡ 0 }
+        ensures stands { V.stands_for result seat.seen }
+        ensures kin { self.kin ≡ Some (V.kin result) }
+        ensures marks { AtMost seat.marks (V.marks result) }
+        ensures opening { seat.opening ≤ length seat.seen }
+        ensures once { EachOnce seat.opening seat.seen seat.own seat.joined }
+        ensures sound { IsSound seat }
+    {
+        let Gate { table } = self;
+        let GateSeat { seat } = seat;
+        let mut closed = table.close_with(seat);
+        let slot = closed.take(0);
+        closed.free();
+        let Some(value) = slot else { unreachable!() };
+        value
+    }
+}
