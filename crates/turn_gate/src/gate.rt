@@ -5,7 +5,6 @@ ghost use Rattle.turn_gate.specs.Marks.{AtMost, greatest};
 ghost use Rattle.turn_gate.specs.Places.{EachOnce};
 ghost use Rattle.turn_gate.specs.Seats.{IsSound, IsTable, first_seat, split_off, with_newest, and_newest, unopened, opened};
 
-
 use crate::plays::{Begin, Both, Claim, Count, Give, Look, Opens, Part, Said};
 use crate::told::Told;
 use crate::turn::Turn;
@@ -13,13 +12,20 @@ use crate::view::View;
 use atomic_table::{Seat, Shared, Table, TableRule};
 use cm_base::OutOfMemory;
 use std::alloc::Global;
+use std::hint::spin_loop;
 use std::marker::{Brand, Model, PhantomData};
 use std::sync::Wait;
+use std::sync::atomic::AtomicU64;
+use std::sync::atomic::Ordering::SeqCst;
 
-// Words of the table.
+/// The word that counts the entries of the history.
 const COUNT: usize = 0;
 
+/// The word of the turn: 0 where it is free, 1 where a seat holds it.
 const TURN: usize = 1;
+
+/// How often a waiter looks at the turn before it sleeps.
+const LOOKS: u32 = 16;
 
 /// The rule of a gate's table. No value of it is made.
 pub struct InTurns<V> {
@@ -39,6 +45,8 @@ impl<V: Told> TableRule<Option<V>, View<V::Entry, V::Kin>, V> for InTurns<V> {
 #[derive(Drop)]
 pub struct Gate<V: Told> {
     table: Table<Option<V>, View<V::Entry, V::Kin>, V, InTurns<V>, Global>,
+    // How many threads sleep on the turn, or are about to.
+    waiting: AtomicU64,
 }
 
 impl<V: Told> Model for Gate<V> {
@@ -110,7 +118,10 @@ impl<V: Told> Gate<V> {
         match Table::vacant(alloc, &words, 1, &value) {
             Ok((table, seat)) => {
                 let mut seat = begin::<V, Brand>(&table.shared, seat, &value);
-                let gate = Gate { table };
+                let gate = Gate {
+                    table,
+                    waiting: AtomicU64::new(0),
+                };
                 gate.leave(&mut seat, Turn { value });
                 Ok((gate, seat))
             }
@@ -130,15 +141,12 @@ impl<V: Told> Gate<V> {
         ensures none { IfNone result (seat.new ≡ record seat.old { misses = seat.old.misses + 1 }) }
         ensures alone { seat.old.first ≡ true → seat.old.out ≡ 0 → IsSome result }
     {
-        if self
-            .table
-            .shared
-            .compare_exchange::<Claim<V>>(&mut seat.seat, TURN, 0, 1)
-            != 0
-        {
+        let shared = &self.table.shared;
+        let found = shared.compare_exchange::<Claim<V>>(&mut seat.seat, TURN, 0, 1);
+        if found != 0 {
             return None;
         }
-        let slot = self.table.shared.exchange(&mut seat.seat, 0, None);
+        let slot = shared.exchange(&mut seat.seat, 0, None);
         let Some(value) = slot else { unreachable!() };
         Some(Turn { value })
     }
@@ -158,9 +166,24 @@ impl<V: Told> Gate<V> {
             if let Some(turn) = self.try_enter(seat) {
                 return turn;
             }
-            self.table.shared.park(rt, TURN, 1);
+            self.wait(rt);
         }
         unreachable!()
+    }
+
+    // Returns when the turn was seen free, or after a sleep. Who leaves after `waiting` rose wakes a sleeper, and a
+    // thread whose `waiting` came too late for that finds the turn free, and does not sleep.
+    fn wait<R: Wait>(&self, rt: &R) {
+        let shared = &self.table.shared;
+        for _ in 0..LOOKS {
+            if shared.peek(TURN) == 0 {
+                return;
+            }
+            spin_loop();
+        }
+        self.waiting.fetch_add(1, SeqCst);
+        shared.park(rt, TURN, 1);
+        self.waiting.fetch_sub(1, SeqCst);
     }
 
     /// Adds the value's newest entry to what the seat has seen and made. The value is unchanged.
@@ -200,10 +223,13 @@ impl<V: Told> Gate<V> {
         ensures { seat.new ≡ record seat.old { holds = false; marks = V.marks turn } }
     {
         let Turn { value } = turn;
-        let slot = self.table.shared.exchange(&mut seat.seat, 0, Some(value));
+        let shared = &self.table.shared;
+        let slot = shared.exchange(&mut seat.seat, 0, Some(value));
         let None = slot else { unreachable!() };
-        self.table.shared.swap::<Give<V>>(&mut seat.seat, TURN, 0);
-        self.table.shared.wake_one(TURN);
+        shared.swap::<Give<V>>(&mut seat.seat, TURN, 0);
+        if self.waiting.load(SeqCst) != 0 {
+            shared.wake_one(TURN);
+        }
     }
 
     /// How long the history is, all of which the seat then has seen.
@@ -260,7 +286,7 @@ impl<V: Told> Gate<V> {
         ensures once { EachOnce seat.opening seat.seen seat.own seat.joined }
         ensures sound { IsSound seat }
     {
-        let Gate { table } = self;
+        let Gate { table, waiting: _ } = self;
         let GateSeat { seat } = seat;
         let mut closed = table.close_with(seat);
         let slot = closed.take(0);
