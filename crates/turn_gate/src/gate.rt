@@ -1,11 +1,11 @@
-// The gate: a table of two words, the length of the history and the turn, and one slot, the value.
+// The gate: a table of two words, the count of the history's entries and the turn, and one slot, which has the value.
 ghost use Rattle.std.specs.Prelude.{◌≡◌, ◌≢◌, ℕ, ◌+◌, ◌^◌, ◌<◌, ◌≤◌, List, [], ◌∷◌, ◌++◌, length, true, false, Some, IsOk, IsSome, IfOk, IfErr, OnOk, IfSome, IfNone, OnSome};
 ghost use mathlib.Core.List.{IsPrefix};
 ghost use Rattle.turn_gate.specs.Marks.{AtMost, greatest};
 ghost use Rattle.turn_gate.specs.Places.{EachOnce};
 ghost use Rattle.turn_gate.specs.Seats.{IsSound, IsTable, first_seat, split_off, with_newest, and_newest, unopened, opened};
 
-use crate::plays::{Begin, Both, Claim, Count, Give, Look, Opens, Part, Said};
+use crate::plays::{Begin, Claim, Count, FirstView, GiveBack, JoinIn, Load, NewestEntry, SplitOff};
 use crate::told::Told;
 use crate::turn::Turn;
 use crate::view::View;
@@ -27,7 +27,7 @@ const TURN: usize = 1;
 /// How often a waiter looks at the turn before it sleeps.
 const LOOKS: u32 = 16;
 
-/// The rule of a gate's table. No value of it is made.
+/// The rule of a gate's table, which each step keeps. No value of it is made.
 pub struct InTurns<V> {
     of: PhantomData<V>,
 }
@@ -41,7 +41,7 @@ impl<V: Told> TableRule<Option<V>, View<V::Entry, V::Kin>, V> for InTurns<V> {
     ghost first = { λ _. unopened };
 }
 
-/// A value under turns. Contracts see which gate it is, and what no turn changes of its value.
+/// A value under turns, which threads share. Contracts see which gate it is, and the kin of its value.
 #[derive(Drop)]
 pub struct Gate<V: Told> {
     table: Table<Option<V>, View<V::Entry, V::Kin>, V, InTurns<V>, Global>,
@@ -60,7 +60,10 @@ impl<V: Told> Model for Gate<V> {
     ghost invariant = { λ g. IsTable g.table.shared.table_id };
 }
 
-/// A token of one thread, with what it has seen of the value's history and made of it.
+/// A seat at a gate, for one thread. It has no bytes. Contracts see its gate, what it has seen of the value's history
+/// (`seen`), its own entries with their places (`own`), whether it holds the turn, and how often it found the turn taken
+/// (`misses`); of the first seat also what was joined into it (`joined`), how many seats are split off and not joined
+/// (`out`), and how many entries the history had at first (`opening`).
 #[derive(Drop)]
 pub struct GateSeat<V: Told> {
     seat: Seat<Option<V>, View<V::Entry, V::Kin>>,
@@ -77,7 +80,8 @@ impl<V: Told> Model for GateSeat<V> {
 }
 
 impl<V: Told> GateSeat<V> {
-    /// What is true of every seat. It does nothing when it runs.
+    /// What is true of every seat: own entries stand in what was seen, at their places, which rise. It does nothing
+    /// when it runs.
     pub fn sound(&self)
         ensures { IsSound self.now }
     {
@@ -85,8 +89,8 @@ impl<V: Told> GateSeat<V> {
     }
 }
 
-// The first seat takes the turn of a table that has no value yet.
-fn begin<V: Told, N: Opens<V::Entry, V::Kin>>(
+// The first step of a table that has no value yet: its seat begins as one that holds the turn.
+fn begin<V: Told, N: FirstView<V::Entry, V::Kin>>(
     shared: &Shared<Option<V>, View<V::Entry, V::Kin>, V, InTurns<V>>,
     seat: Seat<Option<V>, View<V::Entry, V::Kin>>,
     value: &V,
@@ -106,7 +110,8 @@ fn begin<V: Told, N: Opens<V::Entry, V::Kin>>(
 }
 
 impl<V: Told> Gate<V> {
-    /// A gate round the value, and its first seat.
+    /// A gate round the value, and its first seat. That seat has seen the history that the caller names (`opening`), of
+    /// those that the value stands for. `OutOfMemory` hands the value back.
     pub fn new(alloc: Global, value: V) -> Result<(Gate<V>, GateSeat<V>), (V, OutOfMemory)>
         ghost opening: { List V.Entry }
         requires { V.stands_for value opening }
@@ -129,7 +134,8 @@ impl<V: Told> Gate<V> {
         }
     }
 
-    /// Takes the turn if it is free. It makes one exchange on the turn word and takes no memory.
+    /// Takes the turn, with the value, if it is free: one compare and exchange on the turn. The seat has then seen the
+    /// whole history. None comes only where that exchange found the turn taken, which `misses` counts. It takes no memory.
     pub fn try_enter(&self, seat: &mut GateSeat<V>) -> Option<Turn<V>>
         requires gate { seat.old.gate ≡ self.now }
         requires idle { seat.old.holds ≡ false }
@@ -151,7 +157,8 @@ impl<V: Told> Gate<V> {
         Some(Turn { value })
     }
 
-    /// Waits for the turn, and takes it.
+    /// Takes the turn as `try_enter` does, and waits while it is taken: after a few looks the thread sleeps, until who
+    /// leaves wakes it. Nothing says which waiter is next. It takes no memory.
     pub fn enter<R: Wait>(&self, rt: &R, seat: &mut GateSeat<V>) -> Turn<V>
         requires gate { seat.old.gate ≡ self.now }
         requires idle { seat.old.holds ≡ false }
@@ -171,8 +178,8 @@ impl<V: Told> Gate<V> {
         unreachable!()
     }
 
-    // Returns when the turn was seen free, or after a sleep. Who leaves after `waiting` rose wakes a sleeper, and a
-    // thread whose `waiting` came too late for that finds the turn free, and does not sleep.
+    // Returns when the turn was seen free, or after a sleep. Who leaves once `waiting` rose wakes a sleeper; a thread that
+    // raised it too late for that finds the turn free, and does not sleep.
     fn wait<R: Wait>(&self, rt: &R) {
         let shared = &self.table.shared;
         for _ in 0..LOOKS {
@@ -186,7 +193,8 @@ impl<V: Told> Gate<V> {
         self.waiting.fetch_sub(1, SeqCst);
     }
 
-    /// Adds the value's newest entry to what the seat has seen and made. The value is unchanged.
+    /// Counts the value's newest entry: it comes to the end of what the seat has seen and, with its place, of its own
+    /// entries. The value stands for that history already, and is unchanged. It takes no memory.
     pub fn count(&self, seat: &mut GateSeat<V>, turn: &mut Turn<V>)
         requires gate { seat.old.gate ≡ self.now }
         requires holds { seat.old.holds ≡ true }
@@ -199,7 +207,8 @@ impl<V: Told> Gate<V> {
         self.counted::<Brand>(seat, &turn.value);
     }
 
-    fn counted<N: Said<V::Entry>>(&self, seat: &mut GateSeat<V>, value: &V)
+    // The step of `count`.
+    fn counted<N: NewestEntry<V::Entry>>(&self, seat: &mut GateSeat<V>, value: &V)
         requires gate { seat.old.gate ≡ self.now }
         requires holds { seat.old.holds ≡ true }
         requires room { length seat.old.seen + 1 < 2 ^ 64 }
@@ -213,7 +222,8 @@ impl<V: Told> Gate<V> {
             .fetch_add::<Count<N>>(&mut seat.seat, COUNT, 1);
     }
 
-    /// Gives the turn back, with the value.
+    /// Gives the turn back, with the value, which stands for what the seat has seen. A turn may be given back without
+    /// an entry. It takes no memory.
     pub fn leave(&self, seat: &mut GateSeat<V>, turn: Turn<V>)
         requires gate { seat.old.gate ≡ self.now }
         requires holds { seat.old.holds ≡ true }
@@ -226,13 +236,13 @@ impl<V: Told> Gate<V> {
         let shared = &self.table.shared;
         let slot = shared.exchange(&mut seat.seat, 0, Some(value));
         let None = slot else { unreachable!() };
-        shared.swap::<Give<V>>(&mut seat.seat, TURN, 0);
+        shared.swap::<GiveBack<V>>(&mut seat.seat, TURN, 0);
         if self.waiting.load(SeqCst) != 0 {
             shared.wake_one(TURN);
         }
     }
 
-    /// How long the history is, all of which the seat then has seen.
+    /// How many entries the history has, all of which the seat has then seen: one load of the count. It takes no memory.
     pub fn seen(&self, seat: &mut GateSeat<V>) -> u64
         requires gate { seat.old.gate ≡ self.now }
         ensures count { result ≡ length seat.new.seen }
@@ -240,10 +250,11 @@ impl<V: Told> Gate<V> {
         ensures holder { seat.old.holds ≡ true → seat.new.seen ≡ seat.old.seen }
         ensures seat { seat.new ≡ record seat.old { seen = seat.new.seen } }
     {
-        self.table.shared.load::<Look>(&mut seat.seat, COUNT)
+        self.table.shared.load::<Load>(&mut seat.seat, COUNT)
     }
 
-    /// One more seat, for another thread. It takes no memory, so it does not fail.
+    /// One more seat, for another thread, split off the first one. It has seen as much, and made nothing. It takes no
+    /// memory, so it is always `Ok`.
     pub fn split(&self, seat: &mut GateSeat<V>) -> Result<GateSeat<V>, OutOfMemory>
         requires gate { seat.old.gate ≡ self.now }
         requires first { seat.old.first ≡ true }
@@ -252,11 +263,11 @@ impl<V: Told> Gate<V> {
         ensures seat { OnOk result (seat.new ≡ record seat.old { out = seat.old.out + 1 }) }
     {
         Ok(GateSeat {
-            seat: self.table.shared.split_seat::<Part>(&mut seat.seat),
+            seat: self.table.shared.split_seat::<SplitOff>(&mut seat.seat),
         })
     }
 
-    /// Joins a seat into the first one, which keeps what it made and had seen.
+    /// Joins a seat into the first one, which keeps what that seat made and had seen. It takes no memory.
     pub fn join(&self, into: &mut GateSeat<V>, seat: GateSeat<V>)
         requires gate { into.old.gate ≡ self.now }
         requires first { into.old.first ≡ true }
@@ -269,11 +280,12 @@ impl<V: Told> Gate<V> {
         ensures seat { into.new ≡ record into.old { seen = into.new.seen; joined = into.old.joined ++ (record { own = seat.own; seen = seat.seen }) ∷ []; out = into.new.out; marks = greatest into.old.marks seat.marks } }
     {
         let GateSeat { seat } = seat;
-        self.table.shared.join_seat::<Both>(&mut into.seat, seat);
-        let _ = self.table.shared.load::<Look>(&mut into.seat, COUNT);
+        self.table.shared.join_seat::<JoinIn>(&mut into.seat, seat);
+        let _ = self.table.shared.load::<Load>(&mut into.seat, COUNT);
     }
 
-    /// The value at the end, when all seats were joined. Each entry of its history was made once, by one of them.
+    /// The value at the end, when all seats were joined. Each entry of its history but the opening ones stands in exactly
+    /// one list of own entries, once, at its place. It takes no memory.
     pub fn close(self, seat: GateSeat<V>) -> V
         requires gate { seat.gate ≡ self }
         requires first { seat.first ≡ true }
