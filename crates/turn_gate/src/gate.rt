@@ -277,6 +277,8 @@ impl<V: Told> Gate<V> {
         ensures longer { IsPrefix into.old.seen into.new.seen }
         ensures part { IsPrefix seat.seen into.new.seen }
         ensures holder { into.old.holds ≡ true → into.new.seen ≡ into.old.seen }
+        ensures above { AtMost into.old.marks into.new.marks }
+        ensures part_above { AtMost seat.marks into.new.marks }
         ensures seat { into.new ≡ record into.old { seen = into.new.seen; joined = into.old.joined ++ (record { own = seat.own; seen = seat.seen }) ∷ []; out = into.new.out; marks = greatest into.old.marks seat.marks } }
     {
         let GateSeat { seat } = seat;
