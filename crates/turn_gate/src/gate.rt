@@ -6,26 +6,21 @@ ghost use Rattle.turn_gate.specs.Places.{EachOnce};
 ghost use Rattle.turn_gate.specs.Seats.{IsSound, IsTable, first_seat, split_off, with_newest, and_newest, unopened, opened};
 
 use crate::plays::{Begin, Claim, Count, FirstView, GiveBack, JoinIn, Load, NewestEntry, SplitOff};
+use crate::sleepers::Sleepers;
 use crate::told::Told;
 use crate::turn::Turn;
 use crate::view::View;
 use atomic_table::{Seat, Shared, Table, TableRule};
 use cm_base::OutOfMemory;
 use std::alloc::Global;
-use std::hint::spin_loop;
 use std::marker::{Brand, Model, PhantomData};
 use std::sync::Wait;
-use std::sync::atomic::AtomicU64;
-use std::sync::atomic::Ordering::SeqCst;
 
 /// The word that counts the entries of the history.
 const COUNT: usize = 0;
 
 /// The word of the turn: 0 where it is free, 1 where a seat holds it.
 const TURN: usize = 1;
-
-/// How often a waiter looks at the turn before it sleeps.
-const LOOKS: u32 = 16;
 
 /// The rule of a gate's table, which each step keeps. No value of it is made.
 pub struct InTurns<V> {
@@ -45,8 +40,7 @@ impl<V: Told> TableRule<Option<V>, View<V::Entry, V::Kin>, V> for InTurns<V> {
 #[derive(Drop)]
 pub struct Gate<V: Told> {
     table: Table<Option<V>, View<V::Entry, V::Kin>, V, InTurns<V>, Global>,
-    // How many threads sleep on the turn, or are about to.
-    waiting: AtomicU64,
+    sleepers: Sleepers,
 }
 
 impl<V: Told> Model for Gate<V> {
@@ -125,7 +119,7 @@ impl<V: Told> Gate<V> {
                 let mut seat = begin::<V, Brand>(&table.shared, seat, &value);
                 let gate = Gate {
                     table,
-                    waiting: AtomicU64::new(0),
+                    sleepers: Sleepers::none(),
                 };
                 gate.leave(&mut seat, Turn { value });
                 Ok((gate, seat))
@@ -157,8 +151,8 @@ impl<V: Told> Gate<V> {
         Some(Turn { value })
     }
 
-    /// Takes the turn as `try_enter` does, and waits while it is taken: after a few looks the thread sleeps, until who
-    /// leaves wakes it. Nothing says which waiter is next. It takes no memory.
+    /// Takes the turn as `try_enter` does, and sleeps while it is taken: who leaves wakes a sleeper. Nothing says who is
+    /// next. It takes no memory.
     pub fn enter<R: Wait>(&self, rt: &R, seat: &mut GateSeat<V>) -> Turn<V>
         requires gate { seat.old.gate ≡ self.now }
         requires idle { seat.old.holds ≡ false }
@@ -173,24 +167,17 @@ impl<V: Told> Gate<V> {
             if let Some(turn) = self.try_enter(seat) {
                 return turn;
             }
-            self.wait(rt);
+            self.sleep(rt);
         }
         unreachable!()
     }
 
-    // Returns when the turn was seen free, or after a sleep. Who leaves once `waiting` rose wakes a sleeper; a thread that
-    // raised it too late for that finds the turn free, and does not sleep.
-    fn wait<R: Wait>(&self, rt: &R) {
-        let shared = &self.table.shared;
-        for _ in 0..LOOKS {
-            if shared.peek(TURN) == 0 {
-                return;
-            }
-            spin_loop();
+    // Sleeps, unless the turn is free by now.
+    fn sleep<R: Wait>(&self, rt: &R) {
+        let wakes = self.sleepers.announce();
+        if self.table.shared.peek(TURN) != 0 {
+            self.sleepers.sleep(rt, wakes);
         }
-        self.waiting.fetch_add(1, SeqCst);
-        shared.park(rt, TURN, 1);
-        self.waiting.fetch_sub(1, SeqCst);
     }
 
     /// Counts the value's newest entry: it comes to the end of what the seat has seen and, with its place, of its own
@@ -237,9 +224,7 @@ impl<V: Told> Gate<V> {
         let slot = shared.exchange(&mut seat.seat, 0, Some(value));
         let None = slot else { unreachable!() };
         shared.swap::<GiveBack<V>>(&mut seat.seat, TURN, 0);
-        if self.waiting.load(SeqCst) != 0 {
-            shared.wake_one(TURN);
-        }
+        self.sleepers.wake();
     }
 
     /// How many entries the history has, all of which the seat has then seen: one load of the count. It takes no memory.
@@ -300,7 +285,7 @@ impl<V: Told> Gate<V> {
         ensures once { EachOnce seat.opening seat.seen seat.own seat.joined }
         ensures sound { IsSound seat }
     {
-        let Gate { table, waiting: _ } = self;
+        let Gate { table, sleepers: _ } = self;
         let GateSeat { seat } = seat;
         let mut closed = table.close_with(seat);
         let slot = closed.take(0);

@@ -7,6 +7,7 @@
 
 mod gate;
 mod plays;
+mod sleepers;
 mod told;
 mod turn;
 mod view;
