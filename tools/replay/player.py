@@ -96,18 +96,31 @@ class Player:
             pass
 
 
+def played_items(data):
+    """Plays a trace: its player and where the header ends, and then after each item the player and where it ends."""
+    machine, at = frames.read_header(data)
+    player = Player(machine)
+    yield player, at
+    while at < len(data):
+        item, end = frames.read_item(data, at)
+        if not player.fits(item):
+            raise BadInput(frames.BAD_RECORD, at)
+        player.play(item)
+        at = end
+        yield player, at
+
+
+def line_of(bad):
+    """What the program says on standard error."""
+    return f"copymgr: {TEXTS[bad.status]} {bad.place}\n"
+
+
 def play(data):
     """The replies, the exit status, and the line on standard error."""
     player = None
     try:
-        machine, at = frames.read_header(data)
-        player = Player(machine)
-        while at < len(data):
-            item, end = frames.read_item(data, at)
-            if not player.fits(item):
-                raise BadInput(frames.BAD_RECORD, at)
-            player.play(item)
-            at = end
+        for player, _ in played_items(data):
+            pass
     except BadInput as bad:
-        return player.replies if player else [], bad.status, f"copymgr: {TEXTS[bad.status]} {bad.place}\n"
+        return player.replies if player else [], bad.status, line_of(bad)
     return player.replies, frames.DONE, ""

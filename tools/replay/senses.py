@@ -28,6 +28,43 @@ NOT_REACHABLE = (0x0A, 0x0D, 0x02)
 DEVICE_TYPE = (0x0A, 0x0D, 0x03)
 COPY_OUT_OF_RANGE = (0x0A, 0x21, 0x00)
 
+KEYS = {0x00: "NO SENSE", 0x05: "ILLEGAL REQUEST", 0x07: "DATA PROTECT", 0x0A: "COPY ABORTED"}
+# the names of additional sense codes with their qualifiers, as SPC-4 has them but for their capitals
+NAMES = {
+    (0x00, 0x00): "no additional sense information",
+    (0x00, 0x16): "operation in progress",
+    (0x0D, 0x02): "copy target device not reachable",
+    (0x0D, 0x03): "incorrect copy target device type",
+    (0x1A, 0x00): "parameter list length error",
+    (0x20, 0x00): "invalid command operation code",
+    (0x21, 0x00): "logical block address out of range",
+    (0x23, 0x01): "unsupported token type",
+    (0x23, 0x02): "remote token usage not supported",
+    (0x23, 0x04): "token unknown",
+    (0x23, 0x05): "token corrupt",
+    (0x23, 0x07): "token expired",
+    (0x23, 0x08): "token cancelled",
+    (0x23, 0x09): "token deleted",
+    (0x23, 0x0A): "invalid token length",
+    (0x24, 0x00): "invalid field in CDB",
+    (0x25, 0x00): "logical unit not supported",
+    (0x26, 0x00): "invalid field in parameter list",
+    (0x26, 0x06): "too many target descriptors",
+    (0x26, 0x07): "unsupported target descriptor type code",
+    (0x26, 0x08): "too many segment descriptors",
+    (0x26, 0x09): "unsupported segment descriptor type code",
+    (0x26, 0x0B): "inline data length exceeded",
+    (0x27, 0x07): "space allocation failed write protect",
+    (0x55, 0x03): "insufficient resources",
+}
+
+
+def sense_text(sense):
+    """As in `ILLEGAL REQUEST, token expired (05/23/07)`."""
+    key, code, qualifier = sense
+    named = f"{KEYS.get(key, 'another key')}, {NAMES.get((code, qualifier), 'another code')}"
+    return f"{named} ({key:02X}/{code:02X}/{qualifier:02X})"
+
 
 class Refused(Exception):
     """An act or a command is refused with a sense."""

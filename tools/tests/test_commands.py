@@ -1,0 +1,109 @@
+"""The tools by their words: what they write, and how wrong use ends."""
+
+import pathlib
+import re
+import tempfile
+import unittest
+
+from . import support
+from replay import senses
+
+STDIN = (support.TOP / "crates/copymgr/stdin").read_bytes()
+STDOUT = (support.TOP / "crates/copymgr/stdout").read_bytes()
+TEXT = b"unit 0 blocks=100\ni1 lun=0 write-16 lba=0 data=11*512,22*512 go\ni1 lun=0 read-16 lba=0 count=3 go\n"
+TOOLS = ["trace", "plain-replay", "row", "random-traces", "run-tests", "fail-allocations", "check-repository"]
+
+
+class Trace(unittest.TestCase):
+    def test_the_stored_trace_as_text_and_back(self):
+        self.assertEqual(support.run("trace", "text", data=STDIN), (TEXT, "", 0))
+        self.assertEqual(support.run("trace", "bytes", data=TEXT), (STDIN, "", 0))
+
+    def test_play_and_replies_tell_the_same(self):
+        text, _, status = support.run("trace", "play", data=TEXT)
+        self.assertEqual(status, 0)
+        with tempfile.TemporaryDirectory() as folder:
+            trace = pathlib.Path(folder) / "stdin"
+            trace.write_bytes(STDIN)
+            replies = support.run("trace", "replies", str(trace), data=STDOUT)
+        told = [line.removeprefix("    ") for line in text.decode().splitlines() if line.startswith("    ")]
+        self.assertEqual((replies[0].decode().splitlines(), replies[1:]), (told, ("", 0)))
+
+    def test_play_by_a_program(self):
+        plain = support.run("trace", "play", data=TEXT)
+        self.assertEqual(support.run("trace", "play", "tools/plain-replay", data=TEXT), plain)
+
+    def test_play_tells_of_other_replies(self):
+        output, _, status = support.run("trace", "play", "true", data=TEXT)
+        self.assertEqual(output.decode().splitlines()[-1], "these are not the replies of the plain replay")
+        self.assertEqual(status, 1)
+
+    def test_play_of_an_early_end(self):
+        output, _, status = support.run("trace", "play", data=b"raw 00")
+        self.assertEqual(output, b"raw 00\nended with status 4: copymgr: input ends inside the part at byte 0\n")
+        self.assertEqual(status, 1)
+
+    def test_acts(self):
+        output, said, status = support.run("trace", "acts", data=TEXT)
+        self.assertEqual((len(output.splitlines()), said, status), (4, "", 0))
+
+    def test_wrong_input_is_one_line_and_nothing_is_written(self):
+        for words, data, why in [
+            (["bytes"], TEXT + b"i1 foo", "line 4, column 4: there is no command foo"),
+            (["play"], b"\xff\xfe\0", "no text"),
+            (["play", "/nowhere/at/all"], TEXT, "No such file"),
+            (["replies", "/nowhere/at/all"], b"", "No such file"),
+            (["replies", "crates/copymgr/stdin"], STDOUT[:-1], "end inside the reply at byte 10"),
+            (["replies", "crates/copymgr/stdout"], b"", "bad header at byte 0"),
+        ]:
+            with self.subTest(words=words):
+                output, said, status = support.run("trace", *words, data=data)
+                self.assertEqual((output, status, said.count("\n")), (b"", 2, 1), said)
+                self.assertIn(why, said)
+
+
+class PlainReplay(unittest.TestCase):
+    def test_the_stored_trace(self):
+        self.assertEqual(support.run("plain-replay", "replay", data=STDIN), (STDOUT, "", 0))
+
+    def test_endings(self):
+        place = len(STDIN)
+        for data, said, status in [
+            (b"", "input ends inside the part at byte 0", 4),
+            (STDIN[:60], "input ends inside the part at byte 0", 4),
+            (b"X" + STDIN[1:], "bad header at byte 0", 5),
+            (STDIN[:40] + b"\0\x11" + STDIN[42:], "bad header at byte 40", 5),
+            (STDIN + b"\1\0", f"input ends inside the part at byte {place}", 4),
+            (STDIN + b"\4", f"bad record at byte {place}", 7),
+            (STDIN + b"\2" + bytes(12), f"bad record at byte {place}", 7),
+        ]:
+            with self.subTest(said):
+                output = STDOUT if len(data) > place else b""
+                self.assertEqual(support.run("plain-replay", "replay", data=data), (output, f"copymgr: {said}\n", status))
+
+
+class Words(unittest.TestCase):
+    def test_help_has_an_example(self):
+        for tool in TOOLS:
+            with self.subTest(tool):
+                output, said, status = support.run(tool, "--help")
+                self.assertEqual((said, status), ("", 0))
+                self.assertIn("example:\n", output.decode())
+                self.assertIn(f"tools/{tool}", output.decode())
+
+    def test_wrong_use_is_one_line_and_status_2(self):
+        for words in [[tool, "--nonesuch"] for tool in TOOLS] + [["trace"], ["trace", "foo"], ["row", "trace", "none"]]:
+            with self.subTest(words=words):
+                output, said, status = support.run(*words)
+                self.assertEqual((output, status, said.count("\n")), (b"", 2, 1), said)
+
+
+class Senses(unittest.TestCase):
+    def test_the_document_has_every_sense_and_its_name(self):
+        table = (support.TOP / "docs/formats.md").read_text(encoding="utf-8").split("| Sense | Name")[1].split("\n\n")[0]
+        told = dict(re.findall(r"^\| ([0-9A-F]{2}/[0-9A-F]{2}/[0-9A-F]{2}) \| ([^|]+) \|", table, re.M))
+        known = {value for value in vars(senses).values() if isinstance(value, tuple) and len(value) == 3}
+        # a copy has the key 0Ah also where a Put is refused
+        known.add((0x0A, *senses.OVER_QUOTA[1:]))
+        wanted = {f"{k:02X}/{c:02X}/{q:02X}": senses.NAMES[c, q].upper() for k, c, q in known}
+        self.assertEqual(told, wanted)

@@ -1,0 +1,57 @@
+"""The worked traces as text: rows/NAME.txt, whose first line is the name that crates/copymgr/src/rows has, and beside
+it the replies as text."""
+
+import unittest
+
+from . import support
+from replay import player
+from tracetext import playing, traces
+
+ROWS = sorted((support.TOOLS / "tests/rows").glob("*.txt"))
+TABLES = support.tool("row")
+
+
+def text_of(path):
+    with path.open(encoding="utf-8") as file:
+        return traces.read_text(file)
+
+
+def tables():
+    """The bytes of each row of the program's tests, and of its replies."""
+    return {
+        name: (TABLES.bytes_of(trace, named), TABLES.bytes_of(replies, named))
+        for name, trace, replies, named in TABLES.rows()
+    }
+
+
+class Rows(unittest.TestCase):
+    def each(self):
+        self.assertGreaterEqual(len(ROWS), 30)
+        for path in ROWS:
+            with self.subTest(path.name):
+                yield path, text_of(path)
+
+    def test_the_text_is_the_row_of_the_programs_tests(self):
+        rows = tables()
+        for path, text in self.each():
+            name = path.read_text(encoding="utf-8").splitlines()[0].removeprefix("# ")
+            trace, replies = rows[name]
+            data = traces.bytes_of(text)
+            self.assertEqual(data, trace)
+            self.assertEqual(b"".join(reply.bytes for reply in player.play(data)[0]), replies)
+
+    def test_every_row_of_the_tables_comes_back_from_text(self):
+        for name, (trace, _) in tables().items():
+            with self.subTest(name):
+                self.assertEqual(traces.bytes_of(traces.read_text(traces.text_of(trace))), trace)
+
+    def test_the_replies_as_text(self):
+        for path, text in self.each():
+            wanted = path.with_suffix(".out").read_text(encoding="utf-8")
+            self.assertEqual("\n".join(playing.session(text)[0]) + "\n", wanted)
+
+    @unittest.skipIf(support.NO_PROGRAM, support.NO_PROGRAM)
+    def test_the_program_replies_so(self):
+        for path, text in self.each():
+            wanted = path.with_suffix(".out").read_text(encoding="utf-8")
+            self.assertEqual("\n".join(playing.session(text, [support.PROGRAM])[0]) + "\n", wanted)

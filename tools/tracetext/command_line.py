@@ -1,0 +1,26 @@
+"""What the tools have in common: wrong use ends with one line and status 2, and nothing is written before all is known."""
+
+import argparse
+import sys
+
+WRONG_USE = 2
+
+
+class Parser(argparse.ArgumentParser):
+    """A parser whose faults are one line."""
+
+    def __init__(self, *words, **named):
+        super().__init__(*words, formatter_class=argparse.RawDescriptionHelpFormatter, allow_abbrev=False, **named)
+
+    def error(self, message):
+        fail(self.prog, f"{message} (see {self.prog} --help)")
+
+
+def fail(program, why, status=WRONG_USE):
+    """Ends the program with one line on standard error."""
+    print(f"{program}: {why}".replace("\n", " "), file=sys.stderr)
+    sys.exit(status)
+
+
+def write_lines(lines):
+    sys.stdout.write("".join(line + "\n" for line in lines))
