@@ -1,0 +1,266 @@
+"""The command cmgr.
+
+example:
+  $ PATH=$PATH:$PWD/clients/python
+  $ cmgr new disk.trace --unit 1000000 --unit 1000000
+  $ echo hello | dd bs=512 conv=sync | cmgr write disk.trace --lba 5
+  $ cmgr copy disk.trace --from 0:5 --to 1:9 --count 1
+  $ cmgr read disk.trace --lun 1 --lba 9 --count 1 --hex
+  $ cmgr map disk.trace --lun 1
+  $ cmgr status disk.trace --lun 1 --id 2
+
+DEVICE is a trace, which is replayed and to which the new commands are added (tools/trace text < disk.trace shows it);
+or tcp:HOST:PORT, a program that serves. Numbers are decimal, or hexadecimal as in 0x1f or 1fh.
+
+The exit status is that of sg3_utils: 0 all was done, 5 illegal request, 7 data protect, 9 unknown operation code,
+10 copy aborted, 15 a file or the program failed, 20 no sense, 22 LBA out of range, 26 busy, 27 task set full,
+98 another sense. Wrong words are 2, which no disk of copymgr answers as it is always ready.
+"""
+
+import fcntl
+import os
+import pathlib
+import shlex
+import sys
+
+from .disk import Disk
+from .errors import Busy, CheckCondition, Ended, OperationEnded, TaskSetFull
+from .hosts import SECRET, Connection, Replay, Shape
+from .wire import frames, senses
+
+# pylint: disable=wrong-import-order
+from tracetext.command_line import Parser, fail
+from tracetext.replies import counted, hex_lines
+from tracetext.values import U16, U32, U64, ranges_of
+from tracetext.words import number_of
+
+PROGRAM = "cmgr"
+FILE_ERROR = 15
+UNITS_LIMIT = 16
+STATUS_OF_KEY = {0x00: 20, 0x05: 5, 0x07: 7, 0x0A: 10}
+STATUS_OF_SENSE = {senses.UNKNOWN_OPERATION: 9, senses.OUT_OF_RANGE: 22}
+
+
+def exit_status(error):
+    if isinstance(error, CheckCondition):
+        return STATUS_OF_SENSE.get(error.sense, STATUS_OF_KEY.get(error.key, 98))
+    return {Busy: 26, TaskSetFull: 27, OperationEnded: 10}.get(type(error), FILE_ERROR)
+
+
+# ---- words
+
+
+def number(most):
+    """A reader of numbers for the parser, which names the type where it is wrong."""
+
+    def read(text):
+        return number_of(text, most)
+
+    read.__name__ = "number"
+    return read
+
+
+def ranges(text):
+    return ranges_of(text)
+
+
+def place(text):
+    """A unit and a block, as in 0:5."""
+    lun, lba = text.split(":")
+    return number_of(lun, U16), number_of(lba, U64)
+
+
+def unit(text):
+    """A number of blocks, and behind / the bytes of one, as in 100/4096."""
+    blocks, _, length = text.partition("/")
+    if length not in ("", "512", "4096"):
+        raise ValueError("a block has 512 or 4096 bytes")
+    return Shape(number_of(blocks, 2**32, 1), int(length or 512))
+
+
+def parser():
+    top = Parser(prog=PROGRAM, description=__doc__)
+    kinds = top.add_subparsers(metavar="new|read|write|unmap|map|copy|inq|readcap|status|abort", required=True)
+
+    def kind(name, do, description, *options):
+        one = kinds.add_parser(name, help=description, description=description)
+        one.set_defaults(do=do)
+        one.add_argument("device", metavar="DEVICE", help="a trace, or tcp:HOST:PORT")
+        for option, named in options:
+            one.add_argument(option, **named)
+        if do is not new:
+            one.add_argument("--program", help="what replays the trace; else copymgr if it was built, or the plain replay")
+            one.add_argument("--moment", type=number(U64), help="in a trace the moment in seconds; else that of its last item")
+
+    lun = "--lun", {"type": number(U16), "default": 0, "help": "0 if left out"}
+    lba = "--lba", {"type": number(U64), "default": 0, "help": "the first block; 0 if left out"}
+    count = "--count", {"type": number(2**32), "required": True, "help": "how many blocks"}
+    list_id = "--id", {"type": number(U32), "default": 1, "help": "the list identifier; 1 if left out"}
+    kind("new", new, "begins a trace of new units", ("--unit", {
+        "type": unit, "action": "append", "required": True, "metavar": "BLOCKS[/BYTES]", "help": "a unit; a block has 512 bytes"}))
+    kind("read", read, "reads blocks, to standard output", lun, lba, count,
+         ("--out", {"help": "to a file, which is there only when all was read"}),
+         ("--hex", {"action": "store_true", "help": "as text, as on a terminal"}))
+    kind("write", write, "writes blocks, from standard input", lun, lba, ("--in", {"dest": "file", "help": "from a file"}))
+    kind("unmap", unmap, "unmaps ranges", lun, ("--ranges", {"type": ranges, "required": True, "help": "as in 5+1,9+3"}))
+    kind("map", show_map, "tells which blocks are mapped", lun)
+    kind("copy", copy, "copies blocks by a token", count, list_id,
+         ("--from", {"dest": "source", "type": place, "required": True, "metavar": "LUN:LBA"}),
+         ("--to", {"dest": "target", "type": place, "required": True, "metavar": "LUN:LBA"}),
+         ("--immed", {"action": "store_true", "help": "ends when the copy is begun"}),
+         ("--segments", {"action": "store_true", "help": "by EXTENDED COPY, of at most 65535 blocks"}))
+    kind("inq", inq, "tells what the unit is", lun, ("--page", {"type": number(255), "help": "a vital product data page"}))
+    kind("readcap", readcap, "tells how large the unit is", lun)
+    kind("status", tell_status, "tells how an operation stands", lun, list_id,
+         ("--pump", {"type": number(U32), "default": 0, "help": "in a trace so many Pumps of the unit before"}))
+    kind("abort", abort, "ends an operation in the background", lun, list_id)
+    return top
+
+
+# ---- the trace or the connection
+
+
+class TraceFile:
+    """A trace in a file, to which what was played is added when all went well so far."""
+
+    def __init__(self, words):
+        self.file = open(words.device, "r+b")  # pylint: disable=consider-using-with
+        fcntl.flock(self.file, fcntl.LOCK_EX)
+        trace = self.file.read()
+        _, at = frames.read_header(trace)
+        moment = 0
+        while at < len(trace):
+            item, at = frames.read_item(trace, at)
+            moment = item.moment
+        self.host = Replay(program=shlex.split(words.program) if words.program else None, trace=trace)
+        self.host.moment = moment if words.moment is None else words.moment
+
+    def close(self):
+        end = self.file.seek(0, os.SEEK_END)
+        try:
+            self.file.write(b"".join(self.host.items))
+            self.file.flush()
+        except OSError:
+            self.file.truncate(end)
+            raise
+        finally:
+            self.host.close()
+            self.file.close()
+
+
+class Served:
+    """A connection."""
+
+    def __init__(self, address):
+        name, _, port = address.rpartition(":")
+        if not name or not port.isdigit():
+            fail(PROGRAM, f"tcp:{address} is no tcp:HOST:PORT")
+        self.host = Connection((name, int(port)))
+
+    def close(self):
+        self.host.close()
+
+
+def opened(words):
+    if words.device.startswith("tcp:"):
+        return Served(words.device.removeprefix("tcp:"))
+    return TraceFile(words)
+
+
+# ---- commands
+
+
+def new(words):
+    if len(words.unit) > UNITS_LIMIT:
+        raise ValueError(f"a trace has at most {UNITS_LIMIT} units")
+    with open(words.device, "xb") as file:
+        file.write(frames.header_bytes(frames.Machine(SECRET, words.unit)))
+
+
+def read(words, host):
+    data = Disk(host, words.lun).read(words.lba, words.count)
+    if words.out:
+        part = pathlib.Path(words.out + ".part")
+        part.write_bytes(data)
+        part.replace(words.out)
+    elif words.hex or sys.stdout.isatty():
+        print("\n".join(hex_lines(data)))
+    else:
+        sys.stdout.buffer.write(data)
+
+
+def write(words, host):
+    data = pathlib.Path(words.file).read_bytes() if words.file else sys.stdin.buffer.read()
+    Disk(host, words.lun).write(words.lba, data)
+
+
+def unmap(words, host):
+    Disk(host, words.lun).unmap(words.ranges)
+
+
+def show_map(words, host):
+    for run in Disk(host, words.lun).map():
+        print(f"{run.lba}+{run.count} {'mapped' if run.mapped else 'deallocated'}")
+
+
+def progress_to(count):
+    """A line on a terminal that tells how far a copy is."""
+    if not sys.stderr.isatty():
+        return None
+    return lambda blocks: print(f"\r{blocks} of {count} blocks", end="\n" if blocks == count else "", file=sys.stderr)
+
+
+def copy(words, host):
+    (lun, lba), (to_lun, to_lba) = words.source, words.target
+    source, target = Disk(host, lun), Disk(host, to_lun)
+    host.last_id = words.id - 1
+    if words.segments:
+        source.extended_copy(target, [(lba, to_lba, words.count)], words.id)
+    elif words.immed:
+        token = source.populate([(lba, words.count)], list_id=words.id)
+        target.write_using_token(token, [(to_lba, words.count)], background=True, delete=True, list_id=words.id)
+    else:
+        source.copy_to(target, lba, to_lba, words.count, progress_to(words.count))
+
+
+def inq(words, host):
+    found = Disk(host, words.lun).inquiry(words.page)
+    print("\n".join(hex_lines(found)) if words.page is not None else " ".join(found))
+
+
+def readcap(words, host):
+    blocks, length = Disk(host, words.lun).capacity()
+    print(f"{blocks} blocks of {length} bytes: {blocks * length} bytes")
+
+
+def tell_status(words, host):
+    for _ in range(words.pump):
+        host.let_work(words.lun)
+    operation = Disk(host, words.lun).status(words.id)
+    said = operation.state.name.lower().replace("_", " ")
+    print(f"{said}, {counted(operation.count, 'block')}" + (f", {CheckCondition(operation.sense)}" if operation.sense else ""))
+
+
+def abort(words, host):
+    Disk(host, words.lun).abort(words.id)
+
+
+def main(arguments=None):
+    words = parser().parse_args(arguments)
+    try:
+        if words.do is new:
+            new(words)
+            return
+        device = opened(words)
+        try:
+            words.do(words, device.host)
+        finally:
+            device.close()
+    except (Busy, CheckCondition, Ended, OperationEnded, TaskSetFull) as error:
+        fail(PROGRAM, error, exit_status(error))
+    except senses.BadInput as bad:
+        fail(PROGRAM, f"{words.device}: no whole trace, at byte {bad.place}", FILE_ERROR)
+    except OSError as error:
+        fail(PROGRAM, f"{error.filename or words.device}: {error.strerror}", FILE_ERROR)
+    except ValueError as error:
+        fail(PROGRAM, error)

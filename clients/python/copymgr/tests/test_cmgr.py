@@ -1,0 +1,130 @@
+"""The command cmgr."""
+
+import os
+import pathlib
+import pty
+import subprocess
+import tempfile
+import unittest
+
+from copymgr.wire import PLAIN_REPLAY, TOP
+
+from .support import NO_PROGRAM, PROGRAM, SHAPES, Server
+
+CMGR = TOP / "clients/python/cmgr"
+
+
+class Traces(unittest.TestCase):
+    PROGRAM = str(PLAIN_REPLAY)
+
+    def setUp(self):
+        folder = tempfile.TemporaryDirectory()
+        self.addCleanup(folder.cleanup)
+        self.folder = pathlib.Path(folder.name)
+        self.trace = str(self.folder / "disk.trace")
+        self.good("new", self.trace, "--unit", "10000", "--unit", "0x2710", "--unit", "50/4096")
+
+    def run_words(self, *words, data=b""):
+        if words[0] != "new":
+            words += ("--program", self.PROGRAM)
+        return subprocess.run([CMGR, *words], input=data, capture_output=True, check=False)
+
+    def good(self, *words, data=b""):
+        done = self.run_words(*words, data=data)
+        self.assertEqual((done.returncode, done.stderr), (0, b""), words)
+        return done.stdout
+
+    def bad(self, status, why, *words, data=b""):
+        """It ends with the status and one line, writes nothing, and leaves the trace as it was or longer."""
+        done = self.run_words(*words, data=data)
+        self.assertEqual((done.returncode, done.stdout, done.stderr.count(b"\n")), (status, b"", 1), done.stderr)
+        self.assertIn(why, done.stderr.decode())
+
+    def test_blocks(self):
+        self.good("write", self.trace, "--lba", "5", data=b"a" * 512 + b"b" * 512)
+        self.assertEqual(self.good("read", self.trace, "--lba", "6", "--count", "2"), b"b" * 512 + bytes(512))
+        self.assertIn(b"00000200\n", self.good("read", self.trace, "--lba", "5", "--count", "1", "--hex"))
+        self.good("read", self.trace, "--lba", "5", "--count", "1", "--out", str(self.folder / "out"))
+        self.assertEqual((self.folder / "out").read_bytes(), b"a" * 512)
+        self.good("unmap", self.trace, "--ranges", "5+1")
+        self.assertEqual(self.good("map", self.trace), b"0+6 deallocated\n6+1 mapped\n7+9993 deallocated\n")
+
+    def test_copies(self):
+        self.good("write", self.trace, data=b"c" * 512 * 2000)
+        self.good("copy", self.trace, "--from", "0:0", "--to", "1:100", "--count", "2000")
+        self.assertEqual(self.good("map", self.trace, "--lun", "1").splitlines()[1], b"100+2000 mapped")
+        self.good("copy", self.trace, "--from", "0:0", "--to", "1:0", "--count", "2", "--segments")
+        self.good("copy", self.trace, "--from", "0:0", "--to", "1:5000", "--count", "2000", "--immed", "--id", "9")
+        status = ["status", self.trace, "--lun", "1", "--id", "9"]
+        self.assertEqual(self.good(*status), b"in background, 0 blocks\n")
+        self.assertEqual(self.good(*status, "--pump", "1"), b"in background, 1024 blocks\n")
+        self.good("abort", self.trace, "--lun", "1", "--id", "9")
+        self.assertEqual(self.good(*status, "--pump", "1"), b"terminated, 1024 blocks\n")
+
+    def test_what_a_unit_is(self):
+        self.assertEqual(self.good("readcap", self.trace, "--lun", "2"), b"50 blocks of 4096 bytes: 204800 bytes\n")
+        self.assertEqual(self.good("inq", self.trace), b"COPYMGR ROD TOKEN UNIT 0001\n")
+        self.assertIn(b"00 83 00 0c", self.good("inq", self.trace, "--page", "83h"))
+
+    def test_moments(self):
+        self.good("readcap", self.trace, "--moment", "100")
+        self.good("copy", self.trace, "--from", "0:0", "--to", "1:0", "--count", "1")
+        text = subprocess.run([TOP / "tools/trace", "text"], input=pathlib.Path(self.trace).read_bytes(), capture_output=True, check=True)
+        self.assertEqual(text.stdout.count(b"@"), 1)
+        self.assertIn(b"\n@100 i1 lun=0 read-capacity-16 length=32\n", text.stdout)
+
+    def test_exit_statuses(self):
+        self.bad(22, "out of range (05/21/00)", "read", self.trace, "--lba", "9999", "--count", "2")
+        self.bad(5, "not supported (05/25/00)", "read", self.trace, "--lun", "7", "--count", "1")
+        self.bad(10, "COPY ABORTED", "copy", self.trace, "--from", "0:9999", "--to", "1:0", "--count", "2", "--segments")
+        self.bad(15, "No such file", "readcap", self.trace + "x")
+        self.bad(15, "File exists", "new", self.trace, "--unit", "1")
+        self.bad(15, "no whole trace, at byte 0", "readcap", str(CMGR))
+        self.bad(15, "Connection refused", "readcap", "tcp:127.0.0.1:1")
+
+    def test_wrong_use(self):
+        for words in [
+            ["foo"],
+            ["read", self.trace],
+            ["read", self.trace, "--count", "x"],
+            ["copy", self.trace, "--from", "0", "--to", "1:0", "--count", "1"],
+            ["unmap", self.trace, "--ranges", "5"],
+            ["readcap", "tcp:nowhere"],
+            ["new", self.trace + "2", "--unit", "5/100"],
+        ]:
+            with self.subTest(words):
+                self.bad(2, "cmgr", *words)
+        before = pathlib.Path(self.trace).read_bytes()
+        self.bad(2, "no whole blocks", "write", self.trace, data=b"abc")
+        self.assertEqual(pathlib.Path(self.trace).read_bytes()[: len(before)], before)
+        self.assertFalse(os.path.exists(self.trace + "2"))
+
+    def test_progress_on_a_terminal(self):
+        outside, inside = pty.openpty()
+        words = [CMGR, "copy", self.trace, "--from", "0:0", "--to", "1:0", "--count", "2000", "--program", self.PROGRAM]
+        subprocess.run(words, stderr=inside, check=True)
+        os.close(inside)
+        said = os.read(outside, 1000).decode()
+        os.close(outside)
+        self.assertEqual(said.split("\r")[1:], ["0 of 2000 blocks", "1024 of 2000 blocks", "2000 of 2000 blocks", "\n"])
+
+    def test_help_has_an_example(self):
+        done = subprocess.run([CMGR, "--help"], capture_output=True, check=True)
+        self.assertIn(b"example:\n", done.stdout)
+
+
+@unittest.skipIf(NO_PROGRAM, NO_PROGRAM)
+class ProgramTraces(Traces):
+    PROGRAM = PROGRAM
+
+
+class Served(unittest.TestCase):
+    def test_blocks_of_a_server(self):
+        server = Server(SHAPES)
+        self.addCleanup(server.server_close)
+        self.addCleanup(server.shutdown)
+        device = f"tcp:127.0.0.1:{server.server_address[1]}"
+        subprocess.run([CMGR, "write", device, "--lba", "3"], input=b"s" * 512, check=True)
+        subprocess.run([CMGR, "copy", device, "--from", "0:3", "--to", "1:0", "--count", "1"], check=True)
+        words = [CMGR, "read", device, "--lun", "1", "--count", "1"]
+        self.assertEqual(subprocess.run(words, capture_output=True, check=True).stdout, b"s" * 512)

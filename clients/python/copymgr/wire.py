@@ -1,0 +1,13 @@
+"""The formats, which stand once in this repository: CDBs, parameter lists, frames and senses, as tools/replay has them."""
+
+import pathlib
+import sys
+
+TOP = pathlib.Path(__file__).resolve().parents[3]
+sys.path.insert(0, str(TOP / "tools"))
+
+# pylint: disable=wrong-import-position,unused-import
+from replay import cdbs, frames, lists, rod_token, senses
+
+PLAIN_REPLAY = TOP / "tools/plain-replay"
+PROGRAM = TOP / "crates/copymgr/out/copymgr"
