@@ -1,0 +1,66 @@
+"""What documents and helps say to type gives what they say."""
+
+import pathlib
+import re
+import subprocess
+import tempfile
+import unittest
+
+from . import support
+
+HELPS = ["tools/trace", "tools/plain-replay", "tools/row", "clients/python/cmgr"]
+
+
+def typed(lines):
+    """Each command behind $, with its lines up to END where it has such, and the lines that are said to come of it."""
+    commands = []
+    for line in lines:
+        if line.startswith("$ "):
+            commands.append(([line.removeprefix("$ ")], []))
+        elif commands:
+            command, output = commands[-1]
+            is_open = "<<'END'" in command[0] and command[-1] != "END"
+            (command if is_open else output).append(line)
+    return [("\n".join(command), output) for command, output in commands]
+
+
+def blocks(text, margin):
+    """The lines of the blocks with a margin, without it."""
+    return [line.removeprefix(margin) for line in text.splitlines() if line.startswith(margin)]
+
+
+class Typed(unittest.TestCase):
+    def setUp(self):
+        folder = tempfile.TemporaryDirectory()
+        self.addCleanup(folder.cleanup)
+        self.folder = pathlib.Path(folder.name)
+        for name in ("tools", "clients", "examples", "crates"):
+            (self.folder / name).symlink_to(support.TOP / name)
+
+    def said(self, command):
+        """What a command writes, and its exit status."""
+        done = subprocess.run(
+            ["bash", "-c", command + "\n"], cwd=self.folder, stdin=subprocess.DEVNULL, stdout=subprocess.PIPE,
+            stderr=subprocess.STDOUT, check=False,
+        )
+        return done.stdout.decode().splitlines(), done.returncode
+
+    def test_the_first_trace(self):
+        commands = typed(blocks((support.TOP / "docs/first-trace.md").read_text(encoding="utf-8"), "    "))
+        self.assertGreater(len(commands), 10)
+        for command, output in commands:
+            wanted = [line for line in output if not line.startswith("tools/trace play crates/")]
+            self.assertEqual(self.said(command)[0], wanted, command)
+
+    def test_the_examples_of_helps(self):
+        for tool in HELPS:
+            help_text = subprocess.run([support.TOP / tool, "--help"], capture_output=True, check=True).stdout.decode()
+            example = re.search(r"\nexample:\n(.*?)\n\n", help_text, re.S)[1]
+            commands = [command for command, _ in typed(blocks(example, "  "))]
+            self.assertTrue(commands, tool)
+            output, status = self.said("set -e\n" + "\n".join(commands))
+            self.assertEqual(status, 0, (tool, output))
+
+
+if __name__ == "__main__":
+    unittest.main()
