@@ -9,6 +9,9 @@ GOOD, CHECK, FULL = 0x00, 0x02, 0x28
 DONE, TORN, BAD_HEADER, BAD_RECORD = 0, 4, 5, 7
 BEGIN, RUN, PUMP = 1, 2, 3
 DATA_LIMIT = 8_388_608
+UNITS_LIMIT, BLOCKS_LIMIT, ENTRIES_LIMIT, PAYLOAD_LIMIT, GROUP_LIMIT = 16, 2**32, 1_048_576, 268_435_456, 15
+# the secret where nobody names one
+SECRET = bytes(range(32))
 
 Shape = collections.namedtuple("Shape", "blocks block_length entries quota payload group")
 Machine = collections.namedtuple("Machine", "secret shapes")
@@ -29,12 +32,12 @@ def header_bytes(machine):
 def bad_field(shape, spare):
     """The place in a unit's part of the first field that breaks its limit, if one does."""
     fields = [
-        (0, 1 <= shape.blocks <= 2**32),
+        (0, 1 <= shape.blocks <= BLOCKS_LIMIT),
         (8, shape.block_length in (512, 4096)),
-        (12, 1 <= shape.entries <= 1_048_576),
+        (12, 1 <= shape.entries <= ENTRIES_LIMIT),
         (16, shape.quota <= shape.blocks),
-        (24, 1 <= shape.payload <= 268_435_456),
-        (28, shape.group <= 15),
+        (24, 1 <= shape.payload <= PAYLOAD_LIMIT),
+        (28, shape.group <= GROUP_LIMIT),
         (29, spare == bytes(3)),
     ]
     return next((place for place, fine in fields if not fine), None)
@@ -47,7 +50,7 @@ def read_header(data):
     if data[:8] != b"CMTRACE1":
         raise BadInput(BAD_HEADER, 0)
     count = struct.unpack_from(">H", data, 40)[0]
-    if not 1 <= count <= 16:
+    if not 1 <= count <= UNITS_LIMIT:
         raise BadInput(BAD_HEADER, 40)
     end = 42 + 32 * count
     if len(data) < end:
@@ -107,6 +110,11 @@ def read_item(data, at):
 
 def sense_bytes(sense):
     return struct.pack(">BxB4xB4xBB4x", 0x70, sense[0], 10, sense[1], sense[2])
+
+
+def sense_of(data):
+    """The sense that 18 bytes spell."""
+    return data[2] & 0x0F, data[12], data[13]
 
 
 def good(data):

@@ -5,7 +5,7 @@ import struct
 
 from . import cdbs, frames
 from .acts import Redeem
-from .frames import Begin, Machine, Pump, Request, Run, Shape
+from .frames import ENTRIES_LIMIT, PAYLOAD_LIMIT, Begin, Machine, Pump, Request, Run, Shape
 from .player import Player
 from .requests import Requests
 from .senses import BadInput
@@ -14,7 +14,6 @@ from .told import BACKGROUND
 INITIATORS = [1, 2, 3, 0xFFFFFFFF]
 # of the commands before and after the random ones
 LOOKER = 4
-ENTRIES, PAYLOAD = 1_048_576, 268_435_456
 
 # weights: of the requests of requests.py; ids: list identifiers; long: how often a move has some pieces;
 # write: most blocks of a READ or WRITE; zero: how often the zero token; immed: how often a write in the background;
@@ -35,14 +34,14 @@ def small(rng):
     blocks = rng.randint(1, 40)
     block_length, group = rng.choice([512, 512, 512, 4096]), rng.choice([0, 0, 0, 7])
     quota = rng.choice([blocks, rng.randint(0, blocks), min(blocks, rng.randint(0, 4))])
-    return Shape(blocks, block_length, ENTRIES, quota, PAYLOAD, group)
+    return Shape(blocks, block_length, ENTRIES_LIMIT, quota, PAYLOAD_LIMIT, group)
 
 
 def wide(rng):
     """Some pieces, or as many blocks as a unit may have."""
     blocks = rng.choice([rng.randint(1500, 6000), 2**32])
     quota = min(blocks, rng.choice([rng.randint(0, 60), rng.randint(60, 600), rng.randint(100, 1500), blocks]))
-    return Shape(blocks, 512, ENTRIES, quota, PAYLOAD, rng.choice([0, 0, 0, 0, 7]))
+    return Shape(blocks, 512, ENTRIES_LIMIT, quota, PAYLOAD_LIMIT, rng.choice([0, 0, 0, 0, 7]))
 
 
 def roomy(rng):

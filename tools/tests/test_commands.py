@@ -79,7 +79,8 @@ class PlainReplay(unittest.TestCase):
         ]:
             with self.subTest(said):
                 output = STDOUT if len(data) > place else b""
-                self.assertEqual(support.run("plain-replay", "replay", data=data), (output, f"copymgr: {said}\n", status))
+                wanted = (output, f"copymgr: {said}\n", status)
+                self.assertEqual(support.run("plain-replay", "replay", data=data), wanted)
 
 
 class Words(unittest.TestCase):
@@ -100,7 +101,8 @@ class Words(unittest.TestCase):
 
 class Senses(unittest.TestCase):
     def test_the_document_has_every_sense_and_its_name(self):
-        table = (support.TOP / "docs/formats.md").read_text(encoding="utf-8").split("| Sense | Name")[1].split("\n\n")[0]
+        document = (support.TOP / "docs/formats.md").read_text(encoding="utf-8")
+        table = document.split("| Sense | Name")[1].split("\n\n")[0]
         told = dict(re.findall(r"^\| ([0-9A-F]{2}/[0-9A-F]{2}/[0-9A-F]{2}) \| ([^|]+) \|", table, re.M))
         known = {value for value in vars(senses).values() if isinstance(value, tuple) and len(value) == 3}
         # a copy has the key 0Ah also where a Put is refused

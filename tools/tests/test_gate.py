@@ -23,8 +23,8 @@ class Gate(unittest.TestCase):
                 (folder / path).chmod(0o755)
             (folder / ".ci").mkdir()
             shutil.copy(support.TOP / ".ci/run", folder / ".ci/run")
-            path = f"{folder / 'bin'}:{os.environ['PATH']}"
-            done = subprocess.run([folder / ".ci/run"], env=os.environ | {"PATH": path}, capture_output=True, check=False)
+            environment = os.environ | {"PATH": f"{folder / 'bin'}:{os.environ['PATH']}"}
+            done = subprocess.run([folder / ".ci/run"], env=environment, capture_output=True, check=False)
         return done.stdout.decode().splitlines()[-1], done.returncode
 
     def test_all_passed(self):

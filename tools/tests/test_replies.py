@@ -77,13 +77,17 @@ class Data(unittest.TestCase):
 
     def test_a_copy_by_segments(self):
         data = told.copy_status_1(Result(told.FAILED, 2, 512))
-        wanted = ["copy manager status: failed or terminated (02h)", "segments processed: 2", "transfer count: 512 bytes"]
-        self.assertEqual(replies.data_lines("receive copy status 1", data), wanted)
+        code, segments, size = replies.data_lines("receive copy status 1", data)
+        self.assertEqual(code, "copy manager status: failed or terminated (02h)")
+        self.assertEqual((segments, size), ("segments processed: 2", "transfer count: 512 bytes"))
 
     def test_each_field_of_short_data(self):
-        self.assertEqual(replies.data_lines("get lba status", told.lba_status([(0, 5, True), (5, 7, False)])), ["0+5 mapped", "5+7 deallocated"])
-        self.assertEqual(replies.data_lines("report luns", told.luns(3)), ["LUNs: 0, 1, 2"])
-        self.assertEqual(replies.data_lines("request sense", frames.sense_bytes(senses.NO_SENSE)), ["NO SENSE, no additional sense information (00/00/00)"])
+        for name, data, wanted in [
+            ("get lba status", told.lba_status([(0, 5, True), (5, 7, False)]), ["0+5 mapped", "5+7 deallocated"]),
+            ("report luns", told.luns(3), ["LUNs: 0, 1, 2"]),
+            ("request sense", frames.sense_bytes(senses.NO_SENSE), [senses.sense_text(senses.NO_SENSE)]),
+        ]:
+            self.assertEqual(replies.data_lines(name, data), wanted)
 
 
 class Sessions(unittest.TestCase):
@@ -114,19 +118,18 @@ class Acts(unittest.TestCase):
 @20 i1 lun=0 write-using-token id=2 ranges=0+2 token=u0/0/2 go
 pump lun=0
 i1 lun=0 read-16 lba=99 count=2 go"""
-        # the READ finds room for its act, since the write ended without its early end
-        self.assertEqual(
-            playing.act_lines(traces.read_text(text.splitlines())),
-            [
-                "@9 i1 lun=0 populate-token id=1 timeout=60 ranges=5+2 go",
-                "    unit 0 at 9: Populate id=1 timeout=60 ranges=5+2: done; room 4 entries, 268435456 bytes; tokens u0/0/2 up to 69",
-                "@20 i1 lun=0 write-using-token id=2 ranges=0+2 token=u0/0/2 go",
-                "    unit 0 at 20: Redeem serial=0 target=0: 2 blocks, 0 of them mapped; room 3 entries, 268435456 bytes; tokens u0/0/2 up to 80",
-                "    unit 0 at 20: Start id=2 background=0 ranges=0+2 rod=2: state 12h, 0 blocks; room 0 entries, 268435456 bytes; tokens u0/0/2 up to 80",
-                "    unit 0 at 20: Advance id=2: state 01h, 2 blocks; room 1 entries, 268435456 bytes; tokens u0/0/2 up to 80",
-                "pump lun=0",
-                "    unit 0 at 20: Pump: nothing to do; room 0 entries, 268435456 bytes; tokens u0/0/2 up to 80",
-                "i1 lun=0 read-16 lba=99 count=2 go",
-                "    unit 0 at 20: Read lba=99 count=2: the record is full; room 0 entries, 268435456 bytes; tokens u0/0/2 up to 80",
-            ],
-        )
+        acts = [
+            "@9 i1 lun=0 populate-token id=1 timeout=60 ranges=5+2 go",
+            "9: Populate id=1 timeout=60 ranges=5+2: done; room 4 entries, 268435456 bytes; tokens u0/0/2 up to 69",
+            "@20 i1 lun=0 write-using-token id=2 ranges=0+2 token=u0/0/2 go",
+            "20: Redeem serial=0 target=0: 2 blocks, 0 of them mapped; room 3 entries, 268435456 bytes",
+            "20: Start id=2 background=0 ranges=0+2 rod=2: state 12h, 0 blocks; room 0 entries, 268435456 bytes",
+            "20: Advance id=2: state 01h, 2 blocks; room 1 entries, 268435456 bytes",
+            "pump lun=0",
+            "20: Pump: nothing to do; room 0 entries, 268435456 bytes",
+            "i1 lun=0 read-16 lba=99 count=2 go",
+            "20: Read lba=99 count=2: the record is full; room 0 entries, 268435456 bytes",
+        ]
+        lines_of_acts = playing.act_lines(traces.read_text(text.splitlines()))
+        for line, wanted in zip(lines_of_acts, acts, strict=True):
+            self.assertEqual(line.removeprefix("    unit 0 at ").removesuffix("; tokens u0/0/2 up to 80"), wanted)

@@ -50,11 +50,12 @@ class Items(unittest.TestCase):
     def test_run_and_pump_with_moments_that_stay(self):
         self.assertEqual(
             items_of("@5 i1 run\ni2 run 2\n@3 pump lun=1\npump lun=0 2"),
-            [frames.Run(1, 5), frames.Run(2, 5), frames.Run(2, 5), frames.Pump(1, 3), frames.Pump(0, 3), frames.Pump(0, 3)],
+            [frames.Run(1, 5)] + [frames.Run(2, 5)] * 2 + [frames.Pump(1, 3)] + [frames.Pump(0, 3)] * 2,
         )
 
     def test_go_adds_the_runs_that_the_command_needs(self):
-        items = items_of("i1 lun=0 populate-token id=1 ranges=0+3 go\n@7 i2 lun=0 write-using-token id=1 ranges=5+3 token=u0/0/3 go")
+        populate = "i1 lun=0 populate-token id=1 ranges=0+3 go\n"
+        items = items_of(populate + "@7 i2 lun=0 write-using-token id=1 ranges=5+3 token=u0/0/3 go")
         self.assertEqual(items[1], frames.Run(1, 0))
         self.assertEqual(items[3:], [frames.Run(2, 7)] * 3)
 

@@ -1,4 +1,4 @@
-"""What the tools have in common: wrong use ends with one line and status 2, and nothing is written before all is known."""
+"""What the tools have in common: wrong use ends with one line and status 2, and nothing half written."""
 
 import argparse
 import sys

@@ -114,7 +114,8 @@ class Watched:
             raise
 
     def note(self, act, answer):
-        self.acts.append(f"unit {self.unit.number} at {self.unit.moment}: {act_text(act)}: {answer}; {room_text(self.unit)}")
+        front = f"unit {self.unit.number} at {self.unit.moment}: {act_text(act)}"
+        self.acts.append(f"{front}: {answer}; {room_text(self.unit)}")
 
 
 def act_text(act):

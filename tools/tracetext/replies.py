@@ -3,19 +3,21 @@
 import collections
 import struct
 
-from replay import frames, rod_token
+from replay import frames
+from replay.frames import sense_of
 from replay.senses import sense_text
 
+from .returned import State, capacity_of, copy_status_of, operation_of, runs_of
 from .values import token_text
 
 STATUSES = {0x00: "GOOD", 0x02: "CHECK CONDITION", 0x08: "BUSY", 0x28: "TASK SET FULL"}
 OPERATIONS = {0x10: "POPULATE TOKEN", 0x11: "WRITE USING TOKEN"}
-OPERATION_STATUSES = {
-    0x01: "completed without errors",
-    0x02: "completed with errors",
-    0x11: "in progress in foreground",
-    0x12: "in progress in background",
-    0x60: "terminated",
+STATES = {
+    State.DONE: "completed without errors",
+    State.FAILED: "completed with errors",
+    State.IN_FOREGROUND: "in progress in foreground",
+    State.IN_BACKGROUND: "in progress in background",
+    State.TERMINATED: "terminated",
 }
 COPY_STATUSES = {0x00: "in progress", 0x01: "done", 0x02: "failed or terminated"}
 TITLES = {
@@ -49,10 +51,6 @@ def records_of(data):
         records.append(Record(initiator, status, sense, data[middle:end]))
         at = end
     return records
-
-
-def sense_of(data):
-    return data[2] & 0x0F, data[12], data[13]
 
 
 def title(name):
@@ -96,50 +94,46 @@ def hex_lines(data):
 def operation_lines(data, machine):
     if len(data) < 32 or len(data) < 4 + int.from_bytes(data[:4], "big"):
         return None
-    action, status, delay, sensed, count = struct.unpack_from(">BB2xIxBxxQ", data, 4)
+    operation = operation_of(data)
     lines = [
-        f"response to service action: {OPERATIONS.get(action, 'another')} ({action:02X}h)",
-        f"copy operation status: {OPERATION_STATUSES.get(status, 'another')} ({status:02X}h)",
-        f"transfer count: {counted(count, 'block')}",
+        f"response to service action: {OPERATIONS.get(operation.action, 'another')} ({operation.action:02X}h)",
+        f"copy operation status: {STATES[operation.state]} ({operation.state:02X}h)",
+        f"transfer count: {counted(operation.count, 'block')}",
     ]
-    if delay:
-        lines.append(f"estimated status update delay: {delay} ms")
-    if sensed:
-        lines.append(f"sense: {sense_text(sense_of(data[32 : 32 + sensed]))}")
-    token = data[32 + sensed + 6 :]
-    if len(token) == rod_token.LENGTH:
-        lines.append(f"token: {token_text(token, machine)}" if machine else "token:")
-        lines += [INDENT + line for line in hex_lines(token)]
+    if operation.delay:
+        lines.append(f"estimated status update delay: {operation.delay} ms")
+    if operation.sense:
+        lines.append(f"sense: {sense_text(operation.sense)}")
+    if operation.token:
+        lines.append(f"token: {token_text(operation.token, machine)}" if machine else "token:")
+        lines += [INDENT + line for line in hex_lines(operation.token)]
     return lines
 
 
 def copy_lines(data, _):
     if len(data) < 12:
         return None
-    status, segments, size = struct.unpack_from(">BHxI", data, 4)
+    copy = copy_status_of(data)
     return [
-        f"copy manager status: {COPY_STATUSES.get(status, 'another')} ({status:02X}h)",
-        f"segments processed: {segments}",
-        f"transfer count: {counted(size, 'byte')}",
+        f"copy manager status: {COPY_STATUSES.get(copy.code, 'another')} ({copy.code:02X}h)",
+        f"segments processed: {copy.segments}",
+        f"transfer count: {counted(copy.bytes, 'byte')}",
     ]
 
 
-def runs_of(data):
-    """First block, blocks and kind of each run that GET LBA STATUS tells, of those that are there whole."""
-    return [struct.unpack_from(">QIB", data, at) for at in range(8, len(data) - 15, 16)]
+def run_text(run):
+    return f"{run.lba}+{run.count} {'mapped' if run.mapped else 'deallocated'}"
 
 
 def run_lines(data, _):
-    if len(data) < 8:
-        return None
-    return [f"{lba}+{count} {'deallocated' if kind else 'mapped'}" for lba, count, kind in runs_of(data)]
+    return [run_text(run) for run in runs_of(data)] if len(data) >= 8 else None
 
 
 def capacity_lines(data, _):
     if len(data) not in (8, 32):
         return None
-    last, length = struct.unpack_from(">QI" if len(data) == 32 else ">II", data)
-    return [f"last block {last}, {length} bytes in a block: {(last + 1) * length} bytes"]
+    blocks, length = capacity_of(data)
+    return [f"last block {blocks - 1}, {length} bytes in a block: {blocks * length} bytes"]
 
 
 def lun_lines(data, _):

@@ -3,7 +3,9 @@
 import collections
 
 from replay import frames
-from replay.frames import Begin, Pump, Run
+from replay.frames import (
+    BLOCKS_LIMIT, ENTRIES_LIMIT, GROUP_LIMIT, PAYLOAD_LIMIT, SECRET, UNITS_LIMIT, Begin, Pump, Run,
+)
 from replay.player import Player
 from replay.senses import BadInput
 
@@ -11,11 +13,22 @@ from . import values
 from .requests import COMMANDS, request_of, request_text
 from .words import Fault, Fields, number_of, words_of
 
-SECRET = bytes(range(32))
 # what a unit has where its line does not say it; the quota is then all blocks
-UNIT = {"blocks": None, "block_length": 512, "quota": None, "entries": 1_048_576, "payload": 268_435_456, "group": 0}
-LIMITS = {"blocks": (1, 2**32), "entries": (1, 1_048_576), "quota": (0, 2**32), "payload": (1, 268_435_456), "group": (0, 15)}
-UNITS_LIMIT = 16
+UNIT = {
+    "blocks": None,
+    "block_length": 512,
+    "quota": None,
+    "entries": ENTRIES_LIMIT,
+    "payload": PAYLOAD_LIMIT,
+    "group": 0,
+}
+LIMITS = {
+    "blocks": (1, BLOCKS_LIMIT),
+    "quota": (0, BLOCKS_LIMIT),
+    "entries": (1, ENTRIES_LIMIT),
+    "payload": (1, PAYLOAD_LIMIT),
+    "group": (0, GROUP_LIMIT),
+}
 COUNT_LIMIT = 1_048_576
 
 # a line of a text that says bytes of the items: where it stands, what it is, and those bytes
@@ -145,7 +158,7 @@ class Reader:
             return
         initiator = words[0].behind("i")
         if not initiator:
-            raise words[0].fault(f"{words[0].text} is no initiator as i1, no moment as @5, no unit, secret, pump or raw")
+            raise words[0].fault(f"{words[0].text} is no initiator as i1, no moment as @5, nor unit, secret, pump, raw")
         initiator = initiator.read(number_of, values.U32)
         if len(words) == 1:
             raise words[0].fault("what does it do? A command, or run")

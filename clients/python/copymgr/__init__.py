@@ -23,7 +23,8 @@ formats are those of tools/replay beside it. The files, from the bottom up:
 from .disk import Disk
 from .errors import Busy, CheckCondition, CommandError, Ended, OperationEnded, TaskSetFull
 from .hosts import Connection, Replay, Shape
-from .status import Capacity, CopyStatus, Inquiry, Operation, Run, State
+from .status import CopyStatus, Inquiry, Operation
+from .wire import Capacity, Run, State
 
 __all__ = [
     "Busy", "Capacity", "CheckCondition", "CommandError", "Connection", "CopyStatus", "Disk", "Ended", "Inquiry",

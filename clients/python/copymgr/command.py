@@ -25,18 +25,17 @@ import sys
 
 from .disk import Disk
 from .errors import Busy, CheckCondition, Ended, OperationEnded, TaskSetFull
-from .hosts import SECRET, Connection, Replay, Shape
+from .hosts import Connection, Replay, Shape
 from .wire import frames, senses
 
 # pylint: disable=wrong-import-order
 from tracetext.command_line import Parser, fail
-from tracetext.replies import counted, hex_lines
+from tracetext.replies import counted, hex_lines, run_text
 from tracetext.values import U16, U32, U64, ranges_of
 from tracetext.words import number_of
 
 PROGRAM = "cmgr"
 FILE_ERROR = 15
-UNITS_LIMIT = 16
 STATUS_OF_KEY = {0x00: 20, 0x05: 5, 0x07: 7, 0x0A: 10}
 STATUS_OF_SENSE = {senses.UNKNOWN_OPERATION: 9, senses.OUT_OF_RANGE: 22}
 
@@ -75,45 +74,71 @@ def unit(text):
     blocks, _, length = text.partition("/")
     if length not in ("", "512", "4096"):
         raise ValueError("a block has 512 or 4096 bytes")
-    return Shape(number_of(blocks, 2**32, 1), int(length or 512))
+    return Shape(number_of(blocks, frames.BLOCKS_LIMIT, 1), int(length or 512))
+
+
+LUN = ("--lun", {"type": number(U16), "default": 0, "help": "0 if left out"})
+LBA = ("--lba", {"type": number(U64), "default": 0, "help": "the first block; 0 if left out"})
+COUNT = ("--count", {"type": number(2**32), "required": True, "help": "how many blocks"})
+RANGES = ("--ranges", {"type": ranges, "required": True, "help": "as in 5+1,9+3"})
+PAGE = ("--page", {"type": number(255), "help": "a page of vital product data"})
+LIST_ID = ("--id", {"type": number(U32), "default": 1, "help": "the list identifier; 1 if left out"})
+REPLAY = [
+    ("--program", {"help": "what replays the trace; else copymgr where it was built, or the plain replay"}),
+    ("--moment", {"type": number(U64), "help": "of a trace: the moment in seconds; else that of its last item"}),
+]
+
+
+def place_option(name, dest, what):
+    return name, {"dest": dest, "type": place, "required": True, "metavar": "LUN:LBA", "help": what}
+
+
+def unit_option():
+    what = "a unit; a block has 512 bytes if left out"
+    return "--unit", {"type": unit, "action": "append", "required": True, "metavar": "BLOCKS[/BYTES]", "help": what}
+
+
+def kinds():
+    """Each word with what does it, what it is for, and its options."""
+    return {
+        "new": (new, "begins a trace of new units", [unit_option()]),
+        "read": (read, "reads blocks, to standard output", [
+            LUN, LBA, COUNT,
+            ("--out", {"help": "to a file, which is there only when all was read"}),
+            ("--hex", {"action": "store_true", "help": "as text, as on a terminal"}),
+        ]),
+        "write": (write, "writes blocks, from standard input", [
+            LUN, LBA,
+            ("--in", {"dest": "file", "help": "from a file"}),
+        ]),
+        "unmap": (unmap, "unmaps ranges", [LUN, RANGES]),
+        "map": (show_map, "tells which blocks are mapped", [LUN]),
+        "copy": (copy, "copies blocks by a token", [
+            COUNT, LIST_ID,
+            place_option("--from", "source", "the first block to copy"),
+            place_option("--to", "target", "where to"),
+            ("--immed", {"action": "store_true", "help": "ends when the copy is begun"}),
+            ("--segments", {"action": "store_true", "help": "by EXTENDED COPY, of at most 65535 blocks"}),
+        ]),
+        "inq": (inq, "tells what the unit is", [LUN, PAGE]),
+        "readcap": (readcap, "tells how large the unit is", [LUN]),
+        "status": (tell_status, "tells how an operation stands", [
+            LUN, LIST_ID,
+            ("--pump", {"type": number(U32), "default": 0, "help": "of a trace: so many Pumps of the unit before"}),
+        ]),
+        "abort": (abort, "ends an operation in the background", [LUN, LIST_ID]),
+    }
 
 
 def parser():
     top = Parser(prog=PROGRAM, description=__doc__)
-    kinds = top.add_subparsers(metavar="new|read|write|unmap|map|copy|inq|readcap|status|abort", required=True)
-
-    def kind(name, do, description, *options):
-        one = kinds.add_parser(name, help=description, description=description)
+    words = top.add_subparsers(metavar="|".join(kinds()), required=True)
+    for name, (do, description, options) in kinds().items():
+        one = words.add_parser(name, help=description, description=description)
         one.set_defaults(do=do)
         one.add_argument("device", metavar="DEVICE", help="a trace, or tcp:HOST:PORT")
-        for option, named in options:
+        for option, named in options + (REPLAY if do is not new else []):
             one.add_argument(option, **named)
-        if do is not new:
-            one.add_argument("--program", help="what replays the trace; else copymgr if it was built, or the plain replay")
-            one.add_argument("--moment", type=number(U64), help="in a trace the moment in seconds; else that of its last item")
-
-    lun = "--lun", {"type": number(U16), "default": 0, "help": "0 if left out"}
-    lba = "--lba", {"type": number(U64), "default": 0, "help": "the first block; 0 if left out"}
-    count = "--count", {"type": number(2**32), "required": True, "help": "how many blocks"}
-    list_id = "--id", {"type": number(U32), "default": 1, "help": "the list identifier; 1 if left out"}
-    kind("new", new, "begins a trace of new units", ("--unit", {
-        "type": unit, "action": "append", "required": True, "metavar": "BLOCKS[/BYTES]", "help": "a unit; a block has 512 bytes"}))
-    kind("read", read, "reads blocks, to standard output", lun, lba, count,
-         ("--out", {"help": "to a file, which is there only when all was read"}),
-         ("--hex", {"action": "store_true", "help": "as text, as on a terminal"}))
-    kind("write", write, "writes blocks, from standard input", lun, lba, ("--in", {"dest": "file", "help": "from a file"}))
-    kind("unmap", unmap, "unmaps ranges", lun, ("--ranges", {"type": ranges, "required": True, "help": "as in 5+1,9+3"}))
-    kind("map", show_map, "tells which blocks are mapped", lun)
-    kind("copy", copy, "copies blocks by a token", count, list_id,
-         ("--from", {"dest": "source", "type": place, "required": True, "metavar": "LUN:LBA"}),
-         ("--to", {"dest": "target", "type": place, "required": True, "metavar": "LUN:LBA"}),
-         ("--immed", {"action": "store_true", "help": "ends when the copy is begun"}),
-         ("--segments", {"action": "store_true", "help": "by EXTENDED COPY, of at most 65535 blocks"}))
-    kind("inq", inq, "tells what the unit is", lun, ("--page", {"type": number(255), "help": "a vital product data page"}))
-    kind("readcap", readcap, "tells how large the unit is", lun)
-    kind("status", tell_status, "tells how an operation stands", lun, list_id,
-         ("--pump", {"type": number(U32), "default": 0, "help": "in a trace so many Pumps of the unit before"}))
-    kind("abort", abort, "ends an operation in the background", lun, list_id)
     return top
 
 
@@ -171,10 +196,10 @@ def opened(words):
 
 
 def new(words):
-    if len(words.unit) > UNITS_LIMIT:
-        raise ValueError(f"a trace has at most {UNITS_LIMIT} units")
+    if len(words.unit) > frames.UNITS_LIMIT:
+        raise ValueError(f"a trace has at most {frames.UNITS_LIMIT} units")
     with open(words.device, "xb") as file:
-        file.write(frames.header_bytes(frames.Machine(SECRET, words.unit)))
+        file.write(frames.header_bytes(frames.Machine(frames.SECRET, words.unit)))
 
 
 def read(words, host):
@@ -200,7 +225,7 @@ def unmap(words, host):
 
 def show_map(words, host):
     for run in Disk(host, words.lun).map():
-        print(f"{run.lba}+{run.count} {'mapped' if run.mapped else 'deallocated'}")
+        print(run_text(run))
 
 
 def progress_to(count):
@@ -237,8 +262,8 @@ def tell_status(words, host):
     for _ in range(words.pump):
         host.let_work(words.lun)
     operation = Disk(host, words.lun).status(words.id)
-    said = operation.state.name.lower().replace("_", " ")
-    print(f"{said}, {counted(operation.count, 'block')}" + (f", {CheckCondition(operation.sense)}" if operation.sense else ""))
+    said = [operation.state.name.lower().replace("_", " "), counted(operation.count, "block")]
+    print(", ".join(said + ([senses.sense_text(operation.sense)] if operation.sense else [])))
 
 
 def abort(words, host):

@@ -1,7 +1,7 @@
 """A disk: a logical unit of a host."""
 
 from . import status
-from .wire import cdbs, lists, rod_token
+from .wire import cdbs, lists, returned, rod_token
 
 BLOCKS_OF_COMMAND = 2048
 BLOCKS_OF_TOKEN = 1_048_576
@@ -24,7 +24,7 @@ class Disk:
 
     def capacity(self):
         if self.known_capacity is None:
-            self.known_capacity = status.capacity_of(self.command(0x9E, 0x10, length=32))
+            self.known_capacity = returned.capacity_of(self.command(0x9E, 0x10, length=32))
         return self.known_capacity
 
     def inquiry(self, page=None):
@@ -58,7 +58,7 @@ class Disk:
 
     def lba_status(self, lba=0):
         """The runs of mapped and of unmapped blocks from a block on, at most 64."""
-        return status.runs_of(self.command(0x9E, 0x12, lba=lba, length=ALLOCATION))
+        return returned.runs_of(self.command(0x9E, 0x12, lba=lba, length=ALLOCATION))
 
     def map(self):
         """All runs of the disk."""

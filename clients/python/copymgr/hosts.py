@@ -11,16 +11,16 @@ import time
 from .errors import Busy, CheckCondition, Ended, TaskSetFull
 from .wire import PLAIN_REPLAY, PROGRAM, frames
 
-BUSY = 0x08
-SECRET = bytes(range(32))
+ENTRIES_LIMIT, PAYLOAD_LIMIT = frames.ENTRIES_LIMIT, frames.PAYLOAD_LIMIT
 
+BUSY = 0x08
 Reply = collections.namedtuple("Reply", "status sense data")
 
 
 class Shape(frames.Shape):
     """A unit: its blocks, the bytes of each, how many may be mapped, what its record has room for, and its group."""
 
-    def __new__(cls, blocks, block_length=512, quota=None, entries=1_048_576, payload=268_435_456, group=0):
+    def __new__(cls, blocks, block_length=512, quota=None, entries=ENTRIES_LIMIT, payload=PAYLOAD_LIMIT, group=0):
         return super().__new__(cls, blocks, block_length, entries, blocks if quota is None else quota, payload, group)
 
 
@@ -39,7 +39,7 @@ def reply_from(source):
 def data_of(reply):
     """The data of a reply that is GOOD; each other status is an error."""
     if reply.status == frames.CHECK:
-        raise CheckCondition((reply.sense[2] & 0x0F, reply.sense[12], reply.sense[13]))
+        raise CheckCondition(frames.sense_of(reply.sense))
     if reply.status in (BUSY, frames.FULL):
         raise Busy() if reply.status == BUSY else TaskSetFull()
     return reply.data
@@ -105,9 +105,9 @@ def default_program():
 class Replay(Host):
     """A program that replays what it is fed: `PROGRAM replay`.
 
-    It pushes each reply before it pulls more, but a command that waits for a Run says nothing. So behind each item goes a
-    TEST UNIT READY of a spare initiator, which is replied to at once: where its reply comes first, the command waits.
-    `moment` is that of the items to come, in seconds. `items` has what was played behind the trace that was begun with.
+    It pushes each reply before it pulls more, but a command that waits for a Run says nothing. So behind each item goes
+    a TEST UNIT READY of a spare initiator, which is replied to at once: where its reply comes first, the command waits.
+    `moment` is that of the items to come, in seconds. `items` has what was played behind the trace that it began with.
     """
 
     SPARE = 0xFFFFFFFF
@@ -115,13 +115,13 @@ class Replay(Host):
     def __init__(self, shapes=(), program=None, trace=None, initiator=1):
         """Begins with new units of these shapes, or as a trace leaves its units."""
         super().__init__()
-        self.header = frames.header_bytes(frames.Machine(SECRET, list(shapes))) if trace is None else trace
+        self.header = frames.header_bytes(frames.Machine(frames.SECRET, list(shapes))) if trace is None else trace
         self.initiator = initiator
         self.moment = 0
         self.items = []
-        self.program = subprocess.Popen(
-            [*(program or default_program()), "replay"], stdin=subprocess.PIPE, stdout=subprocess.PIPE, stderr=subprocess.PIPE
-        )
+        words = [*(program or default_program()), "replay"]
+        pipe = subprocess.PIPE
+        self.program = subprocess.Popen(words, stdin=pipe, stdout=pipe, stderr=pipe)
         self.begin_with(self.header)
 
     def begin_with(self, trace):

@@ -1,28 +1,11 @@
 """What is told of a disk and of an operation."""
 
 import collections
-import enum
-import struct
 
 from .errors import CheckCondition, OperationEnded
+from .wire import State, returned
 
-TOKEN_LENGTH = 512
-
-Capacity = collections.namedtuple("Capacity", "blocks block_length")
-Run = collections.namedtuple("Run", "lba count mapped")
 Inquiry = collections.namedtuple("Inquiry", "vendor product revision")
-# of EXTENDED COPY: the segments that were done whole, and the bytes that were moved
-CopyStatus = collections.namedtuple("CopyStatus", "state segments bytes")
-
-
-class State(enum.IntEnum):
-    """COPY OPERATION STATUS (SPC-4)."""
-
-    DONE = 0x01
-    FAILED = 0x02
-    IN_FOREGROUND = 0x11
-    IN_BACKGROUND = 0x12
-    TERMINATED = 0x60
 
 
 class Operation(collections.namedtuple("Operation", "state count sense token")):
@@ -40,9 +23,10 @@ class Operation(collections.namedtuple("Operation", "state count sense token")):
             raise OperationEnded(self)
 
 
-def capacity_of(data):
-    last, length = struct.unpack_from(">QI", data)
-    return Capacity(last + 1, length)
+class CopyStatus(collections.namedtuple("CopyStatus", "state segments bytes")):
+    """An EXTENDED COPY: its state, where one that was terminated is told as failed; whole segments; bytes moved."""
+
+    STATES = {0x00: State.IN_FOREGROUND, 0x01: State.DONE, 0x02: State.FAILED}
 
 
 def inquiry_of(data):
@@ -50,19 +34,11 @@ def inquiry_of(data):
     return Inquiry(*texts)
 
 
-def runs_of(data):
-    runs = [struct.unpack_from(">QIB", data, at) for at in range(8, len(data) - 15, 16)]
-    return [Run(lba, count, kind == 0) for lba, count, kind in runs]
-
-
 def operation_of(data):
-    """Of RECEIVE ROD TOKEN INFORMATION, or of RECEIVE COPY STATUS (LID4)."""
-    state, sensed, count = struct.unpack_from(">5xB7xB2xQ", data)
-    sense = (data[34] & 0x0F, data[44], data[45]) if sensed else None
-    token = data[32 + sensed + 6 :]
-    return Operation(State(state), count, sense, token if len(token) == TOKEN_LENGTH else None)
+    told = returned.operation_of(data)
+    return Operation(told.state, told.count, told.sense, told.token)
 
 
 def copy_status_of(data):
-    state, segments, size = struct.unpack_from(">4xBHxI", data)
-    return CopyStatus({0: State.IN_FOREGROUND, 1: State.DONE}.get(state, State.FAILED), segments, size)
+    told = returned.copy_status_of(data)
+    return CopyStatus(CopyStatus.STATES[told.code], told.segments, told.bytes)

@@ -1,4 +1,5 @@
-"""The formats, which stand once in this repository: CDBs, parameter lists, frames and senses, as tools/replay has them."""
+"""The formats, which stand once in this repository: tools/replay has CDBs, parameter lists, frames and senses, and
+tools/tracetext the data that commands return."""
 
 import pathlib
 import sys
@@ -8,6 +9,8 @@ sys.path.insert(0, str(TOP / "tools"))
 
 # pylint: disable=wrong-import-position,unused-import
 from replay import cdbs, frames, lists, rod_token, senses
+from tracetext import returned
+from tracetext.returned import Capacity, Run, State
 
 PLAIN_REPLAY = TOP / "tools/plain-replay"
 PROGRAM = TOP / "crates/copymgr/out/copymgr"

@@ -69,14 +69,17 @@ class Traces(unittest.TestCase):
     def test_moments(self):
         self.good("readcap", self.trace, "--moment", "100")
         self.good("copy", self.trace, "--from", "0:0", "--to", "1:0", "--count", "1")
-        text = subprocess.run([TOP / "tools/trace", "text"], input=pathlib.Path(self.trace).read_bytes(), capture_output=True, check=True)
+        trace = pathlib.Path(self.trace).read_bytes()
+        text = subprocess.run([TOP / "tools/trace", "text"], input=trace, capture_output=True, check=True)
         self.assertEqual(text.stdout.count(b"@"), 1)
         self.assertIn(b"\n@100 i1 lun=0 read-capacity-16 length=32\n", text.stdout)
 
     def test_exit_statuses(self):
         self.bad(22, "out of range (05/21/00)", "read", self.trace, "--lba", "9999", "--count", "2")
         self.bad(5, "not supported (05/25/00)", "read", self.trace, "--lun", "7", "--count", "1")
-        self.bad(10, "COPY ABORTED", "copy", self.trace, "--from", "0:9999", "--to", "1:0", "--count", "2", "--segments")
+        past = ["--from", "0:9999", "--to", "1:0", "--count", "2"]
+        self.bad(22, "out of range (05/21/00)", "copy", self.trace, *past)
+        self.bad(10, "COPY ABORTED", "copy", self.trace, *past, "--segments")
         self.bad(15, "No such file", "readcap", self.trace + "x")
         self.bad(15, "File exists", "new", self.trace, "--unit", "1")
         self.bad(15, "no whole trace, at byte 0", "readcap", str(CMGR))
