@@ -7,7 +7,7 @@ example:
   $ cmgr copy disk.trace --from 0:5 --to 1:9 --count 1
   $ cmgr read disk.trace --lun 1 --lba 9 --count 1 --hex
   $ cmgr map disk.trace --lun 1
-  $ cmgr status disk.trace --lun 1 --id 2
+  $ cmgr status disk.trace --lun 1
 
 DEVICE is a trace, which is replayed and to which the new commands are added (tools/trace text < disk.trace shows it);
 or tcp:HOST:PORT, a program that serves. Numbers are decimal, or hexadecimal as in 0x1f or 1fh.
@@ -238,14 +238,13 @@ def progress_to(count):
 def copy(words, host):
     (lun, lba), (to_lun, to_lba) = words.source, words.target
     source, target = Disk(host, lun), Disk(host, to_lun)
-    host.last_id = words.id - 1
     if words.segments:
         source.extended_copy(target, [(lba, to_lba, words.count)], words.id)
     elif words.immed:
         token = source.populate([(lba, words.count)], list_id=words.id)
         target.write_using_token(token, [(to_lba, words.count)], background=True, delete=True, list_id=words.id)
     else:
-        source.copy_to(target, lba, to_lba, words.count, progress_to(words.count))
+        source.copy_to(target, lba, to_lba, words.count, progress_to(words.count), words.id)
 
 
 def inq(words, host):

@@ -112,14 +112,15 @@ class Disk:
 
     # ---- copies
 
-    def copy_to(self, other, lba, to_lba, count, progress=None):
+    def copy_to(self, other, lba, to_lba, count, progress=None, list_id=None):
         """Copies blocks to a disk of the same host by tokens, in the background, and waits. `progress` is called with
-        the blocks so far."""
+        the blocks so far; the list identifier is that of the tokens and of the writes."""
         self.judge_host(other)
+        list_id = self.host.new_id() if list_id is None else list_id
         for done in range(0, count, BLOCKS_OF_TOKEN):
             part = min(BLOCKS_OF_TOKEN, count - done)
-            token = self.populate([(lba + done, part)])
-            list_id = other.write_using_token(token, [(to_lba + done, part)], background=True, delete=True)
+            token = self.populate([(lba + done, part)], list_id=list_id)
+            other.write_using_token(token, [(to_lba + done, part)], background=True, delete=True, list_id=list_id)
             other.wait(list_id, progress and (lambda blocks, before=done: progress(before + blocks)))
 
     def extended_copy(self, other, moves, list_id=None):
@@ -127,8 +128,8 @@ class Disk:
         self.judge_host(other)
         list_id = self.host.new_id() % 256 if list_id is None else list_id
         cscds = [lists.cscd_bytes(rod_token.unit_name(d.lun), d.capacity().block_length) for d in (self, other)]
-        if any(count > 0xFFFF for _, _, count in moves):
-            raise ValueError("a segment has at most 65535 blocks")
+        if list_id > 0xFF or any(count > 0xFFFF for _, _, count in moves):
+            raise ValueError("the list identifier is at most 255, and a segment has at most 65535 blocks")
         out = lists.copy_bytes(list_id, cscds, [lists.segment_bytes(0, 1, n, a, b) for a, b, n in moves])
         self.command(0x83, 0x00, out, length=len(out))
         return list_id

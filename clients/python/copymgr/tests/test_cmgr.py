@@ -53,6 +53,7 @@ class Traces(unittest.TestCase):
         self.good("write", self.trace, data=b"c" * 512 * 2000)
         self.good("copy", self.trace, "--from", "0:0", "--to", "1:100", "--count", "2000")
         self.assertEqual(self.good("map", self.trace, "--lun", "1").splitlines()[1], b"100+2000 mapped")
+        self.assertEqual(self.good("status", self.trace, "--lun", "1"), b"done, 2000 blocks\n")
         self.good("copy", self.trace, "--from", "0:0", "--to", "1:0", "--count", "2", "--segments")
         self.good("copy", self.trace, "--from", "0:0", "--to", "1:5000", "--count", "2000", "--immed", "--id", "9")
         status = ["status", self.trace, "--lun", "1", "--id", "9"]
@@ -91,6 +92,7 @@ class Traces(unittest.TestCase):
             ["read", self.trace],
             ["read", self.trace, "--count", "x"],
             ["copy", self.trace, "--from", "0", "--to", "1:0", "--count", "1"],
+            ["copy", self.trace, "--from", "0:0", "--to", "1:0", "--count", "1", "--segments", "--id", "256"],
             ["unmap", self.trace, "--ranges", "5"],
             ["readcap", "tcp:nowhere"],
             ["new", self.trace + "2", "--unit", "5/100"],
