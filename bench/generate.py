@@ -10,6 +10,9 @@
     generate.py segments COUNT  copies of 512 MiB by EXTENDED COPY (LID1), in 64 segments
     generate.py unmap COUNT     UNMAPs of 2 MiB, in 64 ranges
 
+example:
+  $ bench/generate.py small 1000 | tools/plain-replay replay | wc -c
+
 The last four are made by copy_traces.py: a fill, and then COUNT copies or UNMAPs.
 
 Of the others every second command reads what the command before it wrote. A command is two items: a
@@ -81,8 +84,12 @@ def commands(kind, count):
 
 
 def main():
+    if sys.argv[1:] == ["--help"]:
+        print(__doc__)
+        return
     if len(sys.argv) != 3 or sys.argv[1] not in [*KINDS, *copy_traces.KINDS] or not sys.argv[2].isdigit():
-        sys.exit(__doc__)
+        print("bench/generate.py: the words are KIND COUNT (see bench/generate.py --help)", file=sys.stderr)
+        sys.exit(2)
     kind, count = sys.argv[1], int(sys.argv[2])
     if kind in copy_traces.KINDS:
         sys.stdout.buffer.writelines(copy_traces.trace(kind, count)[0])

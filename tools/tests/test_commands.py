@@ -11,7 +11,10 @@ from replay import senses
 STDIN = (support.TOP / "crates/copymgr/stdin").read_bytes()
 STDOUT = (support.TOP / "crates/copymgr/stdout").read_bytes()
 TEXT = b"unit 0 blocks=100\ni1 lun=0 write-16 lba=0 data=11*512,22*512 go\ni1 lun=0 read-16 lba=0 count=3 go\n"
-TOOLS = ["trace", "plain-replay", "row", "random-traces", "run-tests", "fail-allocations", "check-repository"]
+TOOLS = [
+    "tools/trace", "tools/plain-replay", "tools/row", "tools/random-traces", "tools/run-tests", "tools/fail-allocations",
+    "tools/check-repository", "bench/run", "bench/generate.py",
+]
 
 
 class Trace(unittest.TestCase):
@@ -87,13 +90,14 @@ class Words(unittest.TestCase):
     def test_help_has_an_example(self):
         for tool in TOOLS:
             with self.subTest(tool):
-                output, said, status = support.run(tool, "--help")
+                output, said, status = support.run(support.TOP / tool, "--help")
                 self.assertEqual((said, status), ("", 0))
                 self.assertIn("example:\n", output.decode())
-                self.assertIn(f"tools/{tool}", output.decode())
+                self.assertIn(f"  $ {tool}", output.decode())
 
     def test_wrong_use_is_one_line_and_status_2(self):
-        for words in [[tool, "--nonesuch"] for tool in TOOLS] + [["trace"], ["trace", "foo"], ["row", "trace", "none"]]:
+        nonesuch = [[support.TOP / tool, "--nonesuch"] for tool in TOOLS]
+        for words in nonesuch + [["trace"], ["trace", "foo"], ["row", "trace", "none"]]:
             with self.subTest(words=words):
                 output, said, status = support.run(*words)
                 self.assertEqual((output, status, said.count("\n")), (b"", 2, 1), said)
