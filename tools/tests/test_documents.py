@@ -1,13 +1,16 @@
 """What documents and helps say to type gives what they say."""
 
+import os
 import pathlib
 import re
+import shutil
 import subprocess
 import tempfile
 import unittest
 
 from . import support
 
+DOCUMENTS = ["docs/first-trace.md", "clients/python/README.md"]
 HELPS = ["tools/trace", "tools/plain-replay", "tools/row", "clients/python/cmgr"]
 
 
@@ -39,18 +42,21 @@ class Typed(unittest.TestCase):
 
     def said(self, command):
         """What a command writes, and its exit status."""
+        environment = os.environ | {"PATH": f"{os.environ['PATH']}:{self.folder / 'clients/python'}"}
         done = subprocess.run(
             ["bash", "-c", command + "\n"], cwd=self.folder, stdin=subprocess.DEVNULL, stdout=subprocess.PIPE,
-            stderr=subprocess.STDOUT, check=False,
+            stderr=subprocess.STDOUT, check=False, env=environment,
         )
         return done.stdout.decode().splitlines(), done.returncode
 
-    def test_the_first_trace(self):
-        commands = typed(blocks((support.TOP / "docs/first-trace.md").read_text(encoding="utf-8"), "    "))
-        self.assertGreater(len(commands), 10)
-        for command, output in commands:
-            wanted = [line for line in output if not line.startswith("tools/trace play crates/")]
-            self.assertEqual(self.said(command)[0], wanted, command)
+    @unittest.skipUnless(shutil.which("xxd"), "there is no xxd")
+    def test_documents(self):
+        for document in DOCUMENTS:
+            commands = typed(blocks((support.TOP / document).read_text(encoding="utf-8"), "    "))
+            self.assertGreater(len(commands), 7)
+            for command, output in commands:
+                wanted = [line for line in output if not line.startswith("tools/trace play crates/")]
+                self.assertEqual(self.said(command)[0], wanted, command)
 
     def test_the_examples_of_helps(self):
         for tool in HELPS:
