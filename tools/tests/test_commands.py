@@ -2,6 +2,7 @@
 
 import pathlib
 import re
+import subprocess
 import tempfile
 import unittest
 
@@ -40,6 +41,11 @@ class Trace(unittest.TestCase):
         output, _, status = support.run("trace", "play", "true", data=TEXT)
         self.assertEqual(output.decode().splitlines()[-1], "these are not the replies of the plain replay")
         self.assertEqual(status, 1)
+
+    def test_output_that_nobody_reads(self):
+        words = "set -o pipefail; tools/trace play < examples/token.txt | true"
+        done = subprocess.run(["bash", "-c", words], cwd=support.TOP, capture_output=True, check=False)
+        self.assertEqual((done.returncode, done.stderr), (1, b""))
 
     def test_play_of_an_early_end(self):
         output, _, status = support.run("trace", "play", data=b"raw 00")

@@ -9,17 +9,16 @@ EXAMPLES = sorted((support.TOP / "examples").glob("*.txt"))
 
 
 class Examples(unittest.TestCase):
-    def each(self, program=None):
+    def play(self, program=None):
         self.assertGreaterEqual(len(EXAMPLES), 6)
         for path in EXAMPLES:
             with self.subTest(path.name), path.open(encoding="utf-8") as file:
-                text = traces.read_text(file)
                 wanted = path.with_suffix(".out").read_text(encoding="utf-8")
-                self.assertEqual(playing.session(text, program), (wanted.splitlines(), True))
+                self.assertEqual(playing.session(traces.read_text(file), program), (wanted.splitlines(), True))
 
     def test_the_plain_replay_replies_so(self):
-        self.each()
+        self.play()
 
     @unittest.skipIf(support.NO_PROGRAM, support.NO_PROGRAM)
     def test_the_program_replies_so(self):
-        self.each([support.PROGRAM])
+        self.play([support.PROGRAM])

@@ -24,21 +24,22 @@ def tables():
     }
 
 
+def outs_of(path):
+    """The replies that stand beside a text."""
+    return path.with_suffix(".out").read_text(encoding="utf-8").splitlines()
+
+
 class Rows(unittest.TestCase):
-    def each(self):
+    def test_the_text_is_the_row_of_the_programs_tests(self):
         self.assertGreaterEqual(len(ROWS), 30)
+        rows = tables()
         for path in ROWS:
             with self.subTest(path.name):
-                yield path, text_of(path)
-
-    def test_the_text_is_the_row_of_the_programs_tests(self):
-        rows = tables()
-        for path, text in self.each():
-            name = path.read_text(encoding="utf-8").splitlines()[0].removeprefix("# ")
-            trace, replies = rows[name]
-            data = traces.bytes_of(text)
-            self.assertEqual(data, trace)
-            self.assertEqual(b"".join(reply.bytes for reply in player.play(data)[0]), replies)
+                name = path.read_text(encoding="utf-8").splitlines()[0].removeprefix("# ")
+                trace, replies = rows[name]
+                data = traces.bytes_of(text_of(path))
+                self.assertEqual(data, trace)
+                self.assertEqual(b"".join(reply.bytes for reply in player.play(data)[0]), replies)
 
     def test_every_row_of_the_tables_comes_back_from_text(self):
         for name, (trace, _) in tables().items():
@@ -46,12 +47,12 @@ class Rows(unittest.TestCase):
                 self.assertEqual(traces.bytes_of(traces.read_text(traces.text_of(trace))), trace)
 
     def test_the_replies_as_text(self):
-        for path, text in self.each():
-            wanted = path.with_suffix(".out").read_text(encoding="utf-8")
-            self.assertEqual("\n".join(playing.session(text)[0]) + "\n", wanted)
+        for path in ROWS:
+            with self.subTest(path.name):
+                self.assertEqual(playing.session(text_of(path))[0], outs_of(path))
 
     @unittest.skipIf(support.NO_PROGRAM, support.NO_PROGRAM)
     def test_the_program_replies_so(self):
-        for path, text in self.each():
-            wanted = path.with_suffix(".out").read_text(encoding="utf-8")
-            self.assertEqual("\n".join(playing.session(text, [support.PROGRAM])[0]) + "\n", wanted)
+        for path in ROWS:
+            with self.subTest(path.name):
+                self.assertEqual(playing.session(text_of(path), [support.PROGRAM])[0], outs_of(path))

@@ -1,6 +1,7 @@
 """What the tools have in common: wrong use ends with one line and status 2, and nothing half written."""
 
 import argparse
+import os
 import sys
 
 WRONG_USE = 2
@@ -20,6 +21,12 @@ def fail(program, why, status=WRONG_USE):
     """Ends the program with one line on standard error."""
     print(f"{program}: {why}".replace("\n", " "), file=sys.stderr)
     sys.exit(status)
+
+
+def end_quietly():
+    """Ends the program where what reads its output has ended: nothing is written behind that, also not at the exit."""
+    os.dup2(os.open(os.devnull, os.O_WRONLY), sys.stdout.fileno())
+    sys.exit(1)
 
 
 def write_lines(lines):

@@ -29,7 +29,7 @@ from .hosts import Connection, Replay, Shape
 from .wire import frames, senses
 
 # pylint: disable=wrong-import-order
-from tracetext.command_line import Parser, fail
+from tracetext.command_line import Parser, end_quietly, fail
 from tracetext.replies import counted, hex_lines, run_text
 from tracetext.values import U16, U32, U64, ranges_of
 from tracetext.words import number_of
@@ -280,8 +280,11 @@ def main(arguments=None):
             words.do(words, device.host)
         finally:
             device.close()
+        sys.stdout.flush()
     except (Busy, CheckCondition, Ended, OperationEnded, TaskSetFull) as error:
         fail(PROGRAM, error, exit_status(error))
+    except BrokenPipeError:
+        end_quietly()
     except senses.BadInput as bad:
         fail(PROGRAM, f"{words.device}: no whole trace, at byte {bad.place}", FILE_ERROR)
     except OSError as error:

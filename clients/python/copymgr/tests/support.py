@@ -52,6 +52,17 @@ class Session(socketserver.StreamRequestHandler):
             self.wfile.write(self.server.reply(initiator, frames.Request(unit, cdb, self.rfile.read(length))))
 
 
+def server_for(test):
+    """A server that ends with the test, which is skipped where there are no sockets."""
+    try:
+        server = Server(SHAPES)
+    except OSError as error:
+        test.skipTest(f"no sockets here: {error}")
+    test.addCleanup(server.server_close)
+    test.addCleanup(server.shutdown)
+    return server
+
+
 class PlainHost:
     """A host of the plain replay."""
 
@@ -76,10 +87,7 @@ class ServedHost:
     """A connection to the small server."""
 
     def host(self):
-        server = Server(SHAPES)
-        host = Connection(server.server_address, timeout=60)
-        Connection.PAUSE = 0.001
-        self.addCleanup(server.server_close)
-        self.addCleanup(server.shutdown)
+        host = Connection(server_for(self).server_address, timeout=60)
+        host.PAUSE = 0.001
         self.addCleanup(host.close)
         return host

@@ -9,7 +9,7 @@ import unittest
 
 from copymgr.wire import PLAIN_REPLAY, TOP
 
-from .support import NO_PROGRAM, PROGRAM, SHAPES, Server
+from .support import NO_PROGRAM, PROGRAM, server_for
 
 CMGR = TOP / "clients/python/cmgr"
 
@@ -84,7 +84,7 @@ class Traces(unittest.TestCase):
         self.bad(15, "No such file", "readcap", self.trace + "x")
         self.bad(15, "File exists", "new", self.trace, "--unit", "1")
         self.bad(15, "no whole trace, at byte 0", "readcap", str(CMGR))
-        self.bad(15, "Connection refused", "readcap", "tcp:127.0.0.1:1")
+        self.bad(15, "tcp:127.0.0.1:1: ", "readcap", "tcp:127.0.0.1:1")
 
     def test_wrong_use(self):
         for words in [
@@ -125,10 +125,7 @@ class ProgramTraces(Traces):
 
 class Served(unittest.TestCase):
     def test_blocks_of_a_server(self):
-        server = Server(SHAPES)
-        self.addCleanup(server.server_close)
-        self.addCleanup(server.shutdown)
-        device = f"tcp:127.0.0.1:{server.server_address[1]}"
+        device = f"tcp:127.0.0.1:{server_for(self).server_address[1]}"
         subprocess.run([CMGR, "write", device, "--lba", "3"], input=b"s" * 512, check=True)
         subprocess.run([CMGR, "copy", device, "--from", "0:3", "--to", "1:0", "--count", "1"], check=True)
         words = [CMGR, "read", device, "--lun", "1", "--count", "1"]
