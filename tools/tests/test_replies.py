@@ -3,7 +3,7 @@
 import struct
 import unittest
 
-from . import support
+from . import support  # has the path of the tools
 from replay import frames, senses, told
 from replay.acts import Result, Told
 from tracetext import playing, replies, traces

@@ -2,7 +2,7 @@
 
 import unittest
 
-from . import support
+from . import support  # has the path of the tools
 from replay import frames
 from tracetext import traces
 

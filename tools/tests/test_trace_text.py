@@ -3,7 +3,7 @@
 import random
 import unittest
 
-from . import support
+from . import support  # has the path of the tools
 from replay import cdbs, frames, rod_token
 from replay.traces import Trace
 from tracetext import traces

@@ -88,15 +88,13 @@ class Reader:
             (self.read_secret if kind == "secret" else self.read_unit)(words)
             return
         if kind == "raw":
-            self.read_raw(words, text)
+            data = self.raw_bytes(words)
         else:
             self.begin_items(words[0])
             self.items = []
             self.read_items(words)
-            self.keep(number, text, b"".join(map(frames.item_bytes, self.items)))
-
-    def keep(self, number, text, data):
-        self.lines.append(Line(number, text.split("#")[0].strip(), data))
+            data = b"".join(map(frames.item_bytes, self.items))
+        self.lines.append(Line(number, " ".join(word.text for word in words), data))
 
     # ---- the header
 
@@ -133,15 +131,14 @@ class Reader:
 
     # ---- items
 
-    def read_raw(self, words, text):
+    def raw_bytes(self, words):
         """Bytes as they are: behind them the plain replay is lost."""
         if len(words) != 2:
             raise words[0].fault("raw wants bytes behind it")
         if self.shapes:
             self.begin_items(words[0])
-        self.keep(words[0].line, text, words[1].read(values.data_of))
-        if self.walk:
             self.to_walk.append(None)
+        return words[1].read(values.data_of)
 
     def add(self, items):
         self.items += items
