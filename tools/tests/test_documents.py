@@ -9,6 +9,8 @@ import tempfile
 import unittest
 
 from . import support
+from replay import cdbs
+from tracetext import requests, traces
 
 DOCUMENTS = ["docs/first-trace.md", "clients/python/README.md"]
 HELPS = ["tools/trace", "tools/plain-replay", "tools/row", "clients/python/cmgr"]
@@ -57,6 +59,21 @@ class Typed(unittest.TestCase):
             for command, output in commands:
                 wanted = [line for line in output if not line.startswith("tools/trace play crates/")]
                 self.assertEqual(self.said(command)[0], wanted, command)
+
+    def test_the_table_of_commands(self):
+        document = (support.TOP / "docs/trace-text.md").read_text(encoding="utf-8")
+        table = document.split("| Command | Fields |")[1].split("\n\n")[0]
+        told = {}
+        for row in table.splitlines()[2:]:
+            commands, fields = (re.findall(r"`([^`=]+)`", column) for column in row.split("|")[1:3])
+            told |= {command: fields for command in commands}
+        self.assertEqual(set(told), set(requests.COMMANDS))
+        for command, key in requests.COMMANDS.items():
+            self.assertLessEqual(set(cdbs.FORMS[key].fields), set(told[command]), command)
+            values = {"ranges": "1+1", "token": "zero", "cscds": "none", "segments": "none", "data": "00"}
+            words = " ".join(f"{name}={values.get(name, 1)}" for name in told[command])
+            text = traces.read_text(["unit 0 blocks=9", f"i1 {command} {words}"])
+            self.assertTrue(text.lines[0].bytes, command)
 
     def test_the_examples_of_helps(self):
         for tool in HELPS:

@@ -3,7 +3,7 @@
 import struct
 
 from replay import cdbs, lists
-from replay.frames import Request
+from replay.frames import DATA_LIMIT, Request
 from replay.senses import Refused
 
 from . import values
@@ -136,11 +136,11 @@ def request_of(command, fields, machine):
     """The request that a command's word and its fields say; without a word the CDB is a field."""
     unit = fields.number("lun", 0, values.U16)
     if command is None:
-        return Request(unit, fields.take("cdb", cdb_of, bytes(16)), fields.take("data", values.data_of, b""))
+        return Request(unit, fields.take("cdb", cdb_of, bytes(16)), fields.take("data", values.data_of, b"", DATA_LIMIT))
     if command in LISTS and "data" not in fields and any(name in fields for name in ("ranges", "token", "segments")):
         out = LISTS[command][0](fields, machine)
     else:
-        out = fields.take("data", values.data_of, b"")
+        out = fields.take("data", values.data_of, b"", DATA_LIMIT)
     known = defaults(command, out, unit, machine)
     numbers = {
         name: fields.number(name, known.get(name, 0), 256**size - 1)

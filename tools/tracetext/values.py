@@ -8,7 +8,7 @@ from replay import lists, rod_token
 from .words import number_of
 
 U16, U24, U32, U48, U64 = (2**bits - 1 for bits in (16, 24, 32, 48, 64))
-# the most bytes that a text may stand for: a trace of 4 GiB is none to write by hand
+# the most bytes that a piece of text may stand for
 SIZE_LIMIT = 2**32
 
 
@@ -28,14 +28,14 @@ def data_text(data):
     return ",".join(pieces)
 
 
-def piece_of(text):
+def piece_of(text, most):
     if text.startswith("file:"):
         return file_bytes(text.removeprefix("file:"))
     digits, star, count = text.partition("*")
     if not re.fullmatch(r"([0-9a-fA-F]{2})+", digits):
         raise ValueError(f"{text[:20] or 'nothing'} is no hex of whole bytes, no fill as 11*512 and no file:PATH")
     unit = bytes.fromhex(digits)
-    return unit * number_of(count, SIZE_LIMIT // len(unit)) if star else unit
+    return unit * number_of(count, most // len(unit)) if star else unit
 
 
 def file_bytes(path):
@@ -46,8 +46,8 @@ def file_bytes(path):
         raise ValueError(f"{path}: {error.strerror}") from None
 
 
-def data_of(text):
-    return b"".join(piece_of(piece) for piece in text.split(",")) if text else b""
+def data_of(text, most=SIZE_LIMIT):
+    return b"".join(piece_of(piece, most) for piece in text.split(",")) if text else b""
 
 
 # ---- ranges

@@ -125,6 +125,7 @@ def kinds():
         "status": (tell_status, "tells how an operation stands", [
             LUN, LIST_ID,
             ("--pump", {"type": number(U32), "default": 0, "help": "of a trace: so many Pumps of the unit before"}),
+            ("--segments", {"action": "store_true", "help": "of an EXTENDED COPY"}),
         ]),
         "abort": (abort, "ends an operation in the background", [LUN, LIST_ID]),
     }
@@ -260,7 +261,12 @@ def readcap(words, host):
 def tell_status(words, host):
     for _ in range(words.pump):
         host.let_work(words.lun)
-    operation = Disk(host, words.lun).status(words.id)
+    disk = Disk(host, words.lun)
+    if words.segments:
+        copied = disk.copy_status(words.id)
+        print(f"{copied.state.name.lower()}, {counted(copied.segments, 'segment')}, {counted(copied.bytes, 'byte')}")
+        return
+    operation = disk.status(words.id)
     said = [operation.state.name.lower().replace("_", " "), counted(operation.count, "block")]
     print(", ".join(said + ([senses.sense_text(operation.sense)] if operation.sense else [])))
 

@@ -55,6 +55,7 @@ class Traces(unittest.TestCase):
         self.assertEqual(self.good("map", self.trace, "--lun", "1").splitlines()[1], b"100+2000 mapped")
         self.assertEqual(self.good("status", self.trace, "--lun", "1"), b"done, 2000 blocks\n")
         self.good("copy", self.trace, "--from", "0:0", "--to", "1:0", "--count", "2", "--segments")
+        self.assertEqual(self.good("status", self.trace, "--segments"), b"done, 1 segment, 1024 bytes\n")
         self.good("copy", self.trace, "--from", "0:0", "--to", "1:5000", "--count", "2000", "--immed", "--id", "9")
         status = ["status", self.trace, "--lun", "1", "--id", "9"]
         self.assertEqual(self.good(*status), b"in background, 0 blocks\n")
