@@ -146,7 +146,7 @@ class Faults(unittest.TestCase):
         self.fault(HEADER + "i1 lun=0 read-16 ranges=1+1", 3, 18, "no field ranges")
         self.fault(HEADER + "i1 lun=0 write-16 data=1", 3, 24, "no hex")
         self.fault(HEADER + "i1 lun=0 write-16 data=00*8388609", 3, 24, "does not lie in 0 to 8388608")
-        self.fault(HEADER + "i1 lun=0 write-16 data=00*8388608,00", 3, 10, "at most 8388608 bytes")
+        self.fault(HEADER + "i1 lun=0 write-16 data=00*8388608,00", 3, 24, "8388609 bytes are more than 8388608")
         self.fault(HEADER + "i1 lun=0 write-16 data=file:/nowhere/at/all", 3, 24, "No such file")
         self.fault(HEADER + "i1 lun=0 unmap ranges=1", 3, 23, "no range")
         self.fault(HEADER + "i1 lun=0 write-using-token token=u7/0/1", 3, 34, "no unit 7")

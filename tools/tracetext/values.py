@@ -47,7 +47,10 @@ def file_bytes(path):
 
 
 def data_of(text, most=SIZE_LIMIT):
-    return b"".join(piece_of(piece, most) for piece in text.split(",")) if text else b""
+    data = b"".join(piece_of(piece, most) for piece in text.split(",")) if text else b""
+    if len(data) > most:
+        raise ValueError(f"{len(data)} bytes are more than {most}")
+    return data
 
 
 # ---- ranges
