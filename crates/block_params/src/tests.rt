@@ -20,13 +20,20 @@ fn list_of(alloc: Global, size: usize, numbers: &[(usize, u16)]) -> Result<Vec<u
     Ok(list)
 }
 
+/// The additional sense code of a refusal; want of memory has none.
+fn code_of(fault: ParamFault) -> Option<u8> {
+    match fault {
+        ParamFault::Refused(sense) => Some(sense.asc()),
+        ParamFault::OutOfMemory => None,
+    }
+}
+
 /// The additional sense code of a refusal, and 0 where the list was taken. Want of memory is neither.
 fn refusal<T: Drop>(read: Result<T, ParamFault>) -> Result<u8, ParamFault> {
-    match read {
-        Ok(_) => Ok(0),
-        Err(ParamFault::Refused(sense)) => Ok(sense.asc()),
-        Err(ParamFault::OutOfMemory) => Err(ParamFault::OutOfMemory),
-    }
+    let Err(fault) = read else {
+        return Ok(0);
+    };
+    code_of(fault).ok_or(ParamFault::OutOfMemory)
 }
 
 /// UNMAP lists that were made to be refused, and their neighbours, in the order of the checks.

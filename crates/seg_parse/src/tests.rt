@@ -16,13 +16,20 @@ fn list_of(alloc: Global, size: usize, numbers: &[(usize, u16)]) -> Result<Vec<u
     Ok(list)
 }
 
+/// Additional sense code and qualifier of a refusal; want of memory has none.
+fn code_of(fault: ParamFault) -> Option<(u8, u8)> {
+    match fault {
+        ParamFault::Refused(sense) => Some((sense.asc(), sense.ascq())),
+        ParamFault::OutOfMemory => None,
+    }
+}
+
 /// Additional sense code and qualifier of a refusal, and 0 where the list was taken. Want of memory is neither.
 fn refusal(alloc: Global, list: &[u8]) -> Result<(u8, u8), ParamFault> {
-    match read_lid1(alloc, list) {
-        Ok(_) => Ok((0, 0)),
-        Err(ParamFault::Refused(sense)) => Ok((sense.asc(), sense.ascq())),
-        Err(ParamFault::OutOfMemory) => Err(ParamFault::OutOfMemory),
-    }
+    let Err(fault) = read_lid1(alloc, list) else {
+        return Ok((0, 0));
+    };
+    code_of(fault).ok_or(ParamFault::OutOfMemory)
 }
 
 /// A segment that writes to the second unit of a list of one.
