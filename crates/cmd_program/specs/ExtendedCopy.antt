@@ -15,7 +15,7 @@ use Rattle.cm_history.specs.Bounds.{piece_blocks}
 use Rattle.cm_history.specs.declared.act.Act.{Act}
 use Rattle.cm_history.specs.declared.act.CopyState.{CopyState}
 use Rattle.cm_history.specs.declared.answer.Answer.{Answer}
-use Rattle.cmd_program.specs.Program.{Ask, Program, Asks, done, refused, never, unless_refused, ask_then}
+use Rattle.cmd_program.specs.Program.{Ask, Program, Asks, done, refused, unless_refused, with_blocks, ask_then}
 use Rattle.cmd_program.specs.TokenWrite.{pieces}
 
 -- ---- where the segments lead
@@ -150,9 +150,8 @@ putting c m list rest (suc left) at t =
 
 -- after the Capture of a segment
 abbrev pub captured : Copying → Move → (Tally → Program) → Tally → Answer → Program
-captured c m rest t (Answer.Blocks list) = putting c m list rest (pieces m.count) 0 t
-captured c m rest t (Answer.Refused sense) = closing c t (Some sense)
-captured c m rest t _ = never
+captured c m rest t answer =
+    with_blocks (λ list. putting c m list rest (pieces m.count) 0 t) (λ sense. closing c t (Some sense)) answer
 
 -- the segments in order; one with no blocks is done at once
 abbrev pub copying : Copying → List Move → Tally → Program

@@ -1,9 +1,11 @@
 -- Programs of acts, which each outcome moves on
 use Rattle.std.specs.Prelude.{ℕ, List, [], Option, Some, None}
 use Rattle.scsi_sense.specs.SenseCode.{SenseCode}
+use Rattle.lba_ranges.specs.HeldBlocks.{HeldBlocks}
 use Rattle.cm_frame.specs.declared.frame.Reply.{Reply}
 use Rattle.cm_history.specs.declared.act.Act.{Act}
 use Rattle.cm_history.specs.declared.answer.Answer.{Answer}
+use Rattle.cm_history.specs.declared.answer.OpReport.{OpReport}
 use Rattle.cmd_program.specs.declared.step.Outcome.{Outcome}
 use Rattle.cmd_program.specs.declared.step.Step.{Step}
 
@@ -57,7 +59,7 @@ done = good []
 abbrev pub refused : SenseCode → Program
 refused sense = Ends (Reply.Check sense)
 
--- the reply to an answer of another form than the act can have, which does not come
+-- stands behind an answer of another kind than the act's: no such answer has the form of the act, so this is never come to
 abbrev pub never : Program
 never = Ends Reply.Busy
 
@@ -65,6 +67,18 @@ never = Ends Reply.Busy
 abbrev pub unless_refused : Program → Answer → Program
 unless_refused rest (Answer.Refused sense) = refused sense
 unless_refused rest _ = rest
+
+-- goes on with the blocks of an answer, or by its refusal
+abbrev pub with_blocks : (HeldBlocks → Program) → (SenseCode → Program) → Answer → Program
+with_blocks go_on if_refused (Answer.Blocks list) = go_on list
+with_blocks go_on if_refused (Answer.Refused sense) = if_refused sense
+with_blocks go_on if_refused _ = never
+
+-- goes on with the report of an answer; a refusal ends the command
+abbrev pub with_report : (OpReport → Program) → Answer → Program
+with_report go_on (Answer.Report report) = go_on report
+with_report go_on (Answer.Refused sense) = refused sense
+with_report go_on _ = never
 
 -- an act at which nothing is left to ask if the command must give up
 abbrev pub ask_then : ℕ → Act → (Answer → Program) → Program

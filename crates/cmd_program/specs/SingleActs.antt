@@ -10,7 +10,7 @@ use Rattle.block_params.specs.declared.lists.PopulateList.{PopulateList}
 use Rattle.scsi_inquiry.specs.UnitData.{standard, vpd}
 use Rattle.cm_history.specs.declared.act.Act.{Act}
 use Rattle.cm_history.specs.declared.answer.Answer.{Answer}
-use Rattle.cmd_program.specs.Program.{Program, good, done, refused, never, unless_refused, ask_then}
+use Rattle.cmd_program.specs.Program.{Program, good, done, refused, never, unless_refused, with_blocks, with_report, ask_then}
 use Rattle.lba_ranges.specs.HeldBlocks.{blocks_bytes}
 use Rattle.cmd_program.specs.Told.{map_bytes, report_bytes, report_token_bytes, copy_bytes}
 
@@ -21,9 +21,7 @@ blocks_in size bytes = record { block_length = size; items = cut size (length by
 -- ---- what is told of each answer; `room` is the allocation length
 
 abbrev pub told_read : Answer → Program
-told_read (Answer.Blocks list) = good (blocks_bytes list)
-told_read (Answer.Refused sense) = refused sense
-told_read _ = never
+told_read answer = with_blocks (λ list. good (blocks_bytes list)) refused answer
 
 abbrev pub told_map : ℕ → Answer → Program
 told_map room (Answer.Status runs) = good (take room (map_bytes runs))
@@ -31,14 +29,10 @@ told_map room (Answer.Refused sense) = refused sense
 told_map room _ = never
 
 abbrev pub told_report : ℕ → Answer → Program
-told_report room (Answer.Report report) = good (take room (report_bytes report))
-told_report room (Answer.Refused sense) = refused sense
-told_report room _ = never
+told_report room answer = with_report (λ report. good (take room (report_bytes report))) answer
 
 abbrev pub told_token : Configuration → ℕ → ℕ → Answer → Program
-told_token config unit room (Answer.Report report) = good (take room (report_token_bytes config unit report))
-told_token config unit room (Answer.Refused sense) = refused sense
-told_token config unit room _ = never
+told_token config unit room answer = with_report (λ report. good (take room (report_token_bytes config unit report))) answer
 
 abbrev pub told_copy : ℕ → Answer → Program
 told_copy room (Answer.Copy result) = good (take room (copy_bytes result))

@@ -1,56 +1,50 @@
-ghost use Rattle.std.specs.Prelude.{◌≡◌, ◌<◌, ◌≤◌, ◌^◌, ◌==◌, length, IfOk, IfSome, if◌then◌else◌};
+ghost use Rattle.std.specs.Prelude.{◌≡◌, ◌<◌, ◌≤◌, ◌^◌, length, IfOk, IfSome};
 ghost use Rattle.std.specs.Option.{option_map};
 ghost use Rattle.cm_base.specs.Configuration.{Configuration};
-ghost use Rattle.scsi_sense.specs.Codes.{bad_cdb};
 ghost use Rattle.rod_token.specs.TokenText.{token_text};
 ghost use Rattle.cm_history.specs.declared.act.Act.{Act};
 ghost use Rattle.cm_history.specs.declared.answer.Answer.{Answer};
-ghost use Rattle.cm_history.specs.declared.answer.OpReport.{OpReport};
-ghost use Rattle.cm_history.specs.Forms.{IsReport};
+ghost use Rattle.cm_history.specs.Forms.{HasForm, IsReport};
 ghost use Rattle.cmd_program.specs.Meaning.{IsWritable};
-ghost use Rattle.cmd_program.specs.Program.{next, refused, ask_then};
+ghost use Rattle.cmd_program.specs.Program.{next, ask_then};
 ghost use Rattle.cmd_program.specs.SingleActs.{told_token};
+ghost use Rattle.cmd_machine.specs.Standing.{standing, IsSoundAt};
 ghost use Rattle.token_cmds.specs.Meaning.{by_phase, IsSoundPhase};
 
-use crate::ended::Ended;
-use crate::phase::Phase;
+use crate::phase::{TokenCommand, TokenPhase};
 use crate::report::{Asked, Told, fields, in_room};
-use cm_base::{Config, OutOfMemory, Payload};
+use cm_base::{Config, OutOfMemory};
 use cm_frame::Reply;
 use cm_history::{Answer, OpReport};
+use cmd_machine::{CommandOf, Ended};
 use cmd_program::Step;
 use copy_status::token_information;
-use scsi_sense::Sense;
 use std::alloc::Global;
 
-/// A RECEIVE ROD TOKEN INFORMATION, whose data-out has to be empty. It takes no memory.
-pub(crate) fn begin(unit: u16, id: u32, room: u32, out: &Payload) -> Phase
+/// A RECEIVE ROD TOKEN INFORMATION. It takes no memory.
+pub(crate) fn begin(unit: u16, id: u32, room: u32) -> TokenPhase
     ensures program { (config : Configuration) → by_phase config result
-        ≡ (if length out.now == 0 then ask_then unit (Act.Report id) (told_token config unit room) else refused bad_cdb) }
+        ≡ ask_then unit (Act.Report id) (told_token config unit room) }
     ensures sound { (config : Configuration) → unit < length config.units → IsSoundPhase config result }
 {
-    if out.len() == 0 {
-        Phase::InformationAsked(Asked { unit, id, room })
-    } else {
-        Phase::Ended(Ended::Refused(Sense::invalid_field_in_cdb()))
-    }
+    TokenPhase::InformationAsked(Asked { unit, id, room })
 }
 
 /// A RECEIVE ROD TOKEN INFORMATION whose act was answered.
-pub(crate) fn after(asked: Asked, answer: &Answer) -> Phase
-    ensures program { (config : Configuration) → by_phase config result
+pub(crate) fn after(asked: Asked, answer: &Answer) -> TokenCommand
+    requires { (config : Configuration) × HasForm config asked.unit (Act.Report asked.id) answer.now }
+    ensures program { (config : Configuration) → standing by_phase config result
         ≡ told_token config asked.unit asked.room answer.now }
-    ensures sound { (config : Configuration) → asked.unit < length config.units
-        → ((report : OpReport) → answer.now ≡ Answer.Report report → IsReport report) → IsSoundPhase config result }
+    ensures sound { (config : Configuration) → asked.unit < length config.units → IsSoundAt IsSoundPhase config result }
 {
     match answer {
-        Answer::Report(report) => Phase::InformationTold(Told {
+        Answer::Report(report) => CommandOf::At(TokenPhase::InformationTold(Told {
             unit: asked.unit,
             room: asked.room,
             report: *report,
-        }),
-        Answer::Refused(sense) => Phase::Ended(Ended::Refused(*sense)),
-        _ => Phase::Ended(Ended::Odd),
+        })),
+        Answer::Refused(sense) => CommandOf::Ended(Ended::Refused(*sense)),
+        _ => unreachable!(),
     }
 }
 

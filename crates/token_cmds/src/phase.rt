@@ -1,25 +1,23 @@
-ghost use Rattle.std.specs.Prelude.{◌≡◌, Bool, IfOk, IsOk};
-ghost use Rattle.cm_base.specs.Configuration.{Configuration};
-ghost use Rattle.cm_history.specs.declared.answer.Answer.{Answer};
-ghost use Rattle.cmd_program.specs.declared.step.Outcome.{Outcome};
-ghost use Rattle.cmd_program.specs.Meaning.{reply_of, IsWritable, IsAskable};
-ghost use Rattle.cmd_program.specs.Program.{next, moved, give_up, go_on_by};
-ghost use Rattle.token_cmds.specs.Meaning.{by_phase, IsSoundPhase, IsAnswerTo, HasLastStep};
+ghost use Rattle.std.specs.Prelude.{◌≡◌};
+ghost use Rattle.cmd_program.specs.Kinds.{is_token_command};
 
 use crate::abort::Abort;
-use crate::ended::Ended;
 use crate::populate::Populate;
 use crate::report::{Asked, Told};
 use crate::writing::Writing;
-use crate::{information, status};
+use crate::{abort, information, populate, status, writing};
 use cm_base::{Config, OutOfMemory};
+use cm_frame::Request;
 use cm_history::Answer;
-use cmd_program::{Outcome, Step};
+use cmd_machine::{CommandOf, Ended, LastAct, Phase};
+use cmd_program::Step;
+use scsi_cdb::Cdb;
 use std::alloc::Global;
 
-/// How far a command has come.
+/// How far a POPULATE TOKEN, WRITE USING TOKEN, COPY OPERATION ABORT, RECEIVE ROD TOKEN INFORMATION
+/// or RECEIVE COPY STATUS(LID4) has come.
 #[derive(Drop)]
-pub(crate) enum Phase {
+pub enum TokenPhase {
     Populating(Populate),
     Aborting(Abort),
     StatusAsked(Asked),
@@ -27,70 +25,95 @@ pub(crate) enum Phase {
     InformationAsked(Asked),
     InformationTold(Told),
     Writing(Writing),
-    Ended(Ended),
 }
 
-impl Phase {
-    pub(crate) fn step(&self, alloc: Global, config: &Config) -> Result<Step, OutOfMemory>
-        requires { IsSoundPhase config.now self.now }
-        ensures next { IfOk result (λ s. s ≡ next (by_phase config.now self.now)) }
-        ensures asks { IfOk result (λ s. IsAskable config.now s) }
-        ensures fits { IfOk result IsWritable }
-        ensures free { HasLastStep self.now → IsOk result }
-    {
-        match self {
-            Phase::Populating(populate) => populate.step(alloc),
-            Phase::Aborting(abort) => Ok(abort.step()),
-            Phase::StatusAsked(asked) => Ok(asked.step()),
-            Phase::StatusTold(told) => status::tell(alloc, told),
-            Phase::InformationAsked(asked) => Ok(asked.step()),
-            Phase::InformationTold(told) => information::tell(alloc, config, told),
-            Phase::Writing(writing) => writing.step(alloc, config),
-            Phase::Ended(ended) => Ok(ended.step()),
-        }
+impl TokenPhase {
+    /// A phase that stands in for one that is moved out. It takes no memory.
+    pub fn nothing() -> TokenPhase {
+        abort::begin(0, 0)
     }
+}
 
-    /// The phase after an outcome. It takes no memory.
-    pub(crate) fn noted(self, outcome: Outcome) -> Phase
-        ensures program { (config : Configuration) → by_phase config result ≡ moved (by_phase config self) outcome }
-        ensures sound { (config : Configuration) → IsSoundPhase config self
-            → ((answer : Answer) → outcome ≡ Outcome.Answered answer → IsAnswerTo config self answer)
-            → IsSoundPhase config result }
-    {
-        match outcome {
-            Outcome::Answered(answer) => self.after(answer),
-            Outcome::Full => self.given_up(true),
-            Outcome::NoMemory => self.given_up(false),
-        }
-    }
+/// A command with tokens.
+pub type TokenCommand = CommandOf<TokenPhase>;
 
-    /// The phase after an answer.
-    fn after(self, answer: Answer) -> Phase
-        ensures program { (config : Configuration) → by_phase config result ≡ go_on_by (by_phase config self) answer }
-        ensures sound { (config : Configuration) → IsSoundPhase config self → IsAnswerTo config self answer
-            → IsSoundPhase config result }
-    {
-        match self {
-            Phase::Populating(_) | Phase::Aborting(_) => {
-                Phase::Ended(Ended::unless_refused(answer))
+/// The command is one of these.
+pub fn is_token_command(cdb: &Cdb) -> bool
+    ensures { result ≡ is_token_command cdb.now }
+{
+    matches!(
+        cdb,
+        Cdb::PopulateToken { .. }
+            | Cdb::WriteUsingToken { .. }
+            | Cdb::CopyAbort { .. }
+            | Cdb::CopyStatus4 { .. }
+            | Cdb::TokenInformation { .. }
+    )
+}
+
+impl Phase for TokenPhase {
+    ghost use Rattle.cmd_program.specs.Kinds.{is_token_command};
+    ghost use Rattle.token_cmds.specs.Meaning.{by_phase, IsSoundPhase};
+    ghost use Rattle.token_cmds.specs.Going.{phase-goes-on};
+
+    ghost kind = { is_token_command };
+
+    ghost meaning = { by_phase };
+
+    ghost sound = { IsSoundPhase };
+
+    fn begin(
+        alloc: Global,
+        config: &Config,
+        request: Request,
+        cdb: Cdb,
+    ) -> Result<TokenCommand, OutOfMemory> {
+        let Request { unit, cdb: _, out } = request;
+        match cdb {
+            Cdb::PopulateToken { id, length: _ } => populate::begin(alloc, unit, id, &out),
+            Cdb::WriteUsingToken { id, length: _ } => {
+                writing::begin(alloc, config, unit, id, &out)
             }
-            Phase::StatusAsked(asked) => status::after(asked, &answer),
-            Phase::InformationAsked(asked) => information::after(asked, &answer),
-            Phase::Writing(writing) => writing.after(answer),
-            told_or_ended => told_or_ended,
+            Cdb::CopyAbort { id } => Ok(CommandOf::At(abort::begin(unit, id))),
+            Cdb::CopyStatus4 { id, length } => Ok(CommandOf::At(status::begin(unit, id, length))),
+            Cdb::TokenInformation { id, length } => {
+                Ok(CommandOf::At(information::begin(unit, id, length)))
+            }
+            _ => unreachable!(),
         }
     }
 
-    /// The phase after an outcome at which the command gives up.
-    fn given_up(self, full: bool) -> Phase
-        ensures program { (config : Configuration) → by_phase config result
-            ≡ give_up (by_phase config self) (reply_of full) }
-        ensures sound { (config : Configuration) → IsSoundPhase config self → IsSoundPhase config result }
-    {
+    fn step(&self, alloc: Global, config: &Config) -> Result<Step, OutOfMemory> {
         match self {
-            Phase::Writing(writing) => writing.given_up(full),
-            Phase::Ended(ended) => Phase::Ended(ended.given_up(full)),
-            _ => Phase::Ended(Ended::GaveUp { full }),
+            TokenPhase::Populating(populate) => populate.step(alloc),
+            TokenPhase::Aborting(abort) => Ok(abort.step()),
+            TokenPhase::StatusAsked(asked) => Ok(asked.step()),
+            TokenPhase::StatusTold(told) => status::tell(alloc, told),
+            TokenPhase::InformationAsked(asked) => Ok(asked.step()),
+            TokenPhase::InformationTold(told) => information::tell(alloc, config, told),
+            TokenPhase::Writing(writing) => writing.step(alloc, config),
         }
     }
+
+    fn after(self, config: &Config, answer: Answer) -> TokenCommand {
+        match self {
+            TokenPhase::Populating(_) | TokenPhase::Aborting(_) => {
+                CommandOf::Ended(Ended::unless_refused(answer))
+            }
+            TokenPhase::StatusAsked(asked) => status::after(asked, &answer),
+            TokenPhase::InformationAsked(asked) => information::after(asked, &answer),
+            TokenPhase::Writing(writing) => writing.after(config, answer),
+            told => CommandOf::At(told),
+        }
+    }
+
+    fn last(&self, config: &Config) -> Option<LastAct> {
+        let _ = config;
+        match self {
+            TokenPhase::Writing(writing) => writing.last(),
+            _ => None,
+        }
+    }
+
+    ghost goes_on = { phase-goes-on };
 }

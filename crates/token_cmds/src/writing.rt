@@ -1,7 +1,7 @@
-ghost use Rattle.std.specs.Prelude.{◌≡◌, ◌+◌, ◌<◌, ◌==◌, ℕ, length, nat_lt, Bool, IfOk, IsOk, None, if◌then◌else◌};
+ghost use Rattle.std.specs.Prelude.{◌≡◌, ◌+◌, ◌<◌, ◌==◌, ℕ, length, nat_lt, IfOk, IfSome, None, if◌then◌else◌};
 ghost use Rattle.cm_base.specs.Configuration.{Configuration};
 ghost use Rattle.cm_base.specs.Units.{is_configured};
-ghost use Rattle.scsi_sense.specs.Codes.{bad_list_length, unknown_token};
+ghost use Rattle.scsi_sense.specs.Codes.{unknown_token};
 ghost use Rattle.block_params.specs.ListsRead.{write_token_read};
 ghost use Rattle.block_params.specs.RangesRead.{range_fault};
 ghost use Rattle.lba_ranges.specs.HeldBlocks.{HeldBlocks};
@@ -10,17 +10,22 @@ ghost use Rattle.rod_token.specs.TokenText.{classify};
 ghost use Rattle.cm_history.specs.declared.act.Act.{Act};
 ghost use Rattle.cm_history.specs.declared.answer.Answer.{Answer};
 ghost use Rattle.cm_history.specs.declared.answer.OpState.{OpState};
-ghost use Rattle.cmd_program.specs.Meaning.{reply_of, IsWritable, IsAskable};
-ghost use Rattle.cmd_program.specs.Program.{next, refused, give_up, go_on_by, ask_then};
+ghost use Rattle.cm_history.specs.Forms.{HasKind};
+ghost use Rattle.cmd_program.specs.Meaning.{IsWritable, IsAskable, MayFollow};
+ghost use Rattle.cmd_program.specs.declared.step.Outcome.{Outcome};
+ghost use Rattle.cmd_program.specs.Program.{next, refused, go_on_by, ask_then};
 ghost use Rattle.cmd_program.specs.TokenWrite.{wanted, deleting, advancing, started, redeemed, starting, zero_rod, write_by, write_using_token};
-ghost use Rattle.token_cmds.specs.Meaning.{by_phase, by_writing, given, IsGiven, IsSized, IsAnswerToWriting, IsSoundPhase, IsSoundWriting};
+ghost use Rattle.cmd_machine.specs.Last.{by_last, IsLastOf};
+ghost use Rattle.cmd_machine.specs.Standing.{standing, IsSoundAt, last_ask};
+ghost use Rattle.std.specs.Option.{option_map};
+ghost use Rattle.token_cmds.specs.Meaning.{by_phase, by_writing, given, IsGiven, IsSized, IsSoundPhase, IsSoundWriting};
 
-use crate::ended::{Ended, refusal};
-use crate::phase::Phase;
+use crate::phase::{TokenCommand, TokenPhase};
 use block_params::{WriteList, read_write_token};
 use cm_base::{Config, OutOfMemory, Payload};
 use cm_frame::Reply;
 use cm_history::{Act, Answer, OpState, TokenText};
+use cmd_machine::{CommandOf, Ended, LastAct, refusal};
 use cmd_program::Step;
 use lba_ranges::{BlockList, Fill, Piece};
 use rod_token::{TokenKind, classify};
@@ -32,7 +37,7 @@ const PIECE: u64 = 1024;
 
 /// A WRITE USING TOKEN whose list was read.
 #[derive(Drop)]
-pub(crate) struct Write {
+pub struct Write {
     unit: u16,
     id: u32,
     list: WriteList,
@@ -40,7 +45,7 @@ pub(crate) struct Write {
 
 /// How far a WRITE USING TOKEN has come.
 #[derive(Drop)]
-pub(crate) enum Writing {
+pub enum Writing {
     /// The blocks of the token are asked of the unit that made it.
     Redeeming { write: Write, creator: u16 },
     /// They were answered; those that are wanted are to be written.
@@ -51,68 +56,60 @@ pub(crate) enum Writing {
     Advancing { write: Write, left: u64 },
     /// All was written, and the token is to be deleted where it was made.
     Deleting { creator: u16, serial: u64 },
-    /// The command gives up, and ends its operation first.
-    Ending { unit: u16, id: u32, full: bool },
 }
 
-/// A WRITE USING TOKEN that says that its list has so many bytes.
+/// A WRITE USING TOKEN.
 pub(crate) fn begin(
     alloc: Global,
     config: &Config,
     unit: u16,
     id: u32,
-    listed: u32,
     out: &Payload,
-) -> Result<Phase, OutOfMemory>
+) -> Result<TokenCommand, OutOfMemory>
     requires configured { unit < length config.now.units }
-    ensures program { IfOk result (λ p. by_phase config.now p
-        ≡ (if length out.now == listed then write_using_token config.now unit id (write_token_read out.now)
-        else refused bad_list_length)) }
-    ensures sound { IfOk result (λ p. IsSoundPhase config.now p) }
+    ensures program { IfOk result (λ c. standing by_phase config.now c
+        ≡ write_using_token config.now unit id (write_token_read out.now)) }
+    ensures sound { IfOk result (λ c. IsSoundAt IsSoundPhase config.now c) }
 {
-    if out.len() as u64 != u64::from(listed) {
-        let sense = Sense::parameter_list_length_error();
-        return Ok(Phase::Ended(Ended::Refused(sense)));
-    }
     match read_write_token(alloc, out.as_slice()) {
         Ok(list) => Ok(Write { unit, id, list }.by_token(config)),
-        Err(fault) => Ok(Phase::Ended(Ended::Refused(refusal(fault)?))),
+        Err(fault) => Ok(CommandOf::Ended(Ended::Refused(refusal(fault)?))),
     }
 }
 
 impl Write {
     /// The first phase, which the kind of the token tells.
-    fn by_token(self, config: &Config) -> Phase
+    fn by_token(self, config: &Config) -> TokenCommand
         requires configured { self.unit < length config.now.units }
         requires ranges { range_fault self.list.ranges ≡ None }
-        ensures program { by_phase config.now result ≡ write_by config.now (given self) (classify self.list.token) }
-        ensures sound { IsSoundPhase config.now result }
+        ensures program { standing by_phase config.now result ≡ write_by config.now (given self) (classify self.list.token) }
+        ensures sound { IsSoundAt IsSoundPhase config.now result }
     {
         match classify(&self.list.token) {
-            TokenKind::BadLength => Phase::Ended(Ended::Refused(Sense::invalid_token_length())),
-            TokenKind::BadType => Phase::Ended(Ended::Refused(Sense::unsupported_token_type())),
-            TokenKind::Zero => Phase::Writing(Writing::Zeroing { write: self }),
+            TokenKind::BadLength => CommandOf::Ended(Ended::Refused(Sense::invalid_token_length())),
+            TokenKind::BadType => CommandOf::Ended(Ended::Refused(Sense::unsupported_token_type())),
+            TokenKind::Zero => CommandOf::At(TokenPhase::Writing(Writing::Zeroing { write: self })),
             TokenKind::Names { unit, .. } => self.by_creator(config, unit),
         }
     }
 
     /// The first phase of a token that names this unit.
-    fn by_creator(self, config: &Config, creator: u16) -> Phase
+    fn by_creator(self, config: &Config, creator: u16) -> TokenCommand
         requires configured { self.unit < length config.now.units }
         requires ranges { range_fault self.list.ranges ≡ None }
         requires named { (serial : ℕ) × (classify self.list.token ≡ TokenKind.Names creator serial) }
-        ensures program { by_phase config.now result
+        ensures program { standing by_phase config.now result
             ≡ (if is_configured config.now creator then ask_then creator (Act.Redeem self.list.token self.unit) (redeemed (given self))
             else refused unknown_token) }
-        ensures sound { IsSoundPhase config.now result }
+        ensures sound { IsSoundAt IsSoundPhase config.now result }
     {
         if config.is_configured(creator) {
-            Phase::Writing(Writing::Redeeming {
+            CommandOf::At(TokenPhase::Writing(Writing::Redeeming {
                 write: self,
                 creator,
-            })
+            }))
         } else {
-            Phase::Ended(Ended::Refused(Sense::token_unknown()))
+            CommandOf::Ended(Ended::Refused(Sense::token_unknown()))
         }
     }
 
@@ -169,92 +166,85 @@ impl Write {
     }
 
     /// The phase when all was written.
-    fn deleting(&self) -> Phase
-        ensures program { (config : Configuration) → by_phase config result ≡ deleting (given self.now) }
-        ensures sound { (config : Configuration) → IsGiven config self.now → IsSoundPhase config result }
+    fn deleting(&self) -> TokenCommand
+        ensures program { (config : Configuration) → standing by_phase config result ≡ deleting (given self.now) }
+        ensures sound { (config : Configuration) → IsGiven config self.now → IsSoundAt IsSoundPhase config result }
     {
         if !self.list.delete {
-            return Phase::Ended(Ended::Good);
+            return CommandOf::Ended(Ended::Good);
         }
         match classify(&self.list.token) {
-            TokenKind::Names { unit, serial } => Phase::Writing(Writing::Deleting {
-                creator: unit,
-                serial,
-            }),
-            _ => Phase::Ended(Ended::Good),
+            TokenKind::Names { unit, serial } => CommandOf::At(TokenPhase::Writing(
+                Writing::Deleting {
+                    creator: unit,
+                    serial,
+                },
+            )),
+            _ => CommandOf::Ended(Ended::Good),
         }
     }
 
     /// The phase of an operation that runs, when so many Advances are left.
-    fn running(self, left: u64) -> Phase
-        ensures program { (config : Configuration) (count : ℕ) → by_phase config result
+    fn running(self, left: u64) -> TokenCommand
+        ensures program { (config : Configuration) (count : ℕ) → standing by_phase config result
             ≡ advancing (given self) left (Answer.Progress OpState.Running count) }
-        ensures sound { (config : Configuration) → IsGiven config self → IsSoundPhase config result }
+        ensures sound { (config : Configuration) → IsGiven config self → IsSoundAt IsSoundPhase config result }
     {
         if left == 0 {
-            return Phase::Ended(Ended::Refused(Sense::copy_aborted()));
+            return CommandOf::Ended(Ended::Refused(Sense::copy_aborted()));
         }
-        Phase::Writing(Writing::Advancing {
+        CommandOf::At(TokenPhase::Writing(Writing::Advancing {
             write: self,
             left: left - 1,
-        })
+        }))
     }
 
     /// The phase of an operation in the foreground that was answered, when so many Advances are
     /// left.
-    fn advanced(self, left: u64, answer: Answer) -> Phase
-        ensures program { (config : Configuration) → by_phase config result ≡ advancing (given self) left answer }
-        ensures sound { (config : Configuration) → IsGiven config self → IsSoundPhase config result }
+    fn advanced(self, left: u64, answer: Answer) -> TokenCommand
+        requires { HasKind (Act.Advance self.id) answer }
+        ensures program { (config : Configuration) → standing by_phase config result ≡ advancing (given self) left answer }
+        ensures sound { (config : Configuration) → IsGiven config self → IsSoundAt IsSoundPhase config result }
     {
         match answer {
             Answer::Progress { state, .. } => match state {
                 OpState::Done => self.deleting(),
-                OpState::Failed(sense) => Phase::Ended(Ended::Refused(sense)),
-                OpState::Terminated => Phase::Ended(Ended::Refused(Sense::copy_aborted())),
+                OpState::Failed(sense) => CommandOf::Ended(Ended::Refused(sense)),
+                OpState::Terminated => CommandOf::Ended(Ended::Refused(Sense::copy_aborted())),
                 OpState::Running => self.running(left),
             },
-            Answer::Refused(sense) => Phase::Ended(Ended::Refused(sense)),
-            _ => Phase::Ended(Ended::Odd),
+            Answer::Refused(sense) => CommandOf::Ended(Ended::Refused(sense)),
+            _ => unreachable!(),
         }
     }
 
     /// The phase after the Start was answered.
-    fn started(self, answer: Answer) -> Phase
-        ensures program { (config : Configuration) → by_phase config result
+    fn started(self, answer: Answer) -> TokenCommand
+        requires { (rod : HeldBlocks) × HasKind (Act.Start self.id self.list.immed self.list.ranges rod) answer }
+        ensures program { (config : Configuration) → standing by_phase config result
             ≡ started (given self) self.list.immed answer }
-        ensures sound { (config : Configuration) → IsGiven config self → IsSoundPhase config result }
+        ensures sound { (config : Configuration) → IsGiven config self → IsSoundAt IsSoundPhase config result }
     {
         if !self.list.immed {
             let pieces = (self.list.ranges.total() + (PIECE - 1)) / PIECE;
             return self.advanced(pieces, answer);
         }
         match answer {
-            Answer::Refused(sense) => Phase::Ended(Ended::Refused(sense)),
+            Answer::Refused(sense) => CommandOf::Ended(Ended::Refused(sense)),
             _ => self.deleting(),
         }
     }
 
-    /// The phase after the Redeem was answered.
-    fn redeemed(self, answer: Answer) -> Phase
-        ensures program { (config : Configuration) → by_phase config result ≡ redeemed (given self) answer }
-        ensures sound { (config : Configuration) → IsGiven config self
-            → ((rod : HeldBlocks) → answer ≡ Answer.Rod rod → IsSized config self rod.block_length) → IsSoundPhase config result }
-    {
-        match answer {
-            Answer::Rod(rod) => Phase::Writing(Writing::Redeemed { write: self, rod }),
-            Answer::Refused(sense) => Phase::Ended(Ended::Refused(sense)),
-            _ => Phase::Ended(Ended::Odd),
-        }
-    }
-
     /// The phase after the Start of a token's blocks was answered, if it has as many as are wanted.
-    fn started_part(self, rod: &BlockList, answer: Answer) -> Phase
-        ensures program { (config : Configuration) → by_phase config result
+    fn started_part(self, rod: &BlockList, answer: Answer) -> TokenCommand
+        requires { (config : Configuration)
+            × MayFollow config (next (redeemed (given self) (Answer.Rod rod.now))) (Outcome.Answered answer) }
+        ensures program { (config : Configuration) → standing by_phase config result
             ≡ go_on_by (redeemed (given self) (Answer.Rod rod.now)) answer }
-        ensures sound { (config : Configuration) → IsGiven config self → IsSoundPhase config result }
+        ensures sound { (config : Configuration) → IsGiven config self → IsSoundAt IsSoundPhase config result }
     {
         if self.is_short(rod) {
-            Phase::Ended(Ended::Refused(Sense::invalid_field_in_parameter_list()))
+            CommandOf::Ended(Ended::Refused(Sense::invalid_field_in_parameter_list()))
         } else {
             self.started(answer)
         }
@@ -267,7 +257,6 @@ impl Writing {
         ensures next { IfOk result (λ s. s ≡ next (by_writing config.now self.now)) }
         ensures asks { IfOk result (λ s. IsAskable config.now s) }
         ensures fits { IfOk result IsWritable }
-        ensures free { (unit id : ℕ) (full : Bool) → self.now ≡ Writing.Ending unit id full → IsOk result }
     {
         match self {
             Writing::Redeeming { write, creator } => Ok(Step::Do {
@@ -287,43 +276,43 @@ impl Writing {
                 unit: *creator,
                 act: Act::Delete { serial: *serial },
             }),
-            Writing::Ending { unit, id, .. } => Ok(Step::Do {
-                unit: *unit,
-                act: Act::End { id: *id },
-            }),
         }
     }
 
     /// The phase after an answer.
-    pub(crate) fn after(self, answer: Answer) -> Phase
-        ensures program { (config : Configuration) → by_phase config result ≡ go_on_by (by_writing config self) answer }
-        ensures sound { (config : Configuration) → IsSoundWriting config self → IsAnswerToWriting config self answer
-            → IsSoundPhase config result }
+    pub(crate) fn after(self, config: &Config, answer: Answer) -> TokenCommand
+        requires sound { IsSoundWriting config.now self }
+        requires follows { MayFollow config.now (next (by_writing config.now self)) (Outcome.Answered answer) }
+        ensures program { standing by_phase config.now result ≡ go_on_by (by_writing config.now self) answer }
+        ensures sound { IsSoundAt IsSoundPhase config.now result }
     {
+        let _ = config;
         match self {
-            Writing::Redeeming { write, .. } => write.redeemed(answer),
+            Writing::Redeeming { write, .. } => match answer {
+                Answer::Rod(rod) => {
+                    CommandOf::At(TokenPhase::Writing(Writing::Redeemed { write, rod }))
+                }
+                Answer::Refused(sense) => CommandOf::Ended(Ended::Refused(sense)),
+                _ => unreachable!(),
+            },
             Writing::Redeemed { write, rod } => write.started_part(&rod, answer),
             Writing::Zeroing { write } => write.started(answer),
             Writing::Advancing { write, left } => write.advanced(left, answer),
-            Writing::Deleting { .. } => Phase::Ended(Ended::unless_refused(answer)),
-            Writing::Ending { full, .. } => Phase::Ended(Ended::GaveUp { full }),
+            Writing::Deleting { .. } => CommandOf::Ended(Ended::unless_refused(answer)),
         }
     }
 
-    /// The phase after an outcome at which the command gives up.
-    pub(crate) fn given_up(self, full: bool) -> Phase
-        ensures program { (config : Configuration) → by_phase config result
-            ≡ give_up (by_writing config self) (reply_of full) }
-        ensures sound { (config : Configuration) → IsSoundWriting config self → IsSoundPhase config result }
+    /// What is asked once more if the command gives up here.
+    pub(crate) fn last(&self) -> Option<LastAct>
+        ensures last { (config : Configuration) → last_ask (by_writing config self.now) ≡ option_map by_last result }
+        ensures sound { (config : Configuration) → IsSoundWriting config self.now → IfSome result (IsLastOf config) }
     {
         match self {
-            Writing::Advancing { write, .. } => Phase::Writing(Writing::Ending {
+            Writing::Advancing { write, .. } => Some(LastAct::End {
                 unit: write.unit,
                 id: write.id,
-                full,
             }),
-            Writing::Ending { full: first, .. } => Phase::Ended(Ended::GaveUp { full: first }),
-            _ => Phase::Ended(Ended::GaveUp { full }),
+            _ => None,
         }
     }
 }

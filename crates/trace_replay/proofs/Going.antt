@@ -9,8 +9,10 @@ use Rattle.cmd_program.specs.Stepping.{gave_up, gives_up}
 use Rattle.cmd_program.specs.Meaning.{MayFollow}
 use Rattle.cmd_program.specs.Judging.{step}
 use Rattle.cm_frame.specs.declared.frame.Reply.{Reply}
-use Rattle.trace_replay.specs.declared.any_command.AnyCommand.{AnyCommand}
-use Rattle.trace_replay.specs.Commands.{StandsFor}
+use Rattle.cmd_machine.specs.declared.command.CommandOf.{CommandOf}
+use Rattle.cmd_machine.specs.Standing.{StandsFor}
+use Rattle.any_cmds.specs.declared.phase.AnyPhase.{AnyPhase}
+use Rattle.any_cmds.specs.Meaning.{by_any}
 use Rattle.trace_replay.specs.declared.nexus.Waiting.{Waiting}
 use Rattle.trace_replay.specs.Standing.{Pending, Mark, NoMark, AtStep, noted, noted_at_step, next_step}
 use Rattle.trace_replay.specs.Machines.{IsCommandOf, IsNext, WentOn, HasBegun, mark_of}
@@ -35,7 +37,7 @@ pub gave-up-none : (outcomes : List Outcome) → gave_up (outcomes ++ Outcome.No
 gave-up-none outcomes = gave-up-more outcomes Outcome.NoMemory ∙ or-true (gave_up outcomes)
 
 -- memory was there for the step
-pub next-there : (config : Configuration) (c : AnyCommand) (p : Pending) (next : Step) (given : Bool) → IsCommandOf config c given p
+pub next-there : (config : Configuration) (c : CommandOf AnyPhase) (p : Pending) (next : Step) (given : Bool) → IsCommandOf config c given p
     → next ≡ next_step step config p → IsNext config c p next given
 next-there config c p next given is same =
     let none : p.outcomes ++ [] ≡ p.outcomes = append-nil p.outcomes in
@@ -43,15 +45,15 @@ next-there config c p next given is same =
       wanted = false;
       once = λ _. refl;
       command = record {
-        stands = subst (StandsFor config c p.initiator p.request) (sym none) is.stands;
+        stands = subst (StandsFor by_any config c p.initiator p.request) (sym none) is.stands;
         gave_up = is.gave_up ∙ ap gave_up (sym none);
       };
       is = same ∙ ap (step config p.initiator p.request) (sym none);
     }
 
 -- memory was wanted for it, and the command gave up
-pub next-wanted : (config : Configuration) (c : AnyCommand) (p : Pending) (next : Step) → (gave_up p.outcomes ≡ true → ⊥)
-    → StandsFor config c p.initiator p.request (p.outcomes ++ Outcome.NoMemory ∷ [])
+pub next-wanted : (config : Configuration) (c : CommandOf AnyPhase) (p : Pending) (next : Step) → (gave_up p.outcomes ≡ true → ⊥)
+    → StandsFor by_any config c p.initiator p.request (p.outcomes ++ Outcome.NoMemory ∷ [])
     → next ≡ step config p.initiator p.request (p.outcomes ++ Outcome.NoMemory ∷ []) → IsNext config c p next true
 next-wanted config c p next first stands same = record {
   wanted = true;

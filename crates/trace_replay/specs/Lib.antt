@@ -5,7 +5,6 @@ pub mod Ended
 pub mod Marks
 pub mod Replayed
 pub mod Laws
-pub mod Commands
 pub mod Machines
 pub mod Counting
 pub mod Faults

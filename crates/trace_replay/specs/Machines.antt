@@ -21,8 +21,10 @@ use Rattle.cmd_program.specs.declared.step.Outcome.{Outcome}
 use Rattle.cmd_program.specs.Stepping.{gave_up}
 use Rattle.cmd_program.specs.Meaning.{IsAskedOf, IsOfLength, IsOutcomeOf}
 use Rattle.cmd_program.specs.Judging.{step}
-use Rattle.trace_replay.specs.declared.any_command.AnyCommand.{AnyCommand}
-use Rattle.trace_replay.specs.Commands.{StandsFor, IsSound}
+use Rattle.cmd_machine.specs.declared.command.CommandOf.{CommandOf}
+use Rattle.cmd_machine.specs.Standing.{StandsFor, IsSoundAt}
+use Rattle.any_cmds.specs.declared.phase.AnyPhase.{AnyPhase}
+use Rattle.any_cmds.specs.Meaning.{by_any, IsSoundAny}
 use Rattle.trace_replay.specs.declared.units.Units.{Units}
 use Rattle.trace_replay.specs.declared.nexus.Waiting.{Waiting}
 use Rattle.trace_replay.specs.declared.nexus.Nexus.{Nexus}
@@ -86,19 +88,19 @@ DoesAct Have config entries u actor n moment act (Err refused) = Have entries ×
 -- ---- one nexus
 
 -- a command, and whether it gave up, is what a pending command is
-pub record IsCommandOf (config : Configuration) (command : AnyCommand) (given : Bool) (p : Pending) : Type 0 where
-  pub stands : StandsFor config command p.initiator p.request p.outcomes
+pub record IsCommandOf (config : Configuration) (command : CommandOf AnyPhase) (given : Bool) (p : Pending) : Type 0 where
+  pub stands : StandsFor by_any config command p.initiator p.request p.outcomes
   pub gave_up : given ≡ gave_up p.outcomes
 
 -- it is what some pending command is
-pub record IsCommand (config : Configuration) (command : AnyCommand) (given : Bool) : Type 0 where
+pub record IsCommand (config : Configuration) (command : CommandOf AnyPhase) (given : Bool) : Type 0 where
   pub p : Pending
   pub is : IsCommandOf config command given p
 
 -- what waits is what a pending command is
 pub record IsWaiting (config : Configuration) (w : Waiting) (p : Pending) : Type 0 where
   pub command : IsCommandOf config w.command w.gave_up p
-  pub sound : IsSound config w.command
+  pub sound : IsSoundAt IsSoundAny config w.command
   pub asks : next_step step config p ≡ Step.Do w.unit w.act
   pub askable : IsAskedOf config w.unit w.act
 
@@ -107,7 +109,7 @@ abbrev pub mark_of : Bool → Mark
 mark_of wanted = if wanted then AtStep else NoMark
 
 -- the next step of a command, which gave up where it wanted memory for it
-pub record IsNext (config : Configuration) (c : AnyCommand) (p : Pending) (next : Step) (given : Bool) : Type 0 where
+pub record IsNext (config : Configuration) (c : CommandOf AnyPhase) (p : Pending) (next : Step) (given : Bool) : Type 0 where
   pub wanted : Bool
   pub once : gave_up p.outcomes ≡ true → wanted ≡ false
   pub command : IsCommandOf config c given (noted p (noted_at_step (mark_of wanted)))

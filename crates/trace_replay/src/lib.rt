@@ -1,7 +1,6 @@
 // A trace, played item after item.
 #![tactic(auto)]
 
-mod any_command;
 mod fault;
 mod laws;
 mod machine;
@@ -12,7 +11,6 @@ mod summary;
 mod trace;
 mod units;
 
-pub use any_command::AnyCommand;
 pub use fault::ReplayFault;
 pub use laws::{played_writes_law, quiet_law};
 pub use summary::Summary;

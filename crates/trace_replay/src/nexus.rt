@@ -4,12 +4,13 @@ ghost use Rattle.cm_history.specs.declared.act.Actor.{Actor};
 ghost use Rattle.cm_history.specs.declared.act.Entry.{Entry};
 ghost use Rattle.cmd_program.specs.Meaning.{IsAskable, IsWritable};
 ghost use Rattle.cmd_program.specs.Stepping.{gives_up, gave_up};
-ghost use Rattle.trace_replay.specs.Commands.{IsSound};
+ghost use Rattle.cmd_machine.specs.Standing.{IsSoundAt};
+ghost use Rattle.any_cmds.specs.Meaning.{IsSoundAny};
 ghost use Rattle.trace_replay.specs.Standing.{Pending, Mark, seq, noted, noted_at_step};
 ghost use Rattle.trace_replay.specs.Machines.{HaveCounted, IsCommandOf, IsCommand, IsWaiting, IsNext, WentOn, HasBegun, MayAct, HasActed, MayRun, HasRun, mark_of};
 
-use crate::any_command::AnyCommand;
 use crate::units::Units;
+use any_cmds::{AnyCommand, begin_any};
 use cm_base::{Config, OutOfMemory};
 use cm_frame::{Reply, Request};
 use cm_history::{Act, ActRefused};
@@ -50,9 +51,9 @@ fn next_step(
     command: &mut AnyCommand,
     given_up: bool,
 ) -> (Step, bool)
-    requires sound { IsSound config.now command.old }
+    requires sound { IsSoundAt IsSoundAny config.now command.old }
     requires stands { IsCommand config.now command.old given_up }
-    ensures sound { IsSound config.now command.new }
+    ensures sound { IsSoundAt IsSoundAny config.now command.new }
     ensures next { (p : Pending) → IsCommandOf config.now command.old given_up p
         → IsNext config.now command.new p result.0 result.1 }
     ensures asks { IsAskable config.now result.0 }
@@ -100,7 +101,7 @@ impl Nexus {
         mut command: AnyCommand,
         given_up: bool,
     ) -> Option<Reply>
-        requires sound { IsSound config.now command }
+        requires sound { IsSoundAt IsSoundAny config.now command }
         requires stands { IsCommand config.now command given_up }
         ensures seq { self.new.seq ≡ self.old.seq }
         ensures went { (p : Pending) → IsCommandOf config.now command given_up p
@@ -137,7 +138,7 @@ impl Nexus {
         ensures seq { self.new.seq ≡ self.old.seq }
         ensures begun { (mark : Mark) × HasBegun config.now initiator request mark self.new.waiting result }
     {
-        match AnyCommand::begin(alloc, config, initiator, request) {
+        match begin_any(alloc, config, initiator, request) {
             Ok(command) => self.go_on(alloc, config, command, false),
             Err(OutOfMemory) => Some(Reply::Busy),
         }

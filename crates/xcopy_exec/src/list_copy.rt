@@ -1,22 +1,24 @@
-ghost use Rattle.std.specs.Prelude.{◌≡◌, ◌<◌, ◌≤◌, ◌==◌, length, not, slice_get, Some};
+ghost use Rattle.std.specs.Prelude.{◌≡◌, ◌<◌, ◌≤◌, ◌==◌, length, not, slice_get, Some, IfSome};
 ghost use Rattle.cm_base.specs.Configuration.{Configuration};
 ghost use Rattle.scsi_sense.specs.SenseCode.{SenseCode};
-ghost use Rattle.lba_ranges.specs.HeldBlocks.{HeldBlocks};
 ghost use Rattle.seg_parse.specs.declared.list.Segment.{Segment};
 ghost use Rattle.cm_history.specs.Forms.{AreBlocksOf};
 ghost use Rattle.cm_history.specs.declared.answer.Answer.{Answer};
-ghost use Rattle.cmd_program.specs.Program.{GivesUp, go_on_by};
-ghost use Rattle.cmd_program.specs.Meaning.{reply_of};
+ghost use Rattle.cmd_program.specs.Program.{go_on_by};
 ghost use Rattle.cmd_program.specs.ExtendedCopy.{closing, captured, left_of};
 ghost use Rattle.xcopy_exec.specs.declared.stage.Stage.{Stage};
+ghost use Rattle.std.specs.Option.{option_map};
+ghost use Rattle.cmd_machine.specs.Last.{by_last, IsLastOf};
+ghost use Rattle.cmd_machine.specs.Standing.{standing, IsSoundAt};
 ghost use Rattle.xcopy_exec.specs.Meaning.{by_phase, by_stage, given, given_record, tally, move, ahead, later, IsAhead, IsWithin, IsPutting, IsSoundPhase, move_bytes};
 
-use crate::ended::Ended;
 use crate::open_record::{Counted, OpenRecord};
-use crate::phase::Phase;
+use crate::phase::{CopyCommand, CopyPhase};
 use crate::pieces::{PIECE, Pieces};
-use crate::stage::Stage;
+use crate::stage::{Stage, copy_ended};
 use cm_history::Answer;
+use cmd_machine::{CommandOf, Ended, LastAct};
+use lba_ranges::BlockList;
 use scsi_sense::Sense;
 use seg_parse::{CopyList, Segment};
 
@@ -25,7 +27,7 @@ const NO_RECORD: u8 = 3;
 
 /// The copy of a list that was read, of which so much was done.
 #[derive(Drop)]
-pub(crate) struct ListCopy {
+pub struct ListCopy {
     pub(crate) unit: u16,
     pub(crate) list: CopyList,
     pub(crate) counted: Counted,
@@ -51,17 +53,17 @@ impl ListCopy {
     }
 
     /// The phase after the segments, which a refusal may have ended. It takes no memory.
-    fn ended(self, ended_by: Option<Sense>) -> Phase
-        ensures program { (config : Configuration) → by_phase config result ≡ closing (given self) (tally self.counted) ended_by }
-        ensures sound { (config : Configuration) → self.unit < length config.units → IsSoundPhase config result }
+    pub(crate) fn ended(self, ended_by: Option<Sense>) -> CopyCommand
+        ensures program { (config : Configuration) → standing by_phase config result ≡ closing (given self) (tally self.counted) ended_by }
+        ensures sound { (config : Configuration) → self.unit < length config.units → IsSoundAt IsSoundPhase config result }
     {
         if self.is_recorded() {
-            Phase::Copying(Stage::Closing {
+            CommandOf::At(CopyPhase::Copying(Stage::Closing {
                 record: self.record(),
                 ended_by,
-            })
+            }))
         } else {
-            Phase::Ended(Ended::of_copy(ended_by))
+            CommandOf::Ended(copy_ended(ended_by))
         }
     }
 
@@ -92,82 +94,77 @@ impl ListCopy {
     }
 
     /// The phase in which the next segment is begun. It takes no memory.
-    pub(crate) fn onward(mut self) -> Phase
+    pub(crate) fn onward(mut self) -> CopyCommand
         requires { length self.list.segments ≤ 64 }
-        ensures program { (config : Configuration) → by_phase config result ≡ ahead config self }
-        ensures sound { (config : Configuration) → IsAhead config self → IsSoundPhase config result }
+        ensures program { (config : Configuration) → standing by_phase config result ≡ ahead config self }
+        ensures sound { (config : Configuration) → IsAhead config self → IsSoundAt IsSoundPhase config result }
     {
         self.skip_empty();
         match self.at_hand() {
-            Some(segment) => Phase::Copying(Stage::Capturing {
+            Some(segment) => CommandOf::At(CopyPhase::Copying(Stage::Capturing {
                 copy: self,
                 segment,
-            }),
+            })),
             None => self.ended(None),
         }
     }
 
     /// The phase after the Open was answered. It takes no memory.
-    pub(crate) fn opened(self, answer: Answer) -> Phase
+    pub(crate) fn opened(self, answer: Answer) -> CopyCommand
         requires { length self.list.segments ≤ 64 }
-        ensures program { (config : Configuration) → by_phase config result ≡ go_on_by (by_stage config (Stage.Opening self)) answer }
-        ensures sound { (config : Configuration) → IsAhead config self → IsSoundPhase config result }
+        ensures program { (config : Configuration) → standing by_phase config result ≡ go_on_by (by_stage config (Stage.Opening self)) answer }
+        ensures sound { (config : Configuration) → IsAhead config self → IsSoundAt IsSoundPhase config result }
     {
         match answer {
-            Answer::Refused(sense) => Phase::Ended(Ended::Refused(sense)),
+            Answer::Refused(sense) => CommandOf::Ended(Ended::Refused(sense)),
             _ => self.onward(),
         }
     }
 
-    /// The phase after the Capture of a segment was answered. It takes no memory.
-    pub(crate) fn captured(self, segment: Segment, answer: Answer) -> Phase
+    /// The phase in which the blocks of a segment, which were answered, are put. It takes no memory.
+    pub(crate) fn putting(self, segment: Segment, blocks: BlockList) -> CopyCommand
         requires { 0 < segment.count }
-        ensures program { (config : Configuration) → by_phase config result
-            ≡ captured (given self) (move config self segment) (later config self) (tally self.counted) answer }
+        ensures program { (config : Configuration) → standing by_phase config result
+            ≡ captured (given self) (move config self segment) (later config self) (tally self.counted) (Answer.Blocks blocks) }
         ensures sound { (config : Configuration) → IsWithin config self segment (move_bytes config (move config self segment))
-            → ((blocks : HeldBlocks) → answer ≡ Answer.Blocks blocks → AreBlocksOf config (move config self segment).source segment.count blocks)
-            → IsSoundPhase config result }
+            → AreBlocksOf config (move config self segment).source segment.count blocks → IsSoundAt IsSoundPhase config result }
     {
-        match answer {
-            Answer::Blocks(blocks) => Phase::Copying(Stage::Putting {
-                copy: self,
-                segment,
-                pieces: Pieces {
-                    blocks,
-                    at: 0,
-                    left: (u64::from(segment.count) - 1) / PIECE,
-                },
-            }),
-            Answer::Refused(sense) => self.ended(Some(sense)),
-            _ => Phase::Ended(Ended::Odd),
-        }
+        CommandOf::At(CopyPhase::Copying(Stage::Putting {
+            copy: self,
+            segment,
+            pieces: Pieces {
+                blocks,
+                at: 0,
+                left: (u64::from(segment.count) - 1) / PIECE,
+            },
+        }))
     }
 
     /// The phase after a piece was put, and there may be more. It takes no memory.
-    fn piece_done(mut self, segment: Segment, pieces: Pieces) -> Phase
+    fn piece_done(mut self, segment: Segment, pieces: Pieces) -> CopyCommand
         requires { (config : Configuration) × IsPutting config self segment pieces }
-        ensures program { (answer : Answer) → ((sense : SenseCode) → answer ≡ Answer.Refused sense → ⊥) → (config : Configuration) → by_phase config result
+        ensures program { (answer : Answer) → ((sense : SenseCode) → answer ≡ Answer.Refused sense → ⊥) → (config : Configuration) → standing by_phase config result
             ≡ go_on_by (by_stage config (Stage.Putting self segment pieces)) answer }
-        ensures sound { (config : Configuration) → IsPutting config self segment pieces → IsSoundPhase config result }
+        ensures sound { (config : Configuration) → IsPutting config self segment pieces → IsSoundAt IsSoundPhase config result }
     {
         self.counted.bytes += pieces.count() as u32 * pieces.blocks.block_length();
         if pieces.left == 0 {
             self.counted.segments += 1;
             return self.onward();
         }
-        Phase::Copying(Stage::Putting {
+        CommandOf::At(CopyPhase::Copying(Stage::Putting {
             copy: self,
             segment,
             pieces: pieces.next(),
-        })
+        }))
     }
 
     /// The phase after the Put of a piece was answered. It takes no memory.
-    pub(crate) fn put(self, segment: Segment, pieces: Pieces, answer: Answer) -> Phase
+    pub(crate) fn put(self, segment: Segment, pieces: Pieces, answer: Answer) -> CopyCommand
         requires { (config : Configuration) × IsPutting config self segment pieces }
-        ensures program { (config : Configuration) → by_phase config result
+        ensures program { (config : Configuration) → standing by_phase config result
             ≡ go_on_by (by_stage config (Stage.Putting self segment pieces)) answer }
-        ensures sound { (config : Configuration) → IsPutting config self segment pieces → IsSoundPhase config result }
+        ensures sound { (config : Configuration) → IsPutting config self segment pieces → IsSoundAt IsSoundPhase config result }
     {
         match answer {
             Answer::Refused(sense) => self.ended(Some(sense)),
@@ -175,18 +172,15 @@ impl ListCopy {
         }
     }
 
-    /// The phase in which the copy gives up while its segments are done. It takes no memory.
-    pub(crate) fn given_up(self, full: bool) -> Phase
-        ensures program { (config : Configuration) → by_phase config result ≡ GivesUp (left_of (given self) (tally self.counted)) (reply_of full) }
-        ensures sound { (config : Configuration) → self.unit < length config.units → IsSoundPhase config result }
+    /// What is asked once more if the copy gives up while its segments are done. It takes no memory.
+    pub(crate) fn last(&self) -> Option<LastAct>
+        ensures last { option_map by_last result ≡ left_of (given self.now) (tally self.now.counted) }
+        ensures sound { (config : Configuration) → self.now.unit < length config.units → IfSome result (IsLastOf config) }
     {
         if self.is_recorded() {
-            Phase::Copying(Stage::Terminating {
-                record: self.record(),
-                full,
-            })
+            Some(self.record().terminating())
         } else {
-            Phase::Ended(Ended::GaveUp { full })
+            None
         }
     }
 }

@@ -1,28 +1,28 @@
-ghost use Rattle.std.specs.Prelude.{◌≡◌, ◌<◌, ◌==◌, length, IfOk, if◌then◌else◌};
+ghost use Rattle.std.specs.Prelude.{◌≡◌, ◌<◌, length, IfOk};
 ghost use Rattle.cm_base.specs.Configuration.{Configuration};
-ghost use Rattle.scsi_sense.specs.Codes.{bad_cdb};
 ghost use Rattle.cm_history.specs.declared.act.Act.{Act};
 ghost use Rattle.cm_history.specs.declared.answer.Answer.{Answer};
+ghost use Rattle.cm_history.specs.Forms.{HasKind};
 ghost use Rattle.cmd_program.specs.declared.step.Step.{Step};
 ghost use Rattle.cmd_program.specs.Meaning.{IsWritable};
-ghost use Rattle.cmd_program.specs.Program.{next, refused, ask_then};
+ghost use Rattle.cmd_program.specs.Program.{next, ask_then};
 ghost use Rattle.cmd_program.specs.SingleActs.{told_copy};
 ghost use Rattle.cmd_program.specs.Told.{copy_code};
+ghost use Rattle.cmd_machine.specs.Standing.{standing, IsSoundAt};
 ghost use Rattle.xcopy_exec.specs.Meaning.{by_phase, IsSoundPhase};
 
-use crate::ended::Ended;
-use crate::phase::Phase;
+use crate::phase::{CopyCommand, CopyPhase};
 use cm_base::{OutOfMemory, Payload};
 use cm_frame::Reply;
 use cm_history::{Act, Answer, CopyEnd, CopyState};
+use cmd_machine::{CommandOf, Ended};
 use cmd_program::Step;
 use copy_status::status1;
-use scsi_sense::Sense;
 use std::alloc::Global;
 
 /// How a copy ended is asked for, of which `room` bytes may be told.
 #[derive(Drop)]
-pub(crate) struct Asked {
+pub struct Asked {
     unit: u16,
     id: u8,
     room: u32,
@@ -30,22 +30,17 @@ pub(crate) struct Asked {
 
 /// How a copy ended, of which `room` bytes may be told.
 #[derive(Drop)]
-pub(crate) struct Told {
+pub struct Told {
     room: u32,
     end: CopyEnd,
 }
 
-/// A RECEIVE COPY STATUS(LID1), whose data-out has to be empty. It takes no memory.
-pub(crate) fn begin(unit: u16, id: u8, room: u32, out: &Payload) -> Phase
-    ensures program { (config : Configuration) → by_phase config result
-        ≡ (if length out.now == 0 then ask_then unit (Act.Recall id) (told_copy room) else refused bad_cdb) }
+/// A RECEIVE COPY STATUS(LID1). It takes no memory.
+pub(crate) fn begin(unit: u16, id: u8, room: u32) -> CopyPhase
+    ensures program { (config : Configuration) → by_phase config result ≡ ask_then unit (Act.Recall id) (told_copy room) }
     ensures sound { (config : Configuration) → unit < length config.units → IsSoundPhase config result }
 {
-    if out.len() == 0 {
-        Phase::Recalling(Asked { unit, id, room })
-    } else {
-        Phase::Ended(Ended::Refused(Sense::invalid_field_in_cdb()))
-    }
+    CopyPhase::Recalling(Asked { unit, id, room })
 }
 
 impl Asked {
@@ -60,17 +55,18 @@ impl Asked {
     }
 
     /// The phase after the act was answered.
-    pub(crate) fn after(self, answer: &Answer) -> Phase
-        ensures program { (config : Configuration) → by_phase config result ≡ told_copy self.room answer.now }
-        ensures sound { (config : Configuration) → IsSoundPhase config result }
+    pub(crate) fn after(self, answer: &Answer) -> CopyCommand
+        requires { HasKind (Act.Recall self.id) answer.now }
+        ensures program { (config : Configuration) → standing by_phase config result ≡ told_copy self.room answer.now }
+        ensures sound { (config : Configuration) → IsSoundAt IsSoundPhase config result }
     {
         match answer {
-            Answer::Copy(end) => Phase::Recalled(Told {
+            Answer::Copy(end) => CommandOf::At(CopyPhase::Recalled(Told {
                 room: self.room,
                 end: *end,
-            }),
-            Answer::Refused(sense) => Phase::Ended(Ended::Refused(*sense)),
-            _ => Phase::Ended(Ended::Odd),
+            })),
+            Answer::Refused(sense) => CommandOf::Ended(Ended::Refused(*sense)),
+            _ => unreachable!(),
         }
     }
 }

@@ -1,28 +1,35 @@
-ghost use Rattle.std.specs.Prelude.{◌≡◌, Bool, IfOk, IsOk};
+ghost use Rattle.std.specs.Prelude.{◌≡◌, IfOk, IfSome};
 ghost use Rattle.cm_base.specs.Configuration.{Configuration};
 ghost use Rattle.cm_history.specs.declared.answer.Answer.{Answer};
-ghost use Rattle.cmd_program.specs.Meaning.{reply_of, IsWritable, IsAskable};
-ghost use Rattle.cmd_program.specs.Program.{next, give_up, go_on_by, unless_refused};
+ghost use Rattle.cmd_program.specs.Meaning.{IsWritable, IsAskable, MayFollow};
+ghost use Rattle.cmd_program.specs.Program.{next, go_on_by, unless_refused};
 ghost use Rattle.cmd_program.specs.ExtendedCopy.{end_state, copy_reply};
-ghost use Rattle.xcopy_exec.specs.declared.open_record.OpenRecord.{OpenRecord};
-ghost use Rattle.xcopy_exec.specs.Meaning.{by_phase, by_stage, IsAnswerToStage, IsSoundPhase, IsSoundStage};
+ghost use Rattle.std.specs.Option.{option_map};
+ghost use Rattle.cmd_program.specs.declared.step.Outcome.{Outcome};
+ghost use Rattle.cmd_machine.specs.Ends.{by_ended};
+ghost use Rattle.cmd_machine.specs.Last.{by_last, IsLastOf};
+ghost use Rattle.cmd_machine.specs.Standing.{standing, IsSoundAt, last_ask};
+ghost use Rattle.xcopy_exec.specs.Meaning.{by_phase, by_stage, IsSoundPhase, IsSoundStage};
 
-use crate::ended::Ended;
 use crate::faults::place;
 use crate::list_copy::ListCopy;
 use crate::open_record::OpenRecord;
-use crate::phase::Phase;
+use crate::phase::{CopyCommand, CopyPhase};
 use crate::pieces::Pieces;
 use cm_base::{Config, OutOfMemory};
 use cm_history::{Act, Answer, CopyState};
+use cmd_machine::{CommandOf, Ended, LastAct};
 use cmd_program::Step;
 use scsi_sense::Sense;
 use seg_parse::Segment;
 use std::alloc::Global;
 
+/// SENSE KEY of a copy that was begun and is not done: COPY ABORTED.
+const COPY_ABORTED: u8 = 0x0a;
+
 /// How far an EXTENDED COPY has come.
 #[derive(Drop)]
-pub(crate) enum Stage {
+pub enum Stage {
     /// Its record is to be opened.
     Opening {
         copy: ListCopy,
@@ -43,11 +50,6 @@ pub(crate) enum Stage {
         record: OpenRecord,
         ended_by: Option<Sense>,
     },
-    /// The command gives up, and closes its record first.
-    Terminating {
-        record: OpenRecord,
-        full: bool,
-    },
 }
 
 /// The state of a copy whose segments a refusal may have ended.
@@ -60,14 +62,24 @@ fn end_state(ended_by: &Option<Sense>) -> CopyState
     }
 }
 
+/// The end of a copy whose segments a refusal may have ended.
+pub(crate) fn copy_ended(ended_by: Option<Sense>) -> Ended
+    ensures { by_ended result ≡ copy_reply ended_by }
+{
+    match ended_by {
+        None => Ended::Good,
+        Some(sense) => Ended::Refused(Sense::new(COPY_ABORTED, sense.asc(), sense.ascq())),
+    }
+}
+
 /// The end of a copy whose record was closed.
-fn closed(ended_by: Option<Sense>, answer: Answer) -> Phase
-    ensures program { (config : Configuration) → by_phase config result ≡ unless_refused (copy_reply ended_by) answer }
-    ensures sound { (config : Configuration) → IsSoundPhase config result }
+fn closed(ended_by: Option<Sense>, answer: Answer) -> CopyCommand
+    ensures program { (config : Configuration) → standing by_phase config result ≡ unless_refused (copy_reply ended_by) answer }
+    ensures sound { (config : Configuration) → IsSoundAt IsSoundPhase config result }
 {
     match answer {
-        Answer::Refused(sense) => Phase::Ended(Ended::Refused(sense)),
-        _ => Phase::Ended(Ended::of_copy(ended_by)),
+        Answer::Refused(sense) => CommandOf::Ended(Ended::Refused(sense)),
+        _ => CommandOf::Ended(copy_ended(ended_by)),
     }
 }
 
@@ -77,7 +89,6 @@ impl Stage {
         ensures next { IfOk result (λ s. s ≡ next (by_stage config.now self.now)) }
         ensures asks { IfOk result (λ s. IsAskable config.now s) }
         ensures fits { IfOk result IsWritable }
-        ensures free { (r : OpenRecord) (full : Bool) → self.now ≡ Stage.Terminating r full → IsOk result }
     {
         match self {
             Stage::Opening { copy } => Ok(Step::Do {
@@ -103,42 +114,42 @@ impl Stage {
                 },
             }),
             Stage::Closing { record, ended_by } => Ok(record.close(end_state(ended_by))),
-            Stage::Terminating { record, .. } => Ok(record.close(CopyState::Terminated)),
         }
     }
 
-    /// The phase after an answer. It takes no memory.
-    pub(crate) fn after(self, answer: Answer) -> Phase
-        requires { (config : Configuration) × IsSoundStage config self }
-        ensures program { (config : Configuration) → by_phase config result ≡ go_on_by (by_stage config self) answer }
-        ensures sound { (config : Configuration) → IsSoundStage config self → IsAnswerToStage config self answer
-            → IsSoundPhase config result }
+    /// The command after an answer. It takes no memory.
+    pub(crate) fn after(self, config: &Config, answer: Answer) -> CopyCommand
+        requires sound { IsSoundStage config.now self }
+        requires follows { MayFollow config.now (next (by_stage config.now self)) (Outcome.Answered answer) }
+        ensures program { standing by_phase config.now result ≡ go_on_by (by_stage config.now self) answer }
+        ensures sound { IsSoundAt IsSoundPhase config.now result }
     {
+        let _ = config;
         match self {
             Stage::Opening { copy } => copy.opened(answer),
-            Stage::Capturing { copy, segment } => copy.captured(segment, answer),
+            Stage::Capturing { copy, segment } => match answer {
+                Answer::Blocks(blocks) => copy.putting(segment, blocks),
+                Answer::Refused(sense) => copy.ended(Some(sense)),
+                _ => unreachable!(),
+            },
             Stage::Putting {
                 copy,
                 segment,
                 pieces,
             } => copy.put(segment, pieces, answer),
             Stage::Closing { ended_by, .. } => closed(ended_by, answer),
-            Stage::Terminating { full, .. } => Phase::Ended(Ended::GaveUp { full }),
         }
     }
 
-    /// The phase after an outcome at which the command gives up. It takes no memory.
-    pub(crate) fn given_up(self, full: bool) -> Phase
-        ensures program { (config : Configuration) → by_phase config result
-            ≡ give_up (by_stage config self) (reply_of full) }
-        ensures sound { (config : Configuration) → IsSoundStage config self → IsSoundPhase config result }
+    /// What is asked once more if the command gives up here. It takes no memory.
+    pub(crate) fn last(&self) -> Option<LastAct>
+        ensures last { (config : Configuration) → last_ask (by_stage config self.now) ≡ option_map by_last result }
+        ensures sound { (config : Configuration) → IsSoundStage config self.now → IfSome result (IsLastOf config) }
     {
         match self {
-            Stage::Opening { .. } => Phase::Ended(Ended::GaveUp { full }),
-            Stage::Capturing { copy, .. } => copy.given_up(full),
-            Stage::Putting { copy, .. } => copy.given_up(full),
-            Stage::Closing { record, .. } => { Phase::Copying(Stage::Terminating { record, full }) }
-            Stage::Terminating { full: first, .. } => Phase::Ended(Ended::GaveUp { full: first }),
+            Stage::Opening { .. } => None,
+            Stage::Capturing { copy, .. } | Stage::Putting { copy, .. } => copy.last(),
+            Stage::Closing { record, .. } => Some(record.terminating()),
         }
     }
 }

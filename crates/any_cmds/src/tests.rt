@@ -1,0 +1,6 @@
+// Commands of every kind, driven by outcomes that are made up.
+mod copies;
+mod driving;
+mod plain;
+mod script;
+mod tokens;

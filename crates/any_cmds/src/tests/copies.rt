@@ -1,0 +1,193 @@
+use super::script::{Came, End, GOOD, Seen, plays, tells};
+use cm_base::{Bytes, Payload, set_u16, set_u32, set_u64};
+use scsi_cdb::{Cdb, encode};
+use scsi_sense::Sense;
+use std::alloc::Global;
+use std::test::Fail;
+
+/// The CSCD descriptor of a unit.
+fn cscd(unit: u8) -> [u8; 32] {
+    let mut bytes = [0; 32];
+    bytes[..9].copy_from_slice(b"\xe4\0\0\0\x01\x03\0\x08\x30");
+    bytes[15] = unit;
+    set_u16(&mut bytes, 30, 512);
+    bytes
+}
+
+/// The descriptor of a segment between two CSCDs.
+fn segment(source: u16, destination: u16, count: u16, from: u64, to: u64) -> [u8; 28] {
+    let mut bytes = [0; 28];
+    set_u32(&mut bytes, 0, 0x0200_0018);
+    set_u16(&mut bytes, 4, source);
+    set_u16(&mut bytes, 6, destination);
+    set_u16(&mut bytes, 10, count);
+    set_u64(&mut bytes, 12, from);
+    set_u64(&mut bytes, 20, to);
+    bytes
+}
+
+/// The list of a copy of 1500 blocks from unit 0 to unit 1, and of two blocks back.
+fn copy_list(alloc: Global, usage: u8) -> Result<Payload, Fail> {
+    let mut head = [0; 16];
+    head[0] = 3;
+    head[1] = (usage & 3) << 3;
+    set_u16(&mut head, 2, 64);
+    set_u32(&mut head, 8, 56);
+    let mut list = Bytes::copy(alloc, &head)?;
+    list.extend(&cscd(0))?;
+    list.extend(&cscd(1))?;
+    list.extend(&segment(0, 1, 1500, 7, 100))?;
+    list.extend(&segment(1, 0, 2, 9, 200))?;
+    Ok(Payload::from_vec(list.into_vec())?)
+}
+
+const COPY: Cdb = Cdb::ExtendedCopy { length: 136 };
+
+const OPEN: Seen = Seen::Open { unit: 1, id: 3 };
+
+const CAPTURE: Seen = Seen::Capture {
+    unit: 0,
+    lba: 7,
+    count: 1500,
+};
+
+const CAPTURED: Came = Came::Blocks { count: 1500 };
+
+const FIRST_PUT: Seen = Seen::Put {
+    unit: 1,
+    lba: 100,
+    blocks: 1024,
+    mapped: false,
+};
+
+const SECOND_PUT: Seen = Seen::Put {
+    unit: 1,
+    lba: 1124,
+    blocks: 476,
+    mapped: true,
+};
+
+const CAPTURE_BACK: Seen = Seen::Capture {
+    unit: 1,
+    lba: 9,
+    count: 2,
+};
+
+const PUT_BACK: Seen = Seen::Put {
+    unit: 0,
+    lba: 200,
+    blocks: 2,
+    mapped: false,
+};
+
+/// The record is opened, the segments are copied in order and in pieces, and the record is closed.
+#[test]
+fn two_segments_are_copied(rt: HostRuntime) -> Result<(), Fail> {
+    let close = Seen::Close {
+        end: End::Done,
+        segments: 2,
+        bytes: 769_024,
+    };
+    let script = [
+        (OPEN, Came::Done),
+        (CAPTURE, CAPTURED),
+        (FIRST_PUT, Came::Done),
+        (SECOND_PUT, Came::Done),
+        (CAPTURE_BACK, Came::Blocks { count: 2 }),
+        (PUT_BACK, Came::Done),
+        (close, Came::Done),
+    ];
+    let out = copy_list(rt.alloc(), 0)?;
+    assert!(rt; plays(rt.alloc(), encode(&COPY), out, &script, GOOD)?);
+    Ok(())
+}
+
+/// LIST ID USAGE 11b: no record is opened.
+#[test]
+fn a_copy_may_have_no_record(rt: HostRuntime) -> Result<(), Fail> {
+    let script = [
+        (CAPTURE, CAPTURED),
+        (FIRST_PUT, Came::Done),
+        (SECOND_PUT, Came::Done),
+        (CAPTURE_BACK, Came::Blocks { count: 2 }),
+        (PUT_BACK, Came::Done),
+    ];
+    let out = copy_list(rt.alloc(), 3)?;
+    assert!(rt; plays(rt.alloc(), encode(&COPY), out, &script, GOOD)?);
+    Ok(())
+}
+
+/// A Put that is refused ends the segments, and the record says how far they came.
+#[test]
+fn a_refused_put_ends_the_copy(rt: HostRuntime) -> Result<(), Fail> {
+    let over_quota = Sense::new(0x07, 0x27, 0x07);
+    let close = Seen::Close {
+        end: End::Failed,
+        segments: 0,
+        bytes: 524_288,
+    };
+    let aborted = Seen::Check {
+        key: 0x0a,
+        asc: 0x27,
+        ascq: 0x07,
+    };
+    let script = [
+        (OPEN, Came::Done),
+        (CAPTURE, CAPTURED),
+        (FIRST_PUT, Came::Done),
+        (SECOND_PUT, Came::Refused(over_quota)),
+        (close, Came::Done),
+    ];
+    let out = copy_list(rt.alloc(), 0)?;
+    assert!(rt; plays(rt.alloc(), encode(&COPY), out, &script, aborted)?);
+    Ok(())
+}
+
+/// A copy that gives up closes its record once.
+#[test]
+fn a_record_is_closed_once(rt: HostRuntime) -> Result<(), Fail> {
+    let close = Seen::Close {
+        end: End::Terminated,
+        segments: 0,
+        bytes: 0,
+    };
+    let script = [
+        (OPEN, Came::Done),
+        (CAPTURE, Came::NoMemory),
+        (close, Came::Full),
+    ];
+    let out = copy_list(rt.alloc(), 0)?;
+    assert!(rt; plays(rt.alloc(), encode(&COPY), out, &script, Seen::Busy)?);
+    let unopened = [(OPEN, Came::Full)];
+    let out = copy_list(rt.alloc(), 0)?;
+    assert!(rt; plays(rt.alloc(), encode(&COPY), out, &unopened, Seen::Full)?);
+    Ok(())
+}
+
+/// A list of LIST ID USAGE 01b is refused, and an empty one asks for nothing.
+#[test]
+fn lists_are_judged(rt: HostRuntime) -> Result<(), Fail> {
+    let refused = Seen::Check {
+        key: 0x05,
+        asc: 0x26,
+        ascq: 0x00,
+    };
+    let out = copy_list(rt.alloc(), 1)?;
+    assert!(rt; plays(rt.alloc(), encode(&COPY), out, &[], refused)?);
+    let empty = encode(&Cdb::ExtendedCopy { length: 0 });
+    assert!(rt; plays(rt.alloc(), empty, Payload::new(), &[], GOOD)?);
+    Ok(())
+}
+
+/// A status is cut at the allocation length.
+#[test]
+fn a_status_is_told(rt: HostRuntime) -> Result<(), Fail> {
+    let whole: &[u8; 12] = b"\0\0\0\x08\x01\0\x02\0\0\x0b\xbc\0";
+    for length in [0, 3, 11, 12, 1024] {
+        let cdb = encode(&Cdb::CopyStatus1 { id: 3, length });
+        let recall = (Seen::Recall { unit: 1, id: 3 }, Came::Copied);
+        let cut = whole.len().min(length as usize);
+        assert!(rt; tells(rt.alloc(), cdb, recall, &whole[..cut])?, "{length}");
+    }
+    Ok(())
+}

@@ -1,0 +1,130 @@
+// The steps of a command, by outcomes that its acts can have.
+ghost use Rattle.std.specs.Prelude.{◌≡◌, ℕ, true};
+ghost use Rattle.cm_base.specs.Configuration.{Configuration};
+ghost use Rattle.cm_history.specs.Forms.{HasForm, AreBlocksOf, IsRod, IsReport};
+ghost use Rattle.cmd_program.specs.Meaning.{MayFollow};
+ghost use Rattle.cmd_machine.specs.Standing.{IsSoundAt};
+ghost use Rattle.any_cmds.specs.Meaning.{IsSoundAny, IsCommand};
+
+use crate::{AnyCommand, begin_any};
+use cm_base::Config;
+use cm_frame::Request;
+use cm_history::{Act, Answer, OpReport, OpState};
+use cmd_program::{Outcome, Step};
+use lba_ranges::BlockList;
+use std::alloc::Global;
+use std::test::Fail;
+
+/// The blocks may be what a Read or a Capture is answered.
+fn are_read(config: &Config, unit: u16, count: u32, list: &BlockList) -> bool
+    ensures { result ≡ true → AreBlocksOf config.now unit count list.now }
+{
+    config.is_configured(unit)
+        && config.unit(unit).block_length == list.block_length()
+        && list.blocks() == u64::from(count)
+}
+
+/// The blocks may be what a token is redeemed for.
+fn is_rod(config: &Config, target: u16, rod: &BlockList) -> bool
+    ensures { result ≡ true → IsRod config.now target rod.now }
+{
+    config.is_configured(target)
+        && config.unit(target).block_length == rod.block_length()
+        && rod.blocks() <= 1_048_576
+}
+
+/// The report is one of an operation that made a token.
+fn is_made(report: &OpReport) -> bool
+    ensures { result ≡ true → IsReport report.now }
+{
+    report.populate
+        && report.count <= 1_048_576
+        && matches!(report.state, OpState::Done)
+        && matches!(report.serial, Some(serial) if serial < 1 << 48)
+}
+
+/// The act may be answered in this way, which says nothing more than its kind.
+fn has_kind(act: &Act, answer: &Answer) -> bool
+    ensures { result ≡ true → (config : Configuration) (unit : ℕ) → HasForm config unit act.now answer.now }
+{
+    match (act, answer) {
+        (Act::Pump | Act::Delete { .. }, Answer::Refused(_)) => false,
+        (_, Answer::Refused(_)) => true,
+        (
+            Act::Write { .. }
+            | Act::Put { .. }
+            | Act::Unmap { .. }
+            | Act::Delete { .. }
+            | Act::Abort { .. }
+            | Act::Open { .. }
+            | Act::Close { .. },
+            Answer::Done,
+        ) => true,
+        (Act::Populate { .. }, Answer::Made { .. }) => true,
+        (Act::Start { .. } | Act::Advance { .. } | Act::End { .. }, Answer::Progress { .. }) =>
+            true,
+        (Act::Recall { .. }, Answer::Copy(_)) => true,
+        _ => false,
+    }
+}
+
+/// The answer has the form of those to the act.
+fn has_form(config: &Config, unit: u16, act: &Act, answer: &Answer) -> bool
+    ensures { result ≡ true → HasForm config.now unit act.now answer.now }
+{
+    match (act, answer) {
+        (Act::Read { count, .. } | Act::Capture { count, .. }, Answer::Blocks(list)) => {
+            are_read(config, unit, *count, list)
+        }
+        (Act::MapStatus { .. }, Answer::Status(runs)) => runs.len() <= 64,
+        (Act::Redeem { target, .. }, Answer::Rod(rod)) => is_rod(config, *target, rod),
+        (Act::Report { .. }, Answer::Report(report)) => is_made(report),
+        _ => has_kind(act, answer),
+    }
+}
+
+/// The outcome may come of what the step asks.
+fn may_follow(config: &Config, step: &Step, outcome: &Outcome) -> bool
+    ensures { result ≡ true → MayFollow config.now step.now outcome.now }
+{
+    match (step, outcome) {
+        (Step::Do { unit, act }, Outcome::Answered(answer)) => has_form(config, *unit, act, answer),
+        _ => true,
+    }
+}
+
+/// The next step of a command, which then notes what came of it.
+fn drive(
+    alloc: Global,
+    config: &Config,
+    command: &mut AnyCommand,
+    outcome: Outcome,
+) -> Result<Step, Fail>
+    requires sound { IsSoundAt IsSoundAny config.now command.old }
+    requires stands { IsCommand config.now command.old }
+    ensures sound { IsSoundAt IsSoundAny config.now command.new }
+    ensures stands { IsCommand config.now command.new }
+{
+    let step = command.step(alloc, config)?;
+    if !may_follow(config, &step, &outcome) {
+        return Err(Fail::new("no outcome of the act"));
+    }
+    command.note(config, outcome);
+    Ok(step)
+}
+
+/// The steps of the command of a request, of which that came, and the step behind them.
+pub(super) fn steps(
+    alloc: Global,
+    config: &Config,
+    request: Request,
+    outcomes: Vec<Outcome>,
+) -> Result<Vec<Step>, Fail> {
+    let mut command = begin_any(alloc, config, 7, request)?;
+    let mut steps = Vec::new(alloc);
+    for outcome in outcomes {
+        steps.push(drive(alloc, config, &mut command, outcome)?)?;
+    }
+    steps.push(command.step(alloc, config)?)?;
+    Ok(steps)
+}

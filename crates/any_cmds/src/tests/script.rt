@@ -1,0 +1,319 @@
+// What a command does in turn, in short.
+use super::driving::steps;
+use cm_base::{Config, Payload, UnitConfig, UnitList};
+use cm_frame::{Reply, Request};
+use cm_history::{Act, Answer, CopyEnd, CopyState, OpReport, OpState};
+use cmd_program::{Outcome, Step};
+use lba_ranges::{BlockList, Fill, Piece};
+use scsi_sense::Sense;
+use std::alloc::Global;
+use std::test::Fail;
+
+/// How a closed record says that its copy ended.
+#[derive(Debug, Drop, Clone, Copy, PartialEq, Eq)]
+pub(super) enum End {
+    Running,
+    Done,
+    Failed,
+    Terminated,
+}
+
+/// What a command does.
+#[derive(Debug, Drop, Clone, Copy, PartialEq, Eq)]
+pub(super) enum Seen {
+    Populate {
+        id: u32,
+        timeout: u32,
+        blocks: u64,
+    },
+    Redeem {
+        unit: u16,
+        target: u16,
+    },
+    Start {
+        background: bool,
+        blocks: u64,
+        mapped: bool,
+    },
+    Advance {
+        id: u32,
+    },
+    End {
+        id: u32,
+    },
+    Delete {
+        unit: u16,
+        serial: u64,
+    },
+    Abort {
+        id: u32,
+    },
+    Report {
+        id: u32,
+    },
+    Open {
+        unit: u16,
+        id: u8,
+    },
+    Capture {
+        unit: u16,
+        lba: u64,
+        count: u32,
+    },
+    Put {
+        unit: u16,
+        lba: u64,
+        blocks: u64,
+        mapped: bool,
+    },
+    Close {
+        end: End,
+        segments: u16,
+        bytes: u32,
+    },
+    Recall {
+        unit: u16,
+        id: u8,
+    },
+    OtherAct,
+    Good {
+        bytes: usize,
+    },
+    Check {
+        key: u8,
+        asc: u8,
+        ascq: u8,
+    },
+    Full,
+    Busy,
+}
+
+/// GOOD without data.
+pub(super) const GOOD: Seen = Seen::Good { bytes: 0 };
+
+/// What comes of an act.
+#[derive(Drop, Clone, Copy)]
+pub(super) enum Came {
+    Done,
+    Made,
+    /// The blocks of a token: so many, of which only the fifth is mapped.
+    Rod { blocks: u32 },
+    Progress(OpState),
+    /// Of a POPULATE TOKEN of three blocks.
+    Report,
+    /// So many blocks, of which only that behind the first 1024 is mapped.
+    Blocks { count: u32 },
+    /// The copy of two segments, 769,024 bytes, is done.
+    Copied,
+    Refused(Sense),
+    Full,
+    NoMemory,
+}
+
+/// The bytes of a block.
+const BLOCK: [u8; 512] = [0x5a; 512];
+
+/// Two units of 4096 blocks of 512 bytes.
+fn two_units(alloc: Global) -> Result<Config, Fail> {
+    let unit = UnitConfig {
+        blocks: 4096,
+        block_length: 512,
+        entries: 16,
+        quota: 4096,
+        payload: 65_536,
+        group: 0,
+    };
+    let units = UnitList::copy(alloc, &[unit, unit])?;
+    Ok(Config::new([7; 32], units))
+}
+
+/// So many blocks, of which only that behind these first ones is mapped.
+fn blocks(alloc: Global, first: u32, count: u32) -> Result<BlockList, Fail> {
+    let mut list = BlockList::empty(alloc, 512);
+    list.push(Piece {
+        count: count.min(first),
+        fill: Fill::Hole,
+    })?;
+    if count > first {
+        list.push(Piece {
+            count: 1,
+            fill: Fill::Bytes(Payload::from_static(&BLOCK)),
+        })?;
+        list.push(Piece {
+            count: count - first - 1,
+            fill: Fill::Hole,
+        })?;
+    }
+    Ok(list)
+}
+
+fn outcome_of(alloc: Global, came: Came) -> Result<Outcome, Fail> {
+    let answer = match came {
+        Came::Done => Answer::Done,
+        Came::Made => Answer::Made { serial: 5 },
+        Came::Rod { blocks: count } => Answer::Rod(blocks(alloc, 4, count)?),
+        Came::Progress(state) => Answer::Progress { state, count: 0 },
+        Came::Report => Answer::Report(OpReport {
+            populate: true,
+            background: false,
+            state: OpState::Done,
+            count: 3,
+            serial: Some(5),
+        }),
+        Came::Blocks { count } => Answer::Blocks(blocks(alloc, 1024, count)?),
+        Came::Copied => Answer::Copy(CopyEnd {
+            state: CopyState::Done,
+            segments: 2,
+            bytes: 769_024,
+        }),
+        Came::Refused(sense) => Answer::Refused(sense),
+        Came::Full => return Ok(Outcome::Full),
+        Came::NoMemory => return Ok(Outcome::NoMemory),
+    };
+    Ok(Outcome::Answered(answer))
+}
+
+fn end_of(state: CopyState) -> End {
+    match state {
+        CopyState::Running => End::Running,
+        CopyState::Done => End::Done,
+        CopyState::Failed => End::Failed,
+        CopyState::Terminated => End::Terminated,
+    }
+}
+
+/// What a command with tokens asks for.
+fn seen_token_act(unit: u16, act: &Act) -> Seen {
+    match act {
+        Act::Populate {
+            id,
+            timeout,
+            ranges,
+        } => Seen::Populate {
+            id: *id,
+            timeout: *timeout,
+            blocks: ranges.total(),
+        },
+        Act::Redeem { target, .. } => Seen::Redeem {
+            unit,
+            target: *target,
+        },
+        Act::Start {
+            background,
+            rod,
+            ..
+        } => Seen::Start {
+            background: *background,
+            blocks: rod.blocks(),
+            mapped: rod.held(0).is_some(),
+        },
+        Act::Advance { id } => Seen::Advance { id: *id },
+        Act::End { id } => Seen::End { id: *id },
+        Act::Delete { serial } => Seen::Delete {
+            unit,
+            serial: *serial,
+        },
+        Act::Abort { id } => Seen::Abort { id: *id },
+        Act::Report { id } => Seen::Report { id: *id },
+        _ => Seen::OtherAct,
+    }
+}
+
+/// What a copy of segments asks for, and else what a command with tokens does.
+fn seen_act(unit: u16, act: &Act) -> Seen {
+    match act {
+        Act::Open { id } => Seen::Open { unit, id: *id },
+        Act::Capture { lba, count } => Seen::Capture {
+            unit,
+            lba: *lba,
+            count: *count,
+        },
+        Act::Put { lba, list } => Seen::Put {
+            unit,
+            lba: *lba,
+            blocks: list.blocks(),
+            mapped: list.held(0).is_some(),
+        },
+        Act::Close { id: 3, result } => Seen::Close {
+            end: end_of(result.state),
+            segments: result.segments,
+            bytes: result.bytes,
+        },
+        Act::Recall { id } => Seen::Recall { unit, id: *id },
+        other => seen_token_act(unit, other),
+    }
+}
+
+fn seen_reply(reply: &Reply) -> Seen {
+    match reply {
+        Reply::Good(data) => Seen::Good { bytes: data.len() },
+        Reply::Check(sense) => Seen::Check {
+            key: sense.key(),
+            asc: sense.asc(),
+            ascq: sense.ascq(),
+        },
+        Reply::Full => Seen::Full,
+        Reply::Busy => Seen::Busy,
+    }
+}
+
+fn seen_of(step: &Step) -> Seen {
+    match step {
+        Step::Do { unit, act } => seen_act(*unit, act),
+        Step::Done(reply) => seen_reply(reply),
+    }
+}
+
+/// The steps of a command of unit 1, of whose acts that came, and its step behind them.
+fn played(
+    alloc: Global,
+    cdb: [u8; 16],
+    out: Payload,
+    script: &[(Seen, Came)],
+) -> Result<Vec<Step>, Fail> {
+    let config = two_units(alloc)?;
+    let request = Request { unit: 1, cdb, out };
+    let mut outcomes = Vec::new(alloc);
+    for row in script {
+        let (_, came) = *row;
+        outcomes.push(outcome_of(alloc, came)?)?;
+    }
+    steps(alloc, &config, request, outcomes)
+}
+
+/// A command of unit 1 does these things in turn, of which that came, and then the last.
+pub(super) fn plays(
+    alloc: Global,
+    cdb: [u8; 16],
+    out: Payload,
+    script: &[(Seen, Came)],
+    last: Seen,
+) -> Result<bool, Fail> {
+    let steps = played(alloc, cdb, out, script)?;
+    for (place, step) in steps.iter().enumerate() {
+        let wanted = match script.get(place) {
+            Some(row) => row.0,
+            None => last,
+        };
+        if seen_of(step) != wanted {
+            return Ok(false);
+        }
+    }
+    Ok(true)
+}
+
+/// A command of unit 1 asks this, of which that came, and then it is GOOD with these bytes.
+pub(super) fn tells(
+    alloc: Global,
+    cdb: [u8; 16],
+    asked: (Seen, Came),
+    bytes: &[u8],
+) -> Result<bool, Fail> {
+    let steps = played(alloc, cdb, Payload::new(), &[asked])?;
+    Ok(match steps.as_slice() {
+        [first, Step::Done(Reply::Good(data))] => {
+            seen_of(first) == asked.0 && data.as_slice() == bytes
+        }
+        _ => false,
+    })
+}

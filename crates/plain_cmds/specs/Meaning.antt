@@ -1,0 +1,30 @@
+-- Which program a command of one act at most that has come so far stands for
+use Rattle.std.specs.Prelude.{◌≤◌, length}
+use Rattle.cm_base.specs.Configuration.{Configuration}
+use Rattle.cm_frame.specs.Grammar.{data_limit}
+use Rattle.cm_history.specs.declared.act.Act.{Act}
+use Rattle.cm_history.specs.declared.answer.Answer.{Answer}
+use Rattle.cmd_program.specs.Meaning.{IsAskedOf, FitsReply, AreTold}
+use Rattle.cmd_program.specs.Program.{Program, good, ask_then}
+use Rattle.cmd_program.specs.SingleActs.{act_alone, told_read, told_map}
+use Rattle.plain_cmds.specs.declared.phase.PlainPhase.{PlainPhase}
+
+-- what is left of the program
+abbrev pub by_phase : Configuration → PlainPhase → Program
+by_phase config (PlainPhase.Reading unit lba count) = ask_then unit (Act.Read lba count) told_read
+by_phase config (PlainPhase.Read list) = told_read (Answer.Blocks list)
+by_phase config (PlainPhase.Writing unit lba list) = act_alone unit (Act.Write lba list)
+by_phase config (PlainPhase.Unmapping unit ranges) = act_alone unit (Act.Unmap ranges)
+by_phase config (PlainPhase.Mapping unit lba room) = ask_then unit (Act.MapStatus lba) (told_map room)
+by_phase config (PlainPhase.Mapped room runs) = told_map room (Answer.Status runs)
+by_phase config (PlainPhase.Told bytes) = good bytes
+
+-- what is asked may be asked, and what was answered may be told
+abbrev pub IsSoundPhase : Configuration → PlainPhase → Type 0
+IsSoundPhase config (PlainPhase.Reading unit lba count) = IsAskedOf config unit (Act.Read lba count)
+IsSoundPhase config (PlainPhase.Writing unit lba list) = IsAskedOf config unit (Act.Write lba list)
+IsSoundPhase config (PlainPhase.Unmapping unit ranges) = IsAskedOf config unit (Act.Unmap ranges)
+IsSoundPhase config (PlainPhase.Mapping unit lba room) = IsAskedOf config unit (Act.MapStatus lba)
+IsSoundPhase config (PlainPhase.Read list) = FitsReply list
+IsSoundPhase config (PlainPhase.Mapped room runs) = AreTold runs
+IsSoundPhase config (PlainPhase.Told bytes) = length bytes ≤ data_limit

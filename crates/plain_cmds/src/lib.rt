@@ -1,0 +1,10 @@
+// Commands that ask for one act at most.
+#![tactic(auto)]
+
+mod blocks;
+mod fixed;
+mod map_status;
+mod phase;
+mod unmap;
+
+pub use phase::{Command, PlainPhase};
