@@ -106,7 +106,7 @@ same-past : (config : Configuration) (entries : List Entry) (u : ℕ) → acting
 same-past config entries u = past_of-on config u entries
 
 same-ends : (config : Configuration) (entries : List Entry) (u : ℕ) (actor : Actor) (act : Act)
-    → acting.ends_operation (its config entries u) actor act ≡ ends_operation config entries actor u act
+    → acting.ends_operation_at (its config entries u) actor act ≡ ends_operation config entries actor u act
 same-ends config entries u actor (Act.End id) = rw (same-past config entries u) refl
 same-ends config entries u actor (Act.Abort id) = rw (same-past config entries u) refl
 same-ends config entries u actor (Act.Close id result) = rw (same-past config entries u) refl
@@ -149,10 +149,10 @@ module _ (config : Configuration) (entries : List Entry) (units : Units) (u : �
   form-is found has = subst (λ (v : unit.Standing). HasForm v.config v.unit act found) is-its has
 
   pub refuses : (refused : ActRefused) → (refused ≡ ActRefused.Full → acting.is_full_at value actor units.stamp act ≡ true)
-      → (refused ≡ ActRefused.OutOfMemory → acting.ends_operation value actor act ≡ false) → Refuses config entries u actor act refused
+      → (refused ≡ ActRefused.OutOfMemory → acting.ends_operation_at value actor act ≡ false) → Refuses config entries u actor act refused
   refuses ActRefused.Full full ends = sym same-full ∙ full refl
   refuses ActRefused.OutOfMemory full ends =
-      sym (same-ends config entries u actor act) ∙ sym (ap (λ v. acting.ends_operation v actor act) is-its) ∙ ends refl
+      sym (same-ends config entries u actor act) ∙ sym (ap (λ v. acting.ends_operation_at v actor act) is-its) ∙ ends refl
 
   -- the unit is as it was
   pub done-refused : (units' : Units) (value' : unit.Standing) → units'.units.items ≡ slice_set units.units.items u value' → units'.stamp ≡ units.stamp
