@@ -10,7 +10,6 @@ use Rattle.cm_frame.specs.declared.frame.Reply.{Reply}
 use Rattle.cm_frame.specs.declared.item.TraceItem.{TraceItem}
 use Rattle.cm_frame.specs.Grammar.{reply_bytes}
 use Rattle.cm_frame.specs.Reading.{read_item}
-use Rattle.cm_frame.proofs.Within.{UsesWithin, item-within}
 use Rattle.cmd_program.specs.declared.step.Step.{Step}
 use Rattle.cmd_program.specs.Meaning.{IsOfLength}
 use Rattle.cmd_program.specs.Judging.{step}
@@ -88,9 +87,6 @@ room-of s few = record {
   full = omega (arith, few.items, few.replies, count_by-le-length (λ (r : Record). is_task_set_full r.reply) s.replies);
   bytes = omega (arith, few.items, few.bytes);
 }
-
-pub used-within : (bytes : List ℕ) (item : TraceItem) (used : ℕ) → read_item bytes ≡ Whole item used → used ≤ length bytes
-used-within bytes item used e = (subst (UsesWithin (length bytes)) e (item-within bytes).uses).1
 
 -- ---- how things stand behind an item
 
@@ -171,7 +167,6 @@ module _ (left rest taken given : Option (List ℕ)) (p : Player) (is : IsAt lef
       pulled = is.loop.pulled;
       marks = is.loop.marks ++ marks_of item h.mark;
       consumed = is.loop.consumed;
-      header = is.loop.header;
       stands = stood;
       legal = h.standing.units.done.legal;
       written = written;

@@ -10,8 +10,8 @@ use Rattle.cm_frame.specs.Laws.{IsJudged}
 use Rattle.cm_frame.proofs.Stays.{header-stays}
 use Rattle.cm_frame.specs.Reading.{read_header, read_item}
 use Rattle.cm_history.specs.Legal.{IsLegal}
-use Rattle.trace_replay.proofs.Legally.{legal-none, legal-by, history-at}
-use Rattle.trace_replay.specs.Items.{Done, BadRecord, Records, BadHeader, Torn, items_limit}
+use Rattle.trace_replay.proofs.Legally.{legal-none, legal-by, history-at, header-more, first-none}
+use Rattle.trace_replay.specs.Items.{Done, Records, BadHeader, Torn, items_limit}
 use Rattle.trace_replay.specs.Standing.{at_first}
 use Rattle.trace_replay.specs.Played.{never_began, played_after}
 use Rattle.trace_replay.specs.Marks.{allowed_after}
@@ -26,9 +26,9 @@ use Rattle.trace_replay.specs.Standing.{Pending, Standing, Mark, NoMark, next, n
 use Rattle.trace_replay.specs.Played.{Played, played, played_from, mark_for, marks_behind, output_of, summary_of}
 use Rattle.trace_replay.specs.Marks.{allowed_at_act, allowed_at_run, is_allowed, are_allowed, may_mark, met_want}
 use Rattle.cm_base.specs.Outside.{IsBeginning}
-use Rattle.trace_replay.specs.Replayed.{IsInput, IsAnswer, IsCompleteBy, Replayed}
-use Rattle.trace_replay.specs.Laws.{StandsAt, LoopStands, MarksTell, known}
-use Rattle.trace_replay.proofs.Steps.{play-unfit, play-bad, play-torn, play-done, play-records}
+use Rattle.trace_replay.specs.Replayed.{IsInput, IsReadSo, IsAnswer, HasPlayedFirst, IsCompleteBy, Replayed}
+use Rattle.trace_replay.specs.Laws.{StandsAt, HasHeader, LoopStands, MarksTell, known}
+use Rattle.trace_replay.proofs.Steps.{play-torn, play-done, play-records}
 use Rattle.trace_replay.proofs.Grows.{output-grows}
 
 -- ---- no mark is always allowed
@@ -47,7 +47,7 @@ no-mark-allowed step config s (TraceItem.Begin i m r) = refl
 no-mark-allowed step config s (TraceItem.Run i m) = no-mark-at-run step config s (waiting i s.pending)
 no-mark-allowed step config s (TraceItem.Pump u m) = refl
 
-none-behind : (item : TraceItem) → marks_behind item [] ≡ []
+pub none-behind : (item : TraceItem) → marks_behind item [] ≡ []
 none-behind (TraceItem.Begin i m r) = refl
 none-behind (TraceItem.Run i m) = refl
 none-behind (TraceItem.Pump u m) = refl
@@ -65,38 +65,67 @@ none-allowed step config s (x ∷ xs) =
 
 -- ---- the whole input, from how things stand
 
+all-more : (pulled buffered more front : List ℕ) → front ++ buffered ≡ pulled → pulled ++ more ≡ front ++ (buffered ++ more)
+all-more pulled buffered more front all = ap (λ l. l ++ more) (sym all) ∙ append_assoc front buffered more
+
 pub plays-all : (step : Stepping) (config : Configuration) (pulled : List ℕ) (marks : List Mark) (s : Standing) (n place : ℕ) (buffered more : List ℕ)
     → StandsAt step config pulled marks s n place buffered → played step (pulled ++ more) marks ≡ played_from step config s n place (buffered ++ more) []
 plays-all step config pulled marks s n place buffered more stands =
-    ap (played step (pulled ++ more)) (sym (append-nil marks)) ∙ stands.plays more []
+    ap (λ l. played step l marks) (all-more pulled buffered more stands.front stands.all)
+    ∙ ap (played step (stands.front ++ (buffered ++ more))) (sym (append-nil marks)) ∙ stands.plays (buffered ++ more) []
 
 pub may-all : (step : Stepping) (config : Configuration) (pulled : List ℕ) (marks : List Mark) (s : Standing) (n place : ℕ) (buffered more : List ℕ)
     → StandsAt step config pulled marks s n place buffered → may_mark step (pulled ++ more) marks ≡ true
 may-all step config pulled marks s n place buffered more stands =
-    ap (may_mark step (pulled ++ more)) (sym (append-nil marks)) ∙ stands.may more []
+    ap (λ l. may_mark step l marks) (all-more pulled buffered more stands.front stands.all)
+    ∙ ap (may_mark step (stands.front ++ (buffered ++ more))) (sym (append-nil marks)) ∙ stands.may (buffered ++ more) []
     ∙ none-allowed step config s (trace_of n place (buffered ++ more)).items
+
+-- the items so far alone, which are a legal history, and of whose output a beginning was pushed
+pub played-first : (step : Stepping) (config : Configuration) (pulled : List ℕ) (marks : List Mark) (s : Standing) (n place : ℕ) (buffered pushed : List ℕ)
+    → StandsAt step config pulled marks s n place buffered → IsLegal config s.entries → IsBeginning pushed (output_of s)
+    → HasPlayedFirst step pulled marks pushed
+played-first step config pulled marks s n place buffered pushed stands legal begins = record {
+  front = stands.front;
+  begins = (buffered, stands.all);
+  legal = history-at config stands.front s (played step stands.front marks) stands.header legal alone;
+  output = subst (λ t. IsBeginning pushed (output_of t)) (sym alone) begins;
+}
+  where
+    alone : (played step stands.front marks).standing ≡ s
+    alone =
+        ap (λ (p : Played). p.standing)
+        (ap (λ l. played step l marks) (sym (append-nil stands.front)) ∙ ap (played step (stands.front ++ [])) (sym (append-nil marks))
+        ∙ stands.plays [] [] ∙ play-done step config s n place [])
+
+-- the header is that of all bytes
+header-all : (step : Stepping) (config : Configuration) (pulled : List ℕ) (marks : List Mark) (s : Standing) (n place : ℕ) (buffered more : List ℕ)
+    → StandsAt step config pulled marks s n place buffered → HasHeader config (pulled ++ more)
+header-all step config pulled marks s n place buffered more stands =
+    header-more config pulled more (subst (HasHeader config) stands.all (header-more config stands.front buffered stands.header))
 
 pub complete-by : (step : Stepping) (bytes : List ℕ) (marks : List Mark) (pushed : List ℕ) (answer : Result Summary ReplayFault)
     → MarksTell step → may_mark step bytes marks ≡ true → IsAnswer (played step bytes marks) pushed answer
     → IsCompleteBy (played step bytes []) (played step bytes marks) pushed answer
 complete-by step bytes marks pushed answer tells may is = go answer is (tells bytes marks may)
   where
+    by : (a : Result Summary ReplayFault) → IsAnswer (played step bytes marks) pushed a
+        → ((played step bytes marks ≡ played step bytes []) ⊎ IsTrue (met_want (played step bytes marks).standing))
+        → IsAnswer (played step bytes []) pushed a ⊎ IsTrue (met_want (played step bytes marks).standing)
+    by a i (inl e) = inl (subst (λ p. IsAnswer p pushed a) e i)
+    by a i (inr w) = inr w
+
     go : (a : Result Summary ReplayFault) → IsAnswer (played step bytes marks) pushed a
         → ((played step bytes marks ≡ played step bytes []) ⊎ IsTrue (met_want (played step bytes marks).standing))
         → IsCompleteBy (played step bytes []) (played step bytes marks) pushed a
-    go (Err ReadFault) i t = tt
     go (Err WriteFault) i t = tt
     go (Err OutOfMemory) i t = tt
-    go (Ok x) i (inl e) = λ _. inl (subst (λ p. IsAnswer p pushed (Ok x)) e i)
-    go (Ok x) i (inr w) = λ _. inr w
-    go (Err (ReplayFault.Torn p)) i (inl e) = λ _. inl (subst (λ q. IsAnswer q pushed (Err (ReplayFault.Torn p))) e i)
-    go (Err (ReplayFault.Torn p)) i (inr w) = λ _. inr w
-    go (Err (ReplayFault.BadHeader p)) i (inl e) = λ _. inl (subst (λ q. IsAnswer q pushed (Err (ReplayFault.BadHeader p))) e i)
-    go (Err (ReplayFault.BadHeader p)) i (inr w) = λ _. inr w
-    go (Err (ReplayFault.BadRecord p)) i (inl e) = λ _. inl (subst (λ q. IsAnswer q pushed (Err (ReplayFault.BadRecord p))) e i)
-    go (Err (ReplayFault.BadRecord p)) i (inr w) = λ _. inr w
-    go (Err ReplayFault.Records) i (inl e) = λ _. inl (subst (λ q. IsAnswer q pushed (Err ReplayFault.Records)) e i)
-    go (Err ReplayFault.Records) i (inr w) = λ _. inr w
+    go (Ok x) i t = by (Ok x) i t
+    go (Err ReadFault) i t = by (Err ReadFault) i t
+    go (Err (ReplayFault.Torn p)) i t = by (Err (ReplayFault.Torn p)) i t
+    go (Err (ReplayFault.BadHeader p)) i t = by (Err (ReplayFault.BadHeader p)) i t
+    go (Err (ReplayFault.BadRecord p)) i t = by (Err (ReplayFault.BadRecord p)) i t
+    go (Err ReplayFault.Records) i t = by (Err ReplayFault.Records) i t
 
 -- ---- the exits
 
@@ -105,22 +134,27 @@ pub exit-at : (step : Stepping) (left rest taken given : Option (List ℕ)) (con
     (s : Standing) (n place : ℕ) (buffered more : List ℕ) (ending : Ending) (answer : Result Summary ReplayFault)
     → MarksTell step → LoopStands step left rest taken given config pulled marks s n place buffered
     → played_from step config s n place (buffered ++ more) [] ≡ record { standing = s; ending = ending }
-    → IsInput left rest (pulled ++ more) answer → IsAnswer (record { standing = s; ending = ending }) (output_of s) answer
+    → IsInput left pulled (pulled ++ more) answer → IsReadSo rest answer → IsAnswer (record { standing = s; ending = ending }) (output_of s) answer
     → Replayed step left rest taken given answer
-exit-at step left rest taken given config pulled marks s n place buffered more ending answer tells loop ends input is =
+exit-at step left rest taken given config pulled marks s n place buffered more ending answer tells loop ends input read is =
     let may = may-all step config pulled marks s n place buffered more loop.stands in
     let all = plays-all step config pulled marks s n place buffered more loop.stands ∙ ends in
     let told : IsAnswer (played step (pulled ++ more) marks) (output_of s) answer = subst (λ p. IsAnswer p (output_of s) answer) (sym all) is in
     record {
       bytes = pulled ++ more;
       marks = marks;
+      pulled = pulled;
       pushed = output_of s;
       input = input;
+      consumed = loop.consumed;
+      read = read;
       output = loop.written;
       allowed = may;
       ending = told;
-      legal = legal-by (pulled ++ more) (played step (pulled ++ more) marks) answer
-          (history-at config pulled more s (played step (pulled ++ more) marks) loop.header loop.legal (ap (λ (p : Played). p.standing) all));
+      legal = legal-by step (pulled ++ more) pulled marks (output_of s) answer
+          (history-at config (pulled ++ more) s (played step (pulled ++ more) marks)
+          (header-all step config pulled marks s n place buffered more loop.stands) loop.legal (ap (λ (p : Played). p.standing) all))
+          (played-first step config pulled marks s n place buffered (output_of s) loop.stands loop.legal ([], append-nil (output_of s)));
       complete = complete-by step (pulled ++ more) marks (output_of s) answer tells may told;
     }
 
@@ -145,24 +179,30 @@ all-input (Some x) (Some y) pulled c = sym c
 pub exit-early : (step : Stepping) (left rest taken given : Option (List ℕ)) (config : Configuration) (pulled : List ℕ) (marks : List Mark)
     (s : Standing) (n place : ℕ) (buffered pushed : List ℕ) (answer : Result Summary ReplayFault)
     → (answer ≡ Err WriteFault) ⊎ (answer ≡ Err OutOfMemory)
-    → Consumes left rest pulled → StandsAt step config pulled marks s n place buffered
+    → Consumes left rest pulled → StandsAt step config pulled marks s n place buffered → IsLegal config s.entries
     → IsBeginning pushed (output_of s) → Appends taken given pushed
     → Replayed step left rest taken given answer
-exit-early step left rest taken given config pulled marks s n place buffered pushed answer why consumed stands begins written = go why
+exit-early step left rest taken given config pulled marks s n place buffered pushed answer why consumed stands legal begins written = go why
   where
     begun : IsBeginning pushed (output_of (played step (pulled ++ known rest) marks).standing)
     begun = begun-at step config pulled marks s n place buffered (known rest) pushed stands begins
+
+    first : HasPlayedFirst step pulled marks pushed
+    first = played-first step config pulled marks s n place buffered pushed stands legal begins
 
     write : Replayed step left rest taken given (Err WriteFault)
     write = record {
       bytes = pulled ++ known rest;
       marks = marks;
+      pulled = pulled;
       pushed = pushed;
       input = all-input left rest pulled consumed;
+      consumed = consumed;
+      read = tt;
       output = written;
       allowed = may-all step config pulled marks s n place buffered (known rest) stands;
       ending = begun;
-      legal = tt;
+      legal = first;
       complete = tt;
     }
 
@@ -170,12 +210,15 @@ exit-early step left rest taken given config pulled marks s n place buffered pus
     memory = record {
       bytes = pulled ++ known rest;
       marks = marks;
+      pulled = pulled;
       pushed = pushed;
       input = all-input left rest pulled consumed;
+      consumed = consumed;
+      read = tt;
       output = written;
       allowed = may-all step config pulled marks s n place buffered (known rest) stands;
       ending = begun;
-      legal = tt;
+      legal = first;
       complete = tt;
     }
 
@@ -202,21 +245,25 @@ pub header-torn : (step : Stepping) (bytes : List ℕ) → read_header bytes ≡
 header-torn step bytes e = ap (λ p. played_after step p bytes []) e
 
 -- the header is no header, or the input ends in it, or a pull fails there
-pub exit-header : (step : Stepping) (left rest taken given : Option (List ℕ)) (bytes : List ℕ) (ending : Ending) (answer : Result Summary ReplayFault)
-    → MarksTell step → played step bytes [] ≡ never_began ending → IsInput left rest bytes answer → Appends taken given []
-    → IsAnswer (never_began ending) [] answer → Replayed step left rest taken given answer
-exit-header step left rest taken given bytes ending answer tells ends input written is =
+pub exit-header : (step : Stepping) (left rest taken given : Option (List ℕ)) (bytes pulled : List ℕ) (ending : Ending) (answer : Result Summary ReplayFault)
+    → MarksTell step → played step bytes [] ≡ never_began ending → IsInput left pulled bytes answer → Consumes left rest pulled → IsReadSo rest answer
+    → Appends taken given [] → IsAnswer (never_began ending) [] answer → Replayed step left rest taken given answer
+exit-header step left rest taken given bytes pulled ending answer tells ends input consumed read written is =
     let told : IsAnswer (played step bytes []) [] answer = subst (λ p. IsAnswer p [] answer) (sym ends) is in
     record {
       bytes = bytes;
       marks = [];
+      pulled = pulled;
       pushed = [];
       input = input;
+      consumed = consumed;
+      read = read;
       output = written;
       allowed = none-may step bytes;
       ending = told;
-      legal = legal-by bytes (played step bytes []) answer
-          (λ config used header. subst (λ (p : Played). IsLegal config p.standing.entries) (sym ends) (legal-none config));
+      legal = legal-by step bytes pulled [] [] answer
+          (λ config used header. subst (λ (p : Played). IsLegal config p.standing.entries) (sym ends) (legal-none config))
+          (first-none step pulled []);
       complete = complete-by step bytes [] [] answer tells (none-may step bytes) told;
     }
 
@@ -226,12 +273,15 @@ pub memory-header : (step : Stepping) (left rest taken given : Option (List ℕ)
 memory-header step left rest taken given pulled consumed written = record {
   bytes = pulled ++ known rest;
   marks = [];
+  pulled = pulled;
   pushed = [];
   input = all-input left rest pulled consumed;
+  consumed = consumed;
+  read = tt;
   output = written;
   allowed = none-may step (pulled ++ known rest);
   ending = (output_of (played step (pulled ++ known rest) []).standing, refl);
-  legal = tt;
+  legal = first-none step pulled [];
   complete = tt;
 }
 
@@ -248,7 +298,7 @@ pub exit-done : (step : Stepping) (left rest taken given : Option (List ℕ)) (c
 exit-done step left rest taken given config pulled marks s n place tells loop end =
     exit-at step left rest taken given config pulled marks s n place [] (known rest) Done (Ok (summary_of s)) tells loop
     (ap (λ l. played_from step config s n place l []) (known-none rest end) ∙ play-done step config s n place [])
-    (all-input left rest pulled loop.consumed) ((refl, refl), refl)
+    (all-input left rest pulled loop.consumed) end ((refl, refl), refl)
 
 -- in an item the input is at its end
 pub exit-torn : (step : Stepping) (left rest taken given : Option (List ℕ)) (config : Configuration) (pulled : List ℕ) (marks : List Mark) (s : Standing) (n place b : ℕ) (bs : List ℕ)
@@ -258,23 +308,7 @@ exit-torn step left rest taken given config pulled marks s n place b bs tells lo
     exit-at step left rest taken given config pulled marks s (suc n) place (b ∷ bs) (known rest) (Torn place) (Err (ReplayFault.Torn place)) tells loop
     (ap (λ l. played_from step config s (suc n) place (b ∷ bs ++ l) []) (known-none rest end)
     ∙ ap (λ l. played_from step config s (suc n) place (b ∷ l) []) (append-nil bs) ∙ play-torn step config s n place b bs [] short)
-    (all-input left rest pulled loop.consumed) (refl, refl)
-
--- an unknown kind, or too much data
-pub exit-bad : (step : Stepping) (left rest taken given : Option (List ℕ)) (config : Configuration) (pulled : List ℕ) (marks : List Mark) (s : Standing) (n place fault : ℕ) (buffered : List ℕ)
-    → MarksTell step → LoopStands step left rest taken given config pulled marks s (suc n) place buffered → read_item buffered ≡ Bad fault
-    → Replayed step left rest taken given (Err (ReplayFault.BadRecord place))
-exit-bad step left rest taken given config pulled marks s n place fault buffered tells loop bad =
-    exit-at step left rest taken given config pulled marks s (suc n) place buffered (known rest) (BadRecord place) (Err (ReplayFault.BadRecord place)) tells loop
-    (play-bad step config s n place fault buffered (known rest) [] bad) (all-input left rest pulled loop.consumed) (refl, refl)
-
--- a whole item that does not fit
-pub exit-unfit : (step : Stepping) (left rest taken given : Option (List ℕ)) (config : Configuration) (pulled : List ℕ) (marks : List Mark) (s : Standing) (n place used : ℕ) (buffered : List ℕ) (item : TraceItem)
-    → MarksTell step → LoopStands step left rest taken given config pulled marks s (suc n) place buffered → read_item buffered ≡ Whole item used → fits config s item ≡ false
-    → Replayed step left rest taken given (Err (ReplayFault.BadRecord place))
-exit-unfit step left rest taken given config pulled marks s n place used buffered item tells loop whole unfit =
-    exit-at step left rest taken given config pulled marks s (suc n) place buffered (known rest) (BadRecord place) (Err (ReplayFault.BadRecord place)) tells loop
-    (play-unfit step config s n place buffered (known rest) item used [] whole unfit) (all-input left rest pulled loop.consumed) (refl, refl)
+    (all-input left rest pulled loop.consumed) end (refl, refl)
 
 -- a byte behind the last item that is allowed
 pub exit-records : (step : Stepping) (left rest taken given : Option (List ℕ)) (config : Configuration) (pulled : List ℕ) (marks : List Mark) (s : Standing) (place b : ℕ) (bs : List ℕ)
@@ -282,7 +316,7 @@ pub exit-records : (step : Stepping) (left rest taken given : Option (List ℕ))
     → Replayed step left rest taken given (Err ReplayFault.Records)
 exit-records step left rest taken given config pulled marks s place b bs tells loop =
     exit-at step left rest taken given config pulled marks s 0 place (b ∷ bs) (known rest) Records (Err ReplayFault.Records) tells loop
-    (play-records step config s place b (bs ++ known rest) []) (all-input left rest pulled loop.consumed) (refl, refl)
+    (play-records step config s place b (bs ++ known rest) []) (all-input left rest pulled loop.consumed) tt (refl, refl)
 
 -- a pull failed between two items, or in one
 pub exit-read : (step : Stepping) (left rest taken given : Option (List ℕ)) (config : Configuration) (pulled : List ℕ) (marks : List Mark) (s : Standing) (n place : ℕ) (buffered : List ℕ) (ending : Ending)
@@ -292,4 +326,4 @@ pub exit-read : (step : Stepping) (left rest taken given : Option (List ℕ)) (c
 exit-read step left rest taken given config pulled marks s n place buffered ending tells loop ends =
     exit-at step left rest taken given config pulled marks s n place buffered [] ending (Err ReadFault) tells loop
     (ap (λ l. played_from step config s n place l []) (append-nil buffered) ∙ ends)
-    (subst (Consumes left rest) (sym (append-nil pulled)) loop.consumed) refl
+    (append-nil pulled) tt refl

@@ -16,9 +16,10 @@ use Rattle.cm_frame.proofs.Stays.{header-stays}
 use Rattle.trace_replay.specs.declared.summary.Summary.{Summary}
 use Rattle.trace_replay.specs.declared.fault.ReplayFault.{ReplayFault}
 use Rattle.trace_replay.specs.declared.fault.ReplayFault.TheVariants.{ReadFault, WriteFault, OutOfMemory}
-use Rattle.trace_replay.specs.Standing.{Standing, new_entry}
-use Rattle.trace_replay.specs.Played.{Played}
-use Rattle.trace_replay.specs.Replayed.{IsHistory, IsLegalBy}
+use Rattle.cmd_program.specs.Stepping.{Stepping}
+use Rattle.trace_replay.specs.Standing.{Standing, Mark, new_entry}
+use Rattle.trace_replay.specs.Played.{Played, played}
+use Rattle.trace_replay.specs.Replayed.{IsHistory, HasPlayedFirst, IsLegalBy}
 use Rattle.trace_replay.specs.Laws.{HasHeader}
 
 -- ---- one more entry
@@ -63,18 +64,28 @@ header-more config pulled more h = record { used = h.used; read = header-stays p
 one-config : (config config' : Configuration) (used used' : ℕ) → Whole config used ≡ Whole config' used' → config ≡ config'
 one-config config config' used used' e = cc
 
-pub history-at : (config : Configuration) (pulled more : List ℕ) (s : Standing) (p : Played) → HasHeader config pulled → IsLegal config s.entries
-    → p.standing ≡ s → IsHistory (pulled ++ more) p
-history-at config pulled more s p header legal ends = λ config' used read.
-    let same = one-config config config' _ used (sym (header-more config pulled more header).read ∙ read) in
+pub history-at : (config : Configuration) (bytes : List ℕ) (s : Standing) (p : Played) → HasHeader config bytes → IsLegal config s.entries
+    → p.standing ≡ s → IsHistory bytes p
+history-at config bytes s p header legal ends = λ config' used read.
+    let same = one-config config config' _ used (sym header.read ∙ read) in
     subst (λ (t : Standing). IsLegal config' t.entries) (sym ends) (subst (λ c. IsLegal c s.entries) same legal)
 
-pub legal-by : (bytes : List ℕ) (p : Played) (answer : Result Summary ReplayFault) → IsHistory bytes p → IsLegalBy bytes p answer
-legal-by bytes p (Ok x) h = h
-legal-by bytes p (Err ReadFault) h = h
-legal-by bytes p (Err WriteFault) h = tt
-legal-by bytes p (Err OutOfMemory) h = tt
-legal-by bytes p (Err (ReplayFault.Torn place)) h = h
-legal-by bytes p (Err (ReplayFault.BadHeader place)) h = h
-legal-by bytes p (Err (ReplayFault.BadRecord place)) h = h
-legal-by bytes p (Err ReplayFault.Records) h = h
+-- nothing was played yet
+pub first-none : (step : Stepping) (pulled : List ℕ) (marks : List Mark) → HasPlayedFirst step pulled marks []
+first-none step pulled marks = record {
+  front = [];
+  begins = (pulled, refl);
+  legal = λ config used read. legal-none config;
+  output = ([], refl);
+}
+
+pub legal-by : (step : Stepping) (bytes pulled : List ℕ) (marks : List Mark) (pushed : List ℕ) (answer : Result Summary ReplayFault)
+    → IsHistory bytes (played step bytes marks) → HasPlayedFirst step pulled marks pushed → IsLegalBy step bytes pulled marks pushed answer
+legal-by step bytes pulled marks pushed (Ok x) h f = h
+legal-by step bytes pulled marks pushed (Err ReadFault) h f = h
+legal-by step bytes pulled marks pushed (Err WriteFault) h f = f
+legal-by step bytes pulled marks pushed (Err OutOfMemory) h f = f
+legal-by step bytes pulled marks pushed (Err (ReplayFault.Torn place)) h f = h
+legal-by step bytes pulled marks pushed (Err (ReplayFault.BadHeader place)) h f = h
+legal-by step bytes pulled marks pushed (Err (ReplayFault.BadRecord place)) h f = h
+legal-by step bytes pulled marks pushed (Err ReplayFault.Records) h f = h

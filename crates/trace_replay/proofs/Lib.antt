@@ -1,3 +1,4 @@
+pub mod Alone
 pub mod Steps
 pub mod Grows
 pub mod Exits

@@ -27,7 +27,7 @@ use Rattle.trace_replay.specs.Writing.{IsWritten, IsBegun, IsWriteFault}
 use Rattle.trace_replay.specs.Machines.{IsStanding}
 use Rattle.trace_replay.proofs.Sizes.{header-used}
 use Rattle.trace_replay.proofs.Steps.{begins, grows, play-unfit, play-bad, play-torn, play-done}
-use Rattle.trace_replay.proofs.Legally.{legal-none, header-more}
+use Rattle.trace_replay.proofs.Legally.{legal-none}
 use Rattle.trace_replay.proofs.Exits.{all-input, exit-at, exit-early, exit-done, exit-torn, exit-records, exit-read, exit-header, memory-header, header-bad, header-torn}
 use Rattle.trace_replay.proofs.Telling.{marks-tell}
 
@@ -42,7 +42,7 @@ module _ (left rest taken given : Option (List ℕ)) (config : Configuration) (s
   -- other bytes wait, after others were pushed
   pub loop-written : (given' : Option (List ℕ)) (waits' : List ℕ) → IsWritten taken given' waits' (output_of s)
       → IsLoopAt left rest taken given' config s n place input waits'
-  loop-written given' waits' w = record { pulled = l.pulled; marks = l.marks; consumed = l.consumed; header = l.header; stands = l.stands; legal = l.legal; written = w }
+  loop-written given' waits' w = record { pulled = l.pulled; marks = l.marks; consumed = l.consumed; stands = l.stands; legal = l.legal; written = w }
 
   -- more was pulled
   pub loop-more : (rest' : Option (List ℕ)) (more input' : List ℕ) → input' ≡ input ++ more → Consumes rest rest' more
@@ -51,7 +51,6 @@ module _ (left rest taken given : Option (List ℕ)) (config : Configuration) (s
     pulled = l.pulled ++ more;
     marks = l.marks;
     consumed = Consumes-trans left rest rest' l.pulled more l.consumed consumed;
-    header = header-more config l.pulled more l.header;
     legal = l.legal;
     stands = subst (StandsAt step config (l.pulled ++ more) l.marks s n place) (sym is) (grows step config l.pulled l.marks s n place input more l.stands);
     written = l.written;
@@ -59,14 +58,14 @@ module _ (left rest taken given : Option (List ℕ)) (config : Configuration) (s
 
   pub loop-kept : (rest' : Option (List ℕ)) → Keeps rest rest' → IsLoopAt left rest' taken given config s n place input waits
   loop-kept rest' kept =
-      record { pulled = l.pulled; marks = l.marks; consumed = Consumes-kept left rest rest' l.pulled l.consumed kept; header = l.header; stands = l.stands; legal = l.legal; written = l.written }
+      record { pulled = l.pulled; marks = l.marks; consumed = Consumes-kept left rest rest' l.pulled l.consumed kept; stands = l.stands; legal = l.legal; written = l.written }
 
   -- ---- the ends
 
   -- some of the output was written
   pub ends-begun : (given' : Option (List ℕ)) (e : ReplayFault) → IsBegun taken given' (output_of s) → IsWriteFault e → Replayed step left rest taken given' (Err e)
   ends-begun given' e b fault =
-      exit-early step left rest taken given' config l.pulled l.marks s n place input b.pushed (Err e) (why fault) l.consumed l.stands b.begins b.written
+      exit-early step left rest taken given' config l.pulled l.marks s n place input b.pushed (Err e) (why fault) l.consumed l.stands l.legal b.begins b.written
     where
       failed : ReplayFault → Result Summary ReplayFault
       failed f = Err f
@@ -81,13 +80,13 @@ module _ (left rest taken given : Option (List ℕ)) (config : Configuration) (s
 
   module _ (none : waits ≡ []) where
     pub stands : LoopStands step left rest taken given config l.pulled l.marks s n place input
-    stands = record { consumed = l.consumed; header = l.header; stands = l.stands; legal = l.legal; written = flushed taken given waits (output_of s) l.written none }
+    stands = record { consumed = l.consumed; stands = l.stands; legal = l.legal; written = flushed taken given waits (output_of s) l.written none }
 
     -- all of it was written
     pub ends-bad : EndsBad config s n place input → Replayed step left rest taken given (Err (ReplayFault.BadRecord place))
     ends-bad bad =
         exit-at step left rest taken given config l.pulled l.marks s n place input (known rest) (BadRecord place) (Err (ReplayFault.BadRecord place)) tells stands
-        (bad.ends (known rest)) (all-input left rest l.pulled l.consumed) (refl, refl)
+        (bad.ends (known rest)) (all-input left rest l.pulled l.consumed) tt (refl, refl)
 
     pub ends-read : NeedsMore n input → Replayed step left rest taken given (Err ReplayFault.ReadFault)
     ends-read needs = go input n refl refl needs.open_end
@@ -106,7 +105,7 @@ module _ (left rest taken given : Option (List ℕ)) (config : Configuration) (s
     pub ends-done : IsAtEnd rest → input ≡ [] → Replayed step left rest taken given (Ok (summary_of s))
     ends-done end empty =
         exit-done step left rest taken given config l.pulled l.marks s n place tells
-        (record { consumed = stands.consumed; header = l.header; stands = subst (StandsAt step config l.pulled l.marks s n place) empty l.stands; legal = l.legal; written = stands.written }) end
+        (record { consumed = stands.consumed; stands = subst (StandsAt step config l.pulled l.marks s n place) empty l.stands; legal = l.legal; written = stands.written }) end
 
 -- nothing was pulled
 pub ends-filling : (left rest taken given : Option (List ℕ)) (config : Configuration) (s : Standing) (n place : ℕ) (input waits : List ℕ)
@@ -225,7 +224,6 @@ begins-so left rest given config input used p consumed header machine summary in
         pulled = input;
         marks = [];
         consumed = consumed;
-        header = record { used = used; read = header };
         stands = stood;
         legal = legal-none config;
         written = record { pushed = []; written = Appends-nil given; all = output };
@@ -242,8 +240,8 @@ pub header-filling : (left rest taken : Option (List ℕ)) (waits : List ℕ) (r
     → Consumes left rest waits → read_header waits ≡ Short → (f ≡ FillFailed.Read → Keeps rest rest')
     → (f ≡ FillFailed.OutOfMemory → rest' ≡ rest) → Replayed step left rest' taken taken (Err (fault_of f))
 header-filling left rest taken waits rest' FillFailed.Read consumed short read memory =
-    exit-header step left rest' taken taken waits (Torn 0) (Err ReplayFault.ReadFault) tells (header-torn step waits short)
-    (Consumes-kept left rest rest' waits consumed (read refl)) (Appends-nil taken) refl
+    exit-header step left rest' taken taken waits waits (Torn 0) (Err ReplayFault.ReadFault) tells (header-torn step waits short)
+    refl (Consumes-kept left rest rest' waits consumed (read refl)) tt (Appends-nil taken) refl
 header-filling left rest taken waits rest' FillFailed.OutOfMemory consumed short read memory =
     subst (λ r. Replayed step left r taken taken (Err ReplayFault.OutOfMemory)) (sym (memory refl))
     (memory-header step left rest taken taken waits consumed (Appends-nil taken))
@@ -254,8 +252,8 @@ header-memory left rest taken waits consumed = memory-header step left rest take
 pub header-fault : (left rest taken : Option (List ℕ)) (waits : List ℕ) (place : ℕ) → Consumes left rest waits → read_header waits ≡ Bad place
     → Replayed step left rest taken taken (Err (ReplayFault.BadHeader place))
 header-fault left rest taken waits place consumed bad =
-    exit-header step left rest taken taken (waits ++ known rest) (BadHeader place) (Err (ReplayFault.BadHeader place)) tells
-    (header-bad step waits (known rest) place bad) (all-input left rest waits consumed) (Appends-nil taken) (refl, refl)
+    exit-header step left rest taken taken (waits ++ known rest) waits (BadHeader place) (Err (ReplayFault.BadHeader place)) tells
+    (header-bad step waits (known rest) place bad) (all-input left rest waits consumed) consumed tt (Appends-nil taken) (refl, refl)
 
 ended-input : (left rest : Option (List ℕ)) (pulled : List ℕ) → Consumes left rest pulled → IsAtEnd rest → IfSome left (λ all. pulled ≡ all)
 ended-input None rest pulled c e = tt
@@ -267,8 +265,8 @@ pub header-ended : (left rest rest' taken : Option (List ℕ)) (waits more : Lis
 header-ended left rest rest' taken waits (b ∷ bs) count consumed later len none end short = absurd (omega (arith, len, none))
 header-ended left rest rest' taken waits [] count consumed later len none end short =
     let all = subst (Consumes left rest') (append-nil waits) (Consumes-trans left rest rest' waits [] consumed later) in
-    exit-header step left rest' taken taken waits (Torn 0) (Err (ReplayFault.Torn 0)) tells (header-torn step waits short)
-    (ended-input left rest' waits all end) (Appends-nil taken) (refl, refl)
+    exit-header step left rest' taken taken waits waits (Torn 0) (Err (ReplayFault.Torn 0)) tells (header-torn step waits short)
+    (ended-input left rest' waits all end) all end (Appends-nil taken) (refl, refl)
 
 -- ---- measures
 
@@ -294,7 +292,6 @@ any-player rest given rest' given' p is = record {
     pulled = is.loop.pulled;
     marks = is.loop.marks;
     consumed = tt;
-    header = is.loop.header;
     stands = is.loop.stands;
     legal = is.loop.legal;
     written = record { pushed = is.loop.written.pushed; written = tt; all = is.loop.written.all };

@@ -1,5 +1,5 @@
 -- Playing more bytes, item by item
-use Rattle.std.proofs.Common.{◌≡◌, ℕ, zero, suc, ◌+◌, ◌≤◌, List, [], ◌∷◌, ◌++◌, length, drop, refl, ap, sym, ◌∙◌, subst, true, false, append_assoc}
+use Rattle.std.proofs.Common.{◌≡◌, ℕ, zero, suc, ◌+◌, ◌≤◌, List, [], ◌∷◌, ◌++◌, length, take, drop, refl, ap, sym, ◌∙◌, subst, true, false, append_assoc, take-append-drop}
 use Rattle.std.proofs.lemmas.List.{drop-append-le}
 use Rattle.cm_base.specs.Configuration.{Configuration}
 use Rattle.cm_frame.specs.declared.item.TraceItem.{TraceItem}
@@ -14,6 +14,8 @@ use Rattle.trace_replay.specs.Standing.{Standing, Mark, next, fits, at_first}
 use Rattle.trace_replay.specs.Played.{played, played_after, played_from, play, mark_for, marks_behind}
 use Rattle.trace_replay.specs.Marks.{is_allowed, are_allowed, may_mark, may_mark_from, allowed_after}
 use Rattle.trace_replay.specs.Laws.{marks_of, BeginsSo, GrowsSo, StepsSo}
+use Rattle.trace_replay.proofs.Alone.{header-alone, item-alone, drop-alone}
+use Rattle.trace_replay.proofs.Legally.{header-more}
 
 -- ---- one item at the front
 
@@ -81,36 +83,33 @@ play-records step config s place b bs marks = refl
 -- ---- how things stand in a loop over pulls
 
 pub begins : (step : Stepping) → BeginsSo step
-begins step buffered config used e = record { plays = plays; may = may }
+begins step buffered config used e = record {
+  front = take used buffered;
+  all = take-append-drop used buffered;
+  header = record { used = used; read = header-alone buffered config used e };
+  plays = λ more later.
+      ap (λ p. played_after step p (take used buffered ++ more) later) (there more)
+      ∙ ap (λ rest. played_from step config at_first items_limit used rest later) (drop-alone used buffered more within);
+  may = λ more later.
+      ap (λ p. allowed_after step p (take used buffered ++ more) later) (there more)
+      ∙ ap (λ rest. may_mark_from step config at_first items_limit used rest later) (drop-alone used buffered more within);
+}
   where
-    there : (more : List ℕ) → read_header (buffered ++ more) ≡ Whole config used
-    there more = header-stays buffered more (subst IsJudged (sym e) tt) ∙ e
-
     within : used ≤ length buffered
     within = (subst (UsesWithin (length buffered)) e (header-within buffered).uses).1
 
-    plays : (more : List ℕ) (later : List Mark)
-        → played step (buffered ++ more) ([] ++ later) ≡ played_from step config at_first items_limit used (drop used buffered ++ more) later
-    plays more later =
-        ap (λ p. played_after step p (buffered ++ more) later) (there more)
-        ∙ ap (λ rest. played_from step config at_first items_limit used rest later) (drop-append-le used buffered more within)
-
-    may : (more : List ℕ) (later : List Mark)
-        → may_mark step (buffered ++ more) ([] ++ later) ≡ may_mark_from step config at_first items_limit used (drop used buffered ++ more) later
-    may more later =
-        ap (λ p. allowed_after step p (buffered ++ more) later) (there more)
-        ∙ ap (λ rest. may_mark_from step config at_first items_limit used rest later) (drop-append-le used buffered more within)
+    there : (more : List ℕ) → read_header (take used buffered ++ more) ≡ Whole config used
+    there more =
+        let alone = header-alone buffered config used e in
+        header-stays (take used buffered) more (subst IsJudged (sym alone) tt) ∙ alone
 
 pub grows : (step : Stepping) → GrowsSo step
 grows step config pulled marks s n place buffered more stands = record {
-  plays = λ rest later.
-      ap (λ all. played step all (marks ++ later)) (append_assoc pulled more rest)
-      ∙ stands.plays (more ++ rest) later
-      ∙ ap (λ all. played_from step config s n place all later) (sym (append_assoc buffered more rest));
-  may = λ rest later.
-      ap (λ all. may_mark step all (marks ++ later)) (append_assoc pulled more rest)
-      ∙ stands.may (more ++ rest) later
-      ∙ ap (λ all. may_mark_from step config s n place all later) (sym (append_assoc buffered more rest));
+  front = stands.front;
+  all = sym (append_assoc stands.front buffered more) ∙ ap (λ l. l ++ more) stands.all;
+  header = stands.header;
+  plays = stands.plays;
+  may = stands.may;
 }
 
 -- the mark of an item, in front of later ones
@@ -126,17 +125,33 @@ mark-behind (TraceItem.Pump u m) mark later = refl
 
 pub steps : (step : Stepping) → StepsSo step
 steps step config pulled marks s n place buffered item used mark stands e fit may = record {
+  front = stands.front ++ its;
+  all = append_assoc stands.front its (drop used buffered) ∙ ap (λ l. stands.front ++ l) (take-append-drop used buffered) ∙ stands.all;
+  header = header-more config stands.front its stands.header;
   plays = λ more later.
-      ap (played step (pulled ++ more)) (append_assoc marks (marks_of item mark) later)
-      ∙ stands.plays more (marks_of item mark ++ later)
-      ∙ play-step step config s n place buffered more item used (marks_of item mark ++ later) e fit
-      ∙ ap (λ m. played_from step config (next step config s item m) n (place + used) (drop used buffered ++ more) (marks_behind item (marks_of item mark ++ later))) (mark-first item mark later)
-      ∙ ap (played_from step config (next step config s item (mark_for item (mark ∷ []))) n (place + used) (drop used buffered ++ more)) (mark-behind item mark later);
+      ap (λ l. played step l ((marks ++ marks_of item mark) ++ later)) (append_assoc stands.front its more)
+      ∙ ap (played step (stands.front ++ (its ++ more))) (append_assoc marks (marks_of item mark) later)
+      ∙ stands.plays (its ++ more) (marks_of item mark ++ later)
+      ∙ play-step step config s n place its more item used (marks_of item mark ++ later) alone fit
+      ∙ ap (λ l. played_from step config (next step config s item (mark_for item (marks_of item mark ++ later))) n (place + used) l (marks_behind item (marks_of item mark ++ later))) (behind more)
+      ∙ ap (λ m. played_from step config (next step config s item m) n (place + used) more (marks_behind item (marks_of item mark ++ later))) (mark-first item mark later)
+      ∙ ap (played_from step config (next step config s item (mark_for item (mark ∷ []))) n (place + used) more) (mark-behind item mark later);
   may = λ more later.
-      ap (may_mark step (pulled ++ more)) (append_assoc marks (marks_of item mark) later)
-      ∙ stands.may more (marks_of item mark ++ later)
-      ∙ may-step step config s n place buffered more item used (marks_of item mark ++ later) e fit
+      ap (λ l. may_mark step l ((marks ++ marks_of item mark) ++ later)) (append_assoc stands.front its more)
+      ∙ ap (may_mark step (stands.front ++ (its ++ more))) (append_assoc marks (marks_of item mark) later)
+      ∙ stands.may (its ++ more) (marks_of item mark ++ later)
+      ∙ may-step step config s n place its more item used (marks_of item mark ++ later) alone fit
       (ap (is_allowed step config s item) (mark-first item mark later) ∙ may)
-      ∙ ap (λ m. may_mark_from step config (next step config s item m) n (place + used) (drop used buffered ++ more) (marks_behind item (marks_of item mark ++ later))) (mark-first item mark later)
-      ∙ ap (may_mark_from step config (next step config s item (mark_for item (mark ∷ []))) n (place + used) (drop used buffered ++ more)) (mark-behind item mark later);
+      ∙ ap (λ l. may_mark_from step config (next step config s item (mark_for item (marks_of item mark ++ later))) n (place + used) l (marks_behind item (marks_of item mark ++ later))) (behind more)
+      ∙ ap (λ m. may_mark_from step config (next step config s item m) n (place + used) more (marks_behind item (marks_of item mark ++ later))) (mark-first item mark later)
+      ∙ ap (may_mark_from step config (next step config s item (mark_for item (mark ∷ []))) n (place + used) more) (mark-behind item mark later);
 }
+  where
+    its : List ℕ
+    its = take used buffered
+
+    alone : read_item its ≡ Whole item used
+    alone = item-alone buffered item used e
+
+    behind : (more : List ℕ) → drop used its ++ more ≡ more
+    behind more = sym (drop-append-le used its more (used-within its item used alone)) ∙ drop-alone used buffered more (used-within buffered item used e)

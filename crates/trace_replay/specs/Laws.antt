@@ -13,13 +13,22 @@ use Rattle.trace_replay.specs.Played.{played, played_from, mark_for, output_of}
 use Rattle.trace_replay.specs.Marks.{may_mark, may_mark_from, is_allowed, met_want}
 use Rattle.cm_base.specs.Outside.{IsBeginning}
 
--- The bytes that were pulled, with whatever comes behind them, play as the buffered ones do from this standing, where
--- `n` more items are allowed and the buffer stands at a place; and marks may stand so far where they stand.
+-- the bytes begin with a header of this configuration
+pub record HasHeader (config : Configuration) (bytes : List ℕ) : Type 0 where
+  pub used : ℕ
+  pub read : read_header bytes ≡ Whole config used
+
+-- The bytes that were pulled are those of a header and of whole items, and the buffered ones behind them. Whatever comes
+-- behind the items plays from this standing, where `n` more items are allowed and the buffer stands at a place; and marks
+-- may stand so far where they stand.
 pub record StandsAt (step : Stepping) (config : Configuration) (pulled : List ℕ) (marks : List Mark) (s : Standing) (n place : ℕ) (buffered : List ℕ) : Type 0 where
+  pub front : List ℕ
+  pub all : front ++ buffered ≡ pulled
+  pub header : HasHeader config front
   pub plays : (more : List ℕ) (later : List Mark)
-      → played step (pulled ++ more) (marks ++ later) ≡ played_from step config s n place (buffered ++ more) later
+      → played step (front ++ more) (marks ++ later) ≡ played_from step config s n place more later
   pub may : (more : List ℕ) (later : List Mark)
-      → may_mark step (pulled ++ more) (marks ++ later) ≡ may_mark_from step config s n place (buffered ++ more) later
+      → may_mark step (front ++ more) (marks ++ later) ≡ may_mark_from step config s n place more later
 
 -- the mark of an item, where it has one
 abbrev pub marks_of : TraceItem → Mark → List Mark
@@ -48,18 +57,12 @@ abbrev pub OutputGrows : Stepping → Type 0
 OutputGrows step = (config : Configuration) (s : Standing) (n place : ℕ) (bytes : List ℕ) (marks : List Mark)
     → IsBeginning (output_of s) (output_of (played_from step config s n place bytes marks).standing)
 
--- the bytes begin with a header of this configuration
-pub record HasHeader (config : Configuration) (bytes : List ℕ) : Type 0 where
-  pub used : ℕ
-  pub read : read_header bytes ≡ Whole config used
-
 -- ---- what a loop knows between two items
 
 -- what was pulled and written, and how things stand
 pub record LoopStands (step : Stepping) (left rest taken given : Option (List ℕ)) (config : Configuration) (pulled : List ℕ) (marks : List Mark)
     (s : Standing) (n place : ℕ) (buffered : List ℕ) : Type 0 where
   pub consumed : Consumes left rest pulled
-  pub header : HasHeader config pulled
   pub stands : StandsAt step config pulled marks s n place buffered
   pub legal : IsLegal config s.entries
   pub written : Appends taken given (output_of s)

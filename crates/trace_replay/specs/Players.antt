@@ -11,7 +11,7 @@ use Rattle.trace_replay.specs.declared.player.Found.{Found}
 use Rattle.trace_replay.specs.Items.{BadRecord, items_limit}
 use Rattle.trace_replay.specs.Standing.{Standing, Mark}
 use Rattle.trace_replay.specs.Played.{played_from, output_of, summary_of}
-use Rattle.trace_replay.specs.Laws.{StandsAt, HasHeader}
+use Rattle.trace_replay.specs.Laws.{StandsAt}
 use Rattle.trace_replay.specs.Machines.{IsStanding}
 use Rattle.trace_replay.specs.Writing.{IsWritten}
 
@@ -21,7 +21,6 @@ pub record IsLoopAt (left rest taken given : Option (List ℕ)) (config : Config
   pub pulled : List ℕ
   pub marks : List Mark
   pub consumed : Consumes left rest pulled
-  pub header : HasHeader config pulled
   pub stands : StandsAt step config pulled marks s n place input
   pub legal : IsLegal config s.entries
   pub written : IsWritten taken given output (output_of s)

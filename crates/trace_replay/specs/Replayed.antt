@@ -1,6 +1,6 @@
 -- What a replay owes, by its answer
 use Rattle.std.specs.Prelude.{◌≡◌, ℕ, List, [], Option, Result, Ok, Err, ◌⊎◌, IfSome, IsTrue}
-use Rattle.std.specs.Io.KnownBytes.{Consumes, Appends}
+use Rattle.std.specs.Io.KnownBytes.{Consumes, Appends, IsAtEnd}
 use Rattle.cm_base.specs.Configuration.{Configuration}
 use Rattle.cm_base.specs.declared.parsed.Parsed.TheVariants.{Whole}
 use Rattle.cm_base.specs.Outside.{Faulted, IsBeginning}
@@ -16,9 +16,15 @@ use Rattle.trace_replay.specs.Played.{Played, played, output_of, summary_of}
 use Rattle.trace_replay.specs.Marks.{may_mark, met_want}
 
 -- The bytes that a replay is judged by are all that the source had left; where a pull failed, those that were pulled.
-abbrev pub IsInput : Option (List ℕ) → Option (List ℕ) → List ℕ → Result Summary ReplayFault → Type 0
-IsInput left rest bytes (Err ReadFault) = Consumes left rest bytes
-IsInput left rest bytes _ = IfSome left (λ all. bytes ≡ all)
+abbrev pub IsInput : Option (List ℕ) → List ℕ → List ℕ → Result Summary ReplayFault → Type 0
+IsInput left pulled bytes (Err ReadFault) = bytes ≡ pulled
+IsInput left pulled bytes _ = IfSome left (λ all. bytes ≡ all)
+
+-- the source was read to its end, where the answer tells of the end of the input
+abbrev pub IsReadSo : Option (List ℕ) → Result Summary ReplayFault → Type 0
+IsReadSo rest (Ok summary) = IsAtEnd rest
+IsReadSo rest (Err (ReplayFault.Torn place)) = IsAtEnd rest
+IsReadSo rest _ = Unit {0}
 
 -- all replies of the trace were written, and it ended so
 abbrev pub EndsSo : Played → List ℕ → Ending → Type 0
@@ -35,33 +41,42 @@ IsAnswer p pushed (Err ReadFault) = pushed ≡ output_of p.standing
 IsAnswer p pushed (Err WriteFault) = IsBeginning pushed (output_of p.standing)
 IsAnswer p pushed (Err OutOfMemory) = IsBeginning pushed (output_of p.standing)
 
--- A trace that ends well, where memory is never refused, is answered so, or a reply or a waiting command shows that memory was refused.
+-- The answer is that of the trace where memory is never refused, or a reply or a waiting command shows that memory was refused.
 abbrev pub IsCompleteBy : Played → Played → List ℕ → Result Summary ReplayFault → Type 0
-IsCompleteBy free marked pushed (Err ReadFault) = Unit {0}
 IsCompleteBy free marked pushed (Err WriteFault) = Unit {0}
 IsCompleteBy free marked pushed (Err OutOfMemory) = Unit {0}
-IsCompleteBy free marked pushed answer = free.ending ≡ Done → IsAnswer free pushed answer ⊎ IsTrue (met_want marked.standing)
+IsCompleteBy free marked pushed answer = IsAnswer free pushed answer ⊎ IsTrue (met_want marked.standing)
 
 -- what was played is a legal history
 abbrev pub IsHistory : List ℕ → Played → Type 0
 IsHistory bytes p = (config : Configuration) (used : ℕ) → read_header bytes ≡ Whole config used → IsLegal config p.standing.entries
 
--- that is said wherever all that was pulled was played
-abbrev pub IsLegalBy : List ℕ → Played → Result Summary ReplayFault → Type 0
-IsLegalBy bytes p (Err WriteFault) = Unit {0}
-IsLegalBy bytes p (Err OutOfMemory) = Unit {0}
-IsLegalBy bytes p answer = IsHistory bytes p
+-- The items of a beginning of what was pulled: they are a legal history, and their output begins with what was pushed.
+pub record HasPlayedFirst (step : Stepping) (pulled : List ℕ) (marks : List Mark) (pushed : List ℕ) : Type 0 where
+  pub front : List ℕ
+  pub begins : IsBeginning front pulled
+  pub legal : IsHistory front (played step front marks)
+  pub output : IsBeginning pushed (output_of (played step front marks).standing)
 
--- The bytes, the marks and what was written, such that the answer is that of the trace.
+-- All that was played is a legal history. Where a push failed or memory was wanted, that is said of the first items.
+abbrev pub IsLegalBy : Stepping → List ℕ → List ℕ → List Mark → List ℕ → Result Summary ReplayFault → Type 0
+IsLegalBy step bytes pulled marks pushed (Err WriteFault) = HasPlayedFirst step pulled marks pushed
+IsLegalBy step bytes pulled marks pushed (Err OutOfMemory) = HasPlayedFirst step pulled marks pushed
+IsLegalBy step bytes pulled marks pushed _ = IsHistory bytes (played step bytes marks)
+
+-- The bytes, the marks, what was pulled and what was pushed, such that the answer is that of the trace.
 pub record Replayed (step : Stepping) (left rest taken given : Option (List ℕ)) (answer : Result Summary ReplayFault) : Type 0 where
   pub bytes : List ℕ
   pub marks : List Mark
+  pub pulled : List ℕ
   pub pushed : List ℕ
-  pub input : IsInput left rest bytes answer
+  pub input : IsInput left pulled bytes answer
+  pub consumed : Consumes left rest pulled
+  pub read : IsReadSo rest answer
   pub output : Appends taken given pushed
   pub allowed : IsTrue (may_mark step bytes marks)
   pub ending : IsAnswer (played step bytes marks) pushed answer
-  pub legal : IsLegalBy bytes (played step bytes marks) answer
+  pub legal : IsLegalBy step bytes pulled marks pushed answer
   pub complete : IsCompleteBy (played step bytes []) (played step bytes marks) pushed answer
 
 -- ---- the faults of the outside

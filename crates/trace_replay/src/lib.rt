@@ -14,4 +14,4 @@ mod units;
 pub use fault::ReplayFault;
 pub use laws::{played_writes_law, quiet_law};
 pub use summary::Summary;
-pub use trace::replay;
+pub use trace::{replay, replay_with};

@@ -48,9 +48,22 @@ fn pull_header<I: Source>(
     }
 }
 
-/// Plays a trace: a header, and then items, up to the end of the input. Long data-outs go into
-/// `memory`.
-pub fn replay<M: Memory, I: Source, O: Sink>(
+/// Plays a trace: a header, and then items, up to the end of the input. It waits where the source or
+/// the sink does, and nowhere else.
+pub fn replay<I: Source, O: Sink>(
+    alloc: Global,
+    input: &mut I,
+    output: &mut O,
+) -> Result<Summary, ReplayFault>
+    ensures played { Replayed step (I.left input.old) (I.left input.new) (O.taken output.old) (O.taken output.new) result }
+    ensures counted { IsCounted (I.read_faults input.old) (I.read_faults input.new) (O.write_faults output.old) (O.write_faults output.new) result }
+{
+    let mut memory = alloc;
+    replay_with(alloc, &mut memory, input, output)
+}
+
+/// Plays a trace as [`replay`] does, with long data-outs in `memory`.
+pub fn replay_with<M: Memory, I: Source, O: Sink>(
     alloc: Global,
     memory: &mut M,
     input: &mut I,

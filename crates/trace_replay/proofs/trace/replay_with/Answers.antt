@@ -2,7 +2,7 @@ use Rattle.std.proofs.Common.{refl, subst}
 use Rattle.std.proofs.lemmas.Result.{err_from_is_err_and}
 use Rattle.trace_replay.specs.Replayed.{IsCounted}
 use Rattle.trace_replay.proofs.Playing.{header-memory, header-within-bytes}
-use Rattle.trace_replay.proofs.trace.replay.Goals as goal
+use Rattle.trace_replay.proofs.trace.replay_with.Goals as goal
 
 pub returns-in_err-config-clause-counted : goal.returns-in_err-config-clause-counted
 returns-in_err-config-clause-counted g c =
