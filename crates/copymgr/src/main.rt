@@ -12,8 +12,8 @@ mod tests;
 mod top;
 
 use cm_base::{OutOfMemory, StandardInput, StandardOutput, Word};
-use crossbeam_channel::bounded;
-use ready::{ReadyMemory, make_ready};
+use ready::{Empty, ReadyMemory, make_ready};
+use rtrb::RingBuffer;
 use status::Status;
 use std::alloc::{AllocError, Global};
 use std::env::{self, Args};
@@ -21,7 +21,7 @@ use std::io::{self, Input, Print};
 use std::process::ExitCode;
 use std::rt::Env;
 use std::sync::Wait;
-use std::thread::{self, Threads};
+use std::thread::{self, Parker, Threads};
 
 /// The words of the command line, without the program's name.
 fn words(alloc: Global, args: Args<Global>) -> Result<Vec<Word>, OutOfMemory> {
@@ -50,14 +50,18 @@ fn work<R: Threads + Wait + Input + Print + Sync>(
     alloc: Global,
     words: &[Word],
 ) -> Result<Status, AllocError> {
-    let (orders, ordered) = bounded(alloc, READY)?;
-    let (made, ready) = bounded(alloc, READY)?;
+    let (orders, mut ordered) = RingBuffer::new(alloc, READY)?;
+    let (mut made, ready) = RingBuffer::with_protocol::<Global, Empty>(alloc, READY)?;
+    let parker = Parker::new();
+    let maker = &parker;
     let status = thread::scope(thread::scope_env(), rt, move |scope| {
-        let _ = scope.spawn(move || make_ready(rt, alloc, &ordered, &made));
-        let mut memory = ReadyMemory::new(rt, alloc, orders, ready);
+        let _ = scope.spawn(move || make_ready(rt, alloc, &mut ordered, &mut made, maker));
+        let mut memory = ReadyMemory::new(alloc, orders, ready, maker);
         let mut input = StandardInput::new(rt.reader());
         let mut output = StandardOutput::new(io::writer(rt));
-        top::top(alloc, &mut memory, words, &mut input, &mut output)
+        let status = top::top_with(alloc, &mut memory, words, &mut input, &mut output);
+        memory.close();
+        status
     });
     Ok(status)
 }

@@ -327,8 +327,7 @@ fn random_traces(rt: HostRuntime) -> Result<(), Fail> {
         let replies = trace.replies;
         let mut input = MemorySource::new(trace.bytes, 100, CallList::empty(alloc));
         let mut output = MemorySink::new(alloc, 100, CallList::empty(alloc));
-        let mut memory = alloc;
-        let status = top(alloc, &mut memory, &words, &mut input, &mut output);
+        let status = top(alloc, &words, &mut input, &mut output);
         assert!(rt; status == Status::Done, "seed {seed}: {status}");
         assert!(rt; output.as_slice() == replies.as_slice(), "seed {seed}");
     }

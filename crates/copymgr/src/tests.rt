@@ -1,17 +1,18 @@
 ghost use Rattle.std.specs.Prelude.{◌<◌};
 
-use crate::ready::{ReadyMemory, make_ready};
+use crate::ready::{Empty, ReadyMemory, make_ready};
 use crate::rows::first_path::{HEADER, ROWS, RUN};
 use crate::rows::{Row, copies, evictions, generated, long_data, operations, tokens, usual_copy};
 use crate::status::Status;
-use crate::top::top;
-use cm_base::{Bytes, CallList, MemorySink, MemorySource, OutOfMemory, Word};
+use crate::top::{top, top_with};
+use cm_base::{Bytes, CallList, MemorySink, MemorySource, Word};
 use cm_frame::Memory;
-use crossbeam_channel::bounded;
+use rtrb::RingBuffer;
 use std::alloc::Global;
 use std::sync::Wait;
 use std::test::Fail;
-use std::thread;
+use std::thread::{self, Parker, Threads};
+use trace_replay::replay;
 
 /// The bytes of pieces of hex text.
 fn bytes_of(alloc: Global, pieces: &[&str]) -> Result<Bytes, Fail> {
@@ -44,8 +45,7 @@ fn played(
     words.push(Word::from_text(alloc, "replay")?)?;
     let mut input = MemorySource::new(bytes_of(alloc, row.trace)?, step, pulls);
     let mut output = MemorySink::new(alloc, step, pushes);
-    let mut memory = alloc;
-    let status = top(alloc, &mut memory, &words, &mut input, &mut output);
+    let status = top(alloc, &words, &mut input, &mut output);
     Ok((status, output))
 }
 
@@ -165,8 +165,7 @@ fn replies_are(alloc: Global, trace: Bytes, replies: &Bytes) -> Result<bool, Fai
     words.push(Word::from_text(alloc, "replay")?)?;
     let mut input = MemorySource::new(trace, 4096, CallList::empty(alloc));
     let mut output = MemorySink::new(alloc, 4096, CallList::empty(alloc));
-    let mut memory = alloc;
-    let status = top(alloc, &mut memory, &words, &mut input, &mut output);
+    let status = top(alloc, &words, &mut input, &mut output);
     Ok(status == Status::Done && output.as_slice() == replies.as_slice())
 }
 
@@ -223,6 +222,26 @@ fn worked_generated_trace(rt: HostRuntime) -> Result<(), Fail> {
     Ok(())
 }
 
+/// What a replay counts in a trace with one reply GOOD and one CHECK CONDITION.
+#[test]
+fn a_replay_counts(rt: HostRuntime) -> Result<(), Fail> {
+    let alloc = rt.alloc();
+    let row = &ROWS[4];
+    let mut input = MemorySource::new(bytes_of(alloc, row.trace)?, 4096, CallList::empty(alloc));
+    let mut output = MemorySink::new(alloc, 4096, CallList::empty(alloc));
+    match replay(alloc, &mut input, &mut output) {
+        Ok(sum) => {
+            let items = [sum.records, sum.steps, sum.bytes];
+            let replies = [sum.replies, sum.good, sum.check, sum.busy, sum.full];
+            assert!(rt; items == [4, 2, 550] && replies == [2, 1, 1, 0, 0]);
+        }
+        Err(fault) => assert!(rt; false, "{fault}"),
+    }
+    let replies = bytes_of(alloc, row.replies)?;
+    assert!(rt; output.as_slice() == replies.as_slice());
+    Ok(())
+}
+
 /// Each pull of 'write then read' fails once: what was taken are the replies to what was pulled.
 #[test]
 fn failing_pulls(rt: HostRuntime) -> Result<(), Fail> {
@@ -258,46 +277,89 @@ fn failing_pushes(rt: HostRuntime) -> Result<(), Fail> {
     Ok(())
 }
 
-/// Memory that is ready comes empty, and as much is ordered again.
+/// Memory that is ready is taken, and as much is ordered again; where what is ready is of another
+/// length, new memory comes.
 #[test]
 fn ready_memory_is_given(rt: HostRuntime) -> Result<(), Fail> {
     let alloc = rt.alloc();
-    let (orders, ordered) = bounded(alloc, 2)?;
-    let (made, ready) = bounded(alloc, 2)?;
-    let mut memory = ReadyMemory::new(&rt, alloc, orders, ready);
-    let used = vec![in alloc; 1u8; 100]?;
-    assert!(rt; made.send(&rt, used).is_ok());
-    let room = memory.room(100)?;
-    assert!(rt; room.is_empty() && room.capacity() >= 100);
-    assert!(rt; ordered.try_recv(&rt) == Ok(100));
-    let other = memory.room(200)?;
-    assert!(rt; other.is_empty() && other.capacity() >= 200);
+    let (orders, mut ordered) = RingBuffer::new(alloc, 2)?;
+    let (mut made, ready) = RingBuffer::with_protocol::<Global, Empty>(alloc, 2)?;
+    let parker = Parker::new();
+    let mut memory = ReadyMemory::new(alloc, orders, ready, &parker);
+    assert!(rt; made.push(Vec::with_capacity(alloc, 100)?).is_ok());
+    for bytes in [100, 200] {
+        let room = memory.room(bytes)?;
+        assert!(rt; room.is_empty() && room.capacity() >= bytes);
+        assert!(rt; made.slots() == 2 && ordered.pop() == Ok(bytes));
+    }
     Ok(())
 }
 
-/// Whether memory comes empty and with its room, three times of one length.
-fn is_given<R: Wait>(mut memory: ReadyMemory<'_, R>, bytes: usize) -> Result<bool, OutOfMemory> {
-    let mut given = true;
-    for _ in 0..3 {
-        let room = memory.room(bytes)?;
-        given = given && room.is_empty() && room.capacity() >= bytes;
-    }
-    Ok(given)
-}
-
-/// A thread makes memory ready as long as another one asks for it.
+/// What is ordered is made ready by another thread, which ends when no one orders any more.
 #[test]
 fn memory_is_made_ready(rt: HostRuntime) -> Result<(), Fail> {
     let alloc = rt.alloc();
-    let (orders, ordered) = bounded(alloc, 2)?;
-    let (made, ready) = bounded(alloc, 2)?;
-    let memory = ReadyMemory::new(&rt, alloc, orders, ready);
-    let (given, ()) = thread::join(
+    let (mut orders, mut ordered) = RingBuffer::new(alloc, 2)?;
+    let (mut made, mut ready) = RingBuffer::with_protocol::<Global, Empty>(alloc, 2)?;
+    assert!(rt; orders.push(100_000).is_ok());
+    let parker = Parker::new();
+    let maker = &parker;
+    thread::join(
         &rt,
-        move || is_given(memory, 100_000),
-        || make_ready(&rt, alloc, &ordered, &made),
+        move || {
+            drop(orders);
+            maker.unpark();
+        },
+        || make_ready(&rt, alloc, &mut ordered, &mut made, maker),
     );
-    assert!(rt; given?);
+    match ready.pop() {
+        Ok(room) => assert!(rt; room.is_empty() && room.capacity() >= 100_000),
+        Err(_) => assert!(rt; false, "nothing was made ready"),
+    }
+    Ok(())
+}
+
+/// Plays a trace over memory that is made ready, and then ends its orders.
+fn plays(
+    alloc: Global,
+    mut memory: ReadyMemory<'_>,
+    words: Vec<Word>,
+    mut input: MemorySource,
+) -> (Status, MemorySink) {
+    let mut output = MemorySink::new(alloc, 50_000, CallList::empty(alloc));
+    let status = top_with(alloc, &mut memory, &words, &mut input, &mut output);
+    memory.close();
+    (status, output)
+}
+
+/// Whether a trace gives its replies and its status while another thread makes memory ready.
+fn is_played_ready<R: Threads + Wait + Sync>(
+    rt: &R,
+    alloc: Global,
+    row: &Row,
+) -> Result<bool, Fail> {
+    let (orders, mut ordered) = RingBuffer::new(alloc, 2)?;
+    let (mut made, ready) = RingBuffer::with_protocol::<Global, Empty>(alloc, 2)?;
+    let parker = Parker::new();
+    let maker = &parker;
+    let memory = ReadyMemory::new(alloc, orders, ready, maker);
+    let mut words = Vec::new(alloc);
+    words.push(Word::from_text(alloc, "replay")?)?;
+    let input = MemorySource::new(bytes_of(alloc, row.trace)?, 50_000, CallList::empty(alloc));
+    let ((status, output), ()) = thread::join(
+        rt,
+        move || plays(alloc, memory, words, input),
+        || make_ready(rt, alloc, &mut ordered, &mut made, maker),
+    );
+    let replies = bytes_of(alloc, row.replies)?;
+    Ok(status == row.status && output.as_slice() == replies.as_slice())
+}
+
+#[test]
+fn worked_traces_over_ready_memory(rt: HostRuntime) -> Result<(), Fail> {
+    for row in &long_data::ROWS {
+        assert!(rt; is_played_ready(&rt, rt.alloc(), row)?, "{}", row.name);
+    }
     Ok(())
 }
 
@@ -322,8 +384,7 @@ fn other_words(rt: HostRuntime) -> Result<(), Fail> {
         let trace = bytes_of(alloc, ROWS[3].trace)?;
         let mut input = MemorySource::new(trace, 4096, CallList::empty(alloc));
         let mut output = MemorySink::new(alloc, 4096, CallList::empty(alloc));
-        let mut memory = alloc;
-        assert!(rt; top(alloc, &mut memory, &words, &mut input, &mut output) == Status::Usage);
+        assert!(rt; top(alloc, &words, &mut input, &mut output) == Status::Usage);
         assert!(rt; output.as_slice().is_empty());
     }
     Ok(())

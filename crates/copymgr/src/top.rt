@@ -6,7 +6,7 @@ use crate::status::Status;
 use cm_base::{Sink, Source, Word};
 use cm_frame::Memory;
 use std::alloc::Global;
-use trace_replay::replay;
+use trace_replay::replay_with;
 
 /// The words are the one word `replay`.
 fn is_replay(words: &[Word]) -> bool
@@ -19,8 +19,27 @@ fn is_replay(words: &[Word]) -> bool
 }
 
 /// Does what the words say: `replay` plays a trace from the input and writes its reply records to
-/// the output; long data-outs go into `memory`. Other words are Usage, and nothing is read or written.
-pub fn top<M: Memory, I: Source, O: Sink>(
+/// the output. Other words are Usage, and nothing is read or written. It waits where the input or the
+/// output does, and nowhere else.
+pub fn top<I: Source, O: Sink>(
+    alloc: Global,
+    words: &[Word],
+    input: &mut I,
+    output: &mut O,
+) -> Status
+    ensures usage { (result ≡ Status.Usage) ↔ (words.now ≢ replay_words) }
+    ensures untouched { words.now ≢ replay_words → (input.new ≡ input.old) × (output.new ≡ output.old) }
+    ensures replayed { words.now ≡ replay_words
+        → HasReplayed (I.left input.old) (I.left input.new) (O.taken output.old) (O.taken output.new)
+        (I.read_faults input.old) (I.read_faults input.new)
+        (O.write_faults output.old) (O.write_faults output.new) result }
+{
+    let mut memory = alloc;
+    top_with(alloc, &mut memory, words, input, output)
+}
+
+/// Does what [`top`] does, with long data-outs in `memory`.
+pub fn top_with<M: Memory, I: Source, O: Sink>(
     alloc: Global,
     memory: &mut M,
     words: &[Word],
@@ -37,5 +56,5 @@ pub fn top<M: Memory, I: Source, O: Sink>(
     if !is_replay(words) {
         return Status::Usage;
     }
-    Status::from(replay(alloc, memory, input, output))
+    Status::from(replay_with(alloc, memory, input, output))
 }
