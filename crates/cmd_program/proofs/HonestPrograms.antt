@@ -26,7 +26,8 @@ use Rattle.cm_history.specs.Forms.{HasKind}
 use Rattle.cmd_program.specs.declared.step.Outcome.{Outcome}
 use Rattle.cmd_program.specs.Program.{Program, Ends, Asks, GivesUp, good, refused, done, ask_then, unless_refused, next, moved}
 use Rattle.cmd_program.specs.SingleActs.{told_read, told_map, told_report, told_token, told_copy, inquiry, unmap, page_told, populate}
-use Rattle.cmd_program.specs.TokenWrite.{TokenWrite, wanted, pieces, delete_by, deleting, advancing, started, starting, rod_part, redeemed, zero_rod, write_by, write_using_token}
+use Rattle.cm_history.specs.Room.{pieces}
+use Rattle.cmd_program.specs.TokenWrite.{TokenWrite, wanted, delete_by, deleting, advancing, started, starting, rod_part, redeemed, zero_rod, write_by, write_using_token}
 use Rattle.cmd_program.specs.ExtendedCopy.{Move, Copying, Tally, close_as, end_state, left_of, copy_reply, closing, segment_done, piece_put, unless_ended, putting, captured, copying, fresh, opening, copy_by, copy_read, copy_fault, moves_of, extended_copy}
 use Rattle.cmd_program.specs.Judging.{step, program, judged_cdb, judged_out}
 use Rattle.cmd_program.specs.Honest.{IsHonestReply, IsHonestStep, AnswerProgram, AreAnswers}

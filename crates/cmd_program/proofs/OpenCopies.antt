@@ -10,7 +10,7 @@ use Rattle.cm_history.specs.declared.act.Act.{Act}
 use Rattle.cm_history.specs.declared.answer.Answer.{Answer}
 use Rattle.cmd_program.specs.Program.{Program, Asks, unless_refused}
 use Rattle.cmd_program.specs.SingleActs.{told_copy}
-use Rattle.cmd_program.specs.TokenWrite.{pieces}
+use Rattle.cm_history.specs.Room.{pieces}
 use Rattle.cmd_program.specs.ExtendedCopy.{Move, Copying, Tally, close_as, end_state, left_of, copy_reply, closing, segment_done, piece_put, unless_ended, putting, captured, copying, fresh, opening, copy_by, copy_read, copy_fault, moves_of, extended_copy}
 use Rattle.cmd_program.proofs.Open.{IsOpen, unless_refused-open}
 

@@ -15,7 +15,8 @@ use Rattle.cm_history.specs.declared.answer.Answer.{Answer}
 use Rattle.cm_history.specs.declared.answer.OpState.{OpState}
 use Rattle.cmd_program.specs.Program.{refused, done, ask_then}
 use Rattle.cmd_program.specs.SingleActs.{populate, told_report, told_token}
-use Rattle.cmd_program.specs.TokenWrite.{TokenWrite, wanted, pieces, delete_by, deleting, advancing, started, starting, rod_part, redeemed, zero_rod, write_by, write_using_token}
+use Rattle.cm_history.specs.Room.{pieces}
+use Rattle.cmd_program.specs.TokenWrite.{TokenWrite, wanted, delete_by, deleting, advancing, started, starting, rod_part, redeemed, zero_rod, write_by, write_using_token}
 use Rattle.cmd_program.proofs.Open.{IsOpen, unless_refused-open}
 
 -- ---- POPULATE TOKEN and what is told of operations

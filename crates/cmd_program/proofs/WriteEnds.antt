@@ -43,7 +43,8 @@ use Rattle.cmd_program.specs.declared.step.Step.{Step}
 use Rattle.cmd_program.specs.Stepping.{gave_up}
 use Rattle.cmd_program.specs.Program.{Program, Ends, Asks, next, moved, done, refused, unless_refused, ask_then}
 use Rattle.cmd_program.specs.SingleActs.{act_alone}
-use Rattle.cmd_program.specs.TokenWrite.{TokenWrite, wanted, pieces, delete_by, end_of, advancing, started, starting, rod_part, redeemed, zero_rod, write_by, write_using_token}
+use Rattle.cm_history.specs.Room.{pieces}
+use Rattle.cmd_program.specs.TokenWrite.{TokenWrite, wanted, delete_by, end_of, advancing, started, starting, rod_part, redeemed, zero_rod, write_by, write_using_token}
 use Rattle.cmd_program.specs.Judging.{judged_cdb, judged_out, out_fault}
 use Rattle.cmd_program.specs.InHistory.{is_by, entries_by, IsNext, RunsIn}
 use Rattle.cmd_program.specs.WriteEnds.{is_progress, has_started, is_stop, was_stopped, EndsWell, WritesEndWell}

@@ -16,7 +16,7 @@ use Rattle.cm_history.specs.declared.act.Act.{Act}
 use Rattle.cm_history.specs.declared.act.CopyState.{CopyState}
 use Rattle.cm_history.specs.declared.answer.Answer.{Answer}
 use Rattle.cmd_program.specs.Program.{Ask, Program, Asks, done, refused, unless_refused, with_blocks, ask_then}
-use Rattle.cmd_program.specs.TokenWrite.{pieces}
+use Rattle.cm_history.specs.Room.{pieces}
 
 -- ---- where the segments lead
 

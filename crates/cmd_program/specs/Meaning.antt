@@ -4,7 +4,6 @@ use Rattle.cm_base.specs.Configuration.{Configuration}
 use Rattle.cm_frame.specs.declared.frame.Reply.{Reply}
 use Rattle.cm_history.specs.declared.act.Act.{Act}
 use Rattle.cm_history.specs.declared.act.Actor.{Actor}
-use Rattle.cm_history.specs.declared.answer.Answer.{Answer}
 use Rattle.cm_history.specs.declared.answer.MapRun.{MapRun}
 use Rattle.cm_history.specs.Bounds.{told_runs}
 use Rattle.lba_ranges.specs.HeldBlocks.{HeldBlocks}

@@ -1,5 +1,5 @@
 -- WRITE USING TOKEN
-use Rattle.std.specs.Prelude.{ℕ, zero, suc, ◌+◌, ◌-◌, ◌/◌, length, replicate, slice_range, Some, None, Result, Ok, Err, Bool, true, false, nat_lt, if◌then◌else◌}
+use Rattle.std.specs.Prelude.{ℕ, zero, suc, ◌+◌, length, replicate, slice_range, Some, None, Result, Ok, Err, Bool, true, false, nat_lt, if◌then◌else◌}
 use Rattle.cm_base.specs.Configuration.{Configuration}
 use Rattle.cm_base.specs.Units.{unit_of, is_configured}
 use Rattle.lba_ranges.specs.HeldBlocks.{HeldBlocks}
@@ -9,7 +9,7 @@ use Rattle.scsi_sense.specs.Codes.{bad_list, bad_token_length, bad_token_type, u
 use Rattle.block_params.specs.declared.lists.WriteList.{WriteList}
 use Rattle.rod_token.specs.declared.kind.TokenKind.{TokenKind}
 use Rattle.rod_token.specs.TokenText.{classify}
-use Rattle.cm_history.specs.Bounds.{piece_blocks}
+use Rattle.cm_history.specs.Room.{pieces}
 use Rattle.cm_history.specs.declared.act.Act.{Act}
 use Rattle.cm_history.specs.declared.answer.Answer.{Answer}
 use Rattle.cm_history.specs.declared.answer.OpState.{OpState}
@@ -25,10 +25,6 @@ pub record TokenWrite : Type 0 where
 -- the blocks that are to be written
 abbrev pub wanted : TokenWrite → ℕ
 wanted w = total w.list.ranges
-
--- the pieces of so many blocks
-abbrev pub pieces : ℕ → ℕ
-pieces blocks = (blocks + (piece_blocks - 1)) / piece_blocks
 
 -- DEL_TKN: a token that names its creator is deleted there
 abbrev pub delete_by : Bool → TokenKind → Program

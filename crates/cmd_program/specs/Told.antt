@@ -1,11 +1,11 @@
 -- What a host is told of an answer, in bytes
-use Rattle.std.specs.Prelude.{ℕ, List, [], ◌∷◌, ◌++◌, Option, Some, None, Bool, true, false, if◌then◌else◌}
+use Rattle.std.specs.Prelude.{ℕ, List, [], ◌∷◌, ◌++◌, Bool, if◌then◌else◌}
 use Rattle.std.specs.Option.{option_map}
 use Rattle.byteorder.specs.Endian.{big_bytes}
 use Rattle.cm_base.specs.Configuration.{Configuration}
 use Rattle.cm_base.specs.Fields.{zeros, counted}
-use Rattle.scsi_sense.specs.SenseCode.{SenseCode}
-use Rattle.copy_status.specs.CopyStatus.{CopyStatus}
+use Rattle.copy_status.specs.declared.operation.OperationStatus.{OperationStatus}
+use Rattle.copy_status.specs.CopyStatus.{CopyStatus, told}
 use Rattle.copy_status.specs.StatusBytes.{status4_bytes, information_bytes, status1_bytes}
 use Rattle.rod_token.specs.TokenText.{token_text}
 use Rattle.cm_history.specs.declared.act.CopyEnd.{CopyEnd}
@@ -27,28 +27,14 @@ abbrev pub map_bytes : List MapRun → List ℕ
 map_bytes runs = counted (zeros 4 ++ runs_bytes runs)
 
 -- the copy operation status
-abbrev pub status_code : Bool → OpState → ℕ
-status_code background OpState.Running = if background then 0x12 else 0x11
-status_code background OpState.Done = 0x01
-status_code background (OpState.Failed sense) = 0x02
-status_code background OpState.Terminated = 0x60
-
-abbrev pub is_running : OpState → Bool
-is_running OpState.Running = true
-is_running _ = false
-
-abbrev pub sense_of : OpState → Option SenseCode
-sense_of (OpState.Failed sense) = Some sense
-sense_of _ = None
+abbrev pub operation_status : Bool → OpState → OperationStatus
+operation_status background OpState.Running = if background then OperationStatus.Background else OperationStatus.Foreground
+operation_status background OpState.Done = OperationStatus.Completed
+operation_status background (OpState.Failed sense) = OperationStatus.Failed sense
+operation_status background OpState.Terminated = OperationStatus.Terminated
 
 abbrev pub status_of : OpReport → CopyStatus
-status_of r = record {
-  populate = r.populate;
-  status = status_code r.background r.state;
-  running = is_running r.state;
-  sense = sense_of r.state;
-  count = r.count;
-}
+status_of r = told r.populate (operation_status r.background r.state) r.count
 
 -- RECEIVE COPY STATUS(LID4)
 abbrev pub report_bytes : OpReport → List ℕ
