@@ -1,12 +1,14 @@
 -- What was written, after more of it
-use Rattle.std.proofs.Common.{◌≡◌, ℕ, List, [], ◌++◌, take, drop, take-append-drop, ap, sym, ◌∙◌, subst, append_assoc, append-nil, inl}
+use Rattle.std.proofs.Common.{◌≡◌, ℕ, ◌≤◌, List, [], ◌++◌, length, take, drop, take-append-drop, ap, sym, ◌∙◌, subst, append_assoc, append-nil, arith, inl}
 use Rattle.std.specs.Prelude.{Option, Result, Ok, Err, MatchResult}
 use Rattle.std.specs.Io.KnownBytes.{Appends}
 use Rattle.std.proofs.KnownBytes.{Appends-trans}
+use Rattle.std.proofs.Math.Seq.{take-append_seam}
 use Rattle.cm_base.specs.Outside.{IsBeginning}
 use Rattle.byteorder.specs.Endian.{big_bytes}
 use Rattle.cm_frame.specs.declared.frame.Reply.{Reply}
-use Rattle.cm_frame.specs.Grammar.{reply_bytes}
+use Rattle.cm_frame.specs.Grammar.{reply_bytes, reply_body, data_in, data_limit}
+use Rattle.cmd_program.specs.Meaning.{IsOfLength}
 use Rattle.trace_replay.specs.Played.{record_bytes}
 use Rattle.trace_replay.specs.declared.fault.ReplayFault.{ReplayFault}
 use Rattle.trace_replay.specs.Replayed.{IsCounted}
@@ -111,6 +113,18 @@ module _ (taken given : Option (List ℕ)) (bytes waits waits1 waits2 ini head :
   written-headed w =
       written-gathered taken given given waits1 (bytes ++ big_bytes 4 i) (take 6 (reply_bytes reply)) waits2 (second ∙ ap (λ l. waits1 ++ l) head_is)
       (written-gathered taken given given waits bytes (big_bytes 4 i) waits1 (first ∙ ap (λ l. waits ++ l) ini_is) w)
+
+-- a head is the first six bytes
+pub head-first : (head : List ℕ) (reply : Reply) → length head ≡ 6 → reply_bytes reply ≡ head ++ reply_body reply → head ≡ take 6 (reply_bytes reply)
+head-first head reply six is =
+    sym (subst (λ n. take n (reply_bytes reply) ≡ head) six (ap (take (length head)) is ∙ take-append_seam head (reply_body reply)))
+
+-- the data of a reply may stand in a frame
+pub data-few : (reply : Reply) → IsOfLength reply → length (data_in reply) ≤ data_limit
+data-few (Reply.Good bytes) few = few
+data-few (Reply.Check sense) few = omega arith
+data-few Reply.Busy few = omega arith
+data-few Reply.Full few = omega arith
 
 -- the tail was written, and then all of the record was
 pub writes-record : {A : Type 0} (r : Result A ReplayFault) (taken given : Option (List ℕ)) (waits bytes : List ℕ) (i : ℕ) (reply : Reply)

@@ -1,33 +1,16 @@
-ghost use Rattle.std.specs.Prelude.{◌≡◌, ◌++◌, [], ℕ, List, Option, take, drop, OnOk, OnErr, IfErr, MatchResult};
+ghost use Rattle.std.specs.Prelude.{◌≡◌, ◌++◌, [], ℕ, List, Option, drop, OnOk, OnErr, IfErr, MatchResult};
 ghost use Rattle.cm_frame.specs.Grammar.{reply_bytes};
 ghost use Rattle.cmd_program.specs.Meaning.{IsOfLength};
 ghost use Rattle.trace_replay.specs.Played.{record_bytes};
 ghost use Rattle.trace_replay.specs.Writing.{IsWritten, IsBegun, Writes, IsCountedBy};
 
 use crate::fault::ReplayFault;
-use cm_base::{OutputBuffer, Sink, push_all, set_u32};
-use cm_frame::Reply;
+use cm_base::{OutputBuffer, Sink, push_all};
+use cm_frame::{Reply, reply_head};
 
 /// From so many bytes on, data is pushed from where it stands, and replies that were gathered are
 /// pushed.
 const PIECE: usize = 65_536;
-
-/// The bytes of a reply before its sense and its data.
-fn reply_head(reply: &Reply) -> [u8; 6]
-    requires { IsOfLength reply.now }
-    ensures { result ≡ take 6 (reply_bytes reply.now) }
-{
-    match reply {
-        Reply::Good(data) => {
-            let mut head = [0; 6];
-            set_u32(&mut head, 2, data.len() as u32);
-            head
-        }
-        Reply::Check(_) => [0x02, 0x12, 0, 0, 0, 0],
-        Reply::Busy => [0x08, 0, 0, 0, 0, 0],
-        Reply::Full => [0x28, 0, 0, 0, 0, 0],
-    }
-}
 
 /// Pushes all bytes that wait.
 pub(crate) fn flush<O: Sink>(waits: &mut OutputBuffer, output: &mut O) -> Result<(), ReplayFault>
