@@ -1,6 +1,5 @@
-ghost use Rattle.std.specs.Prelude.{◌≡◌, ◌++◌, ◌∷◌, [], ℕ, List, IfOk, IfSome, IsOk, Bool, true};
+ghost use Rattle.std.specs.Prelude.{◌≡◌, ◌++◌, ◌∷◌, [], ℕ, List, IfOk, IfSome, IsOk, true};
 ghost use Rattle.cm_base.specs.Configuration.{Configuration};
-ghost use Rattle.scsi_sense.specs.SenseCode.{SenseCode};
 ghost use Rattle.cm_frame.specs.declared.frame.Request.{Request};
 ghost use Rattle.cmd_program.specs.declared.step.Outcome.{Outcome};
 ghost use Rattle.cmd_program.specs.Stepping.{gave_up};

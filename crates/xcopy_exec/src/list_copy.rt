@@ -10,7 +10,7 @@ ghost use Rattle.xcopy_exec.specs.declared.stage.Stage.{Stage};
 ghost use Rattle.std.specs.Option.{option_map};
 ghost use Rattle.cmd_machine.specs.Last.{by_last, IsLastOf};
 ghost use Rattle.cmd_machine.specs.Standing.{standing, IsSoundAt};
-ghost use Rattle.xcopy_exec.specs.Meaning.{by_phase, by_stage, given, given_record, tally, move, ahead, later, IsAhead, IsWithin, IsPutting, IsSoundPhase, move_bytes};
+ghost use Rattle.xcopy_exec.specs.Meaning.{by_phase, by_stage, given, tally, move, ahead, later, IsAhead, IsWithin, IsPutting, IsSoundPhase, move_bytes};
 
 use crate::open_record::{Counted, OpenRecord};
 use crate::phase::{CopyCommand, CopyPhase};

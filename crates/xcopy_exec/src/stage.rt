@@ -14,7 +14,7 @@ ghost use Rattle.xcopy_exec.specs.Meaning.{by_phase, by_stage, IsSoundPhase, IsS
 use crate::faults::place;
 use crate::list_copy::ListCopy;
 use crate::open_record::OpenRecord;
-use crate::phase::{CopyCommand, CopyPhase};
+use crate::phase::CopyCommand;
 use crate::pieces::Pieces;
 use cm_base::{Config, OutOfMemory};
 use cm_history::{Act, Answer, CopyState};
