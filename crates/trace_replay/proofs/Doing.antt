@@ -17,6 +17,7 @@ use Rattle.cm_history.specs.Forms.{HasForm}
 use Rattle.cm_history.specs.Limits.{within_limits}
 use Rattle.cm_history.specs.Legal.{may_ask}
 use Rattle.cm_history.specs.Deeds.{last_stamp, same_actor}
+use Rattle.cm_history.specs.Ends.{ends_operation}
 use Rattle.cm_history.specs.History.{on, one_more, past_of, answer}
 use Rattle.cm_history.specs.Room.{is_full}
 use Rattle.cm_history.proofs.Locality.{past_of-on}
@@ -25,7 +26,6 @@ use Rattle.unit_core.specs.Standing as unit
 use Rattle.unit_core.specs.Acting as acting
 use Rattle.trace_replay.specs.declared.units.Units.{Units}
 use Rattle.trace_replay.specs.Standing.{seq, new_entry, has_no_room, entries_after}
-use Rattle.trace_replay.specs.Marks.{ends_operation}
 use Rattle.trace_replay.proofs.Legally.{legal-more, low-more}
 use Rattle.trace_replay.specs.Machines.{HaveDone, HavePumped, HaveCounted, Refuses, DoesAct}
 
@@ -105,13 +105,6 @@ its config entries u = record { config = config; unit = u; entries = on u entrie
 same-past : (config : Configuration) (entries : List Entry) (u : ℕ) → acting.past (its config entries u) ≡ past_of config u entries
 same-past config entries u = past_of-on config u entries
 
-same-ends : (config : Configuration) (entries : List Entry) (u : ℕ) (actor : Actor) (act : Act)
-    → acting.ends_operation_at (its config entries u) actor act ≡ ends_operation config entries actor u act
-same-ends config entries u actor (Act.End id) = rw (same-past config entries u) refl
-same-ends config entries u actor (Act.Abort id) = rw (same-past config entries u) refl
-same-ends config entries u actor (Act.Close id result) = rw (same-past config entries u) refl
-same-ends config entries u actor _ = refl
-
 not-last : (a b : Bool) → (a || b) ≡ false → a ≡ false
 not-last true b e = cc
 not-last false b e = refl
@@ -152,7 +145,7 @@ module _ (config : Configuration) (entries : List Entry) (units : Units) (u : �
       → (refused ≡ ActRefused.OutOfMemory → acting.ends_operation_at value actor act ≡ false) → Refuses config entries u actor act refused
   refuses ActRefused.Full full ends = sym same-full ∙ full refl
   refuses ActRefused.OutOfMemory full ends =
-      sym (same-ends config entries u actor act) ∙ sym (ap (λ v. acting.ends_operation_at v actor act) is-its) ∙ ends refl
+      sym (ap (λ p. ends_operation p actor act) (same-past config entries u)) ∙ sym (ap (λ v. acting.ends_operation_at v actor act) is-its) ∙ ends refl
 
   -- the unit is as it was
   pub done-refused : (units' : Units) (value' : unit.Standing) → units'.units.items ≡ slice_set units.units.items u value' → units'.stamp ≡ units.stamp

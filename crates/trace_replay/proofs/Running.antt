@@ -12,7 +12,8 @@ use Rattle.cmd_program.specs.Stepping.{gave_up, gives_up}
 use Rattle.trace_replay.specs.declared.units.Units.{Units}
 use Rattle.trace_replay.specs.declared.nexus.Nexus.{Nexus}
 use Rattle.trace_replay.specs.Standing.{Pending, Mark, NoMark, AtBegin, AtAct, AtStep, seq, has_no_room, entries_after, outcome_of, noted, noted_at_step, outcomes_at, entries_at}
-use Rattle.trace_replay.specs.Marks.{ends_operation}
+use Rattle.cm_history.specs.Ends.{ends_operation}
+use Rattle.cm_history.specs.History.{past_of}
 use Rattle.trace_replay.specs.Machines.{HaveCounted, HasActed, HasRun, WentOn, mark_of, is_at_act_of}
 use Rattle.trace_replay.proofs.Going.{gave-up-more, gave-up-none}
 
@@ -60,7 +61,7 @@ module _ (config : Configuration) (entries : List Entry) (p : Pending) (u moment
       → HasRun config entries p u moment act after nexus reply
   has-run n acted right wanted once went = go acted.mark acted.allowed acted.units (right ∙ acted.seq) acted.outcome wanted once went
     where
-      go : (mark : Mark) → is_at_act_of (gave_up p.outcomes) mark (ends_operation config entries actor u act) ≡ true
+      go : (mark : Mark) → is_at_act_of (gave_up p.outcomes) mark (ends_operation (past_of config u entries) actor act) ≡ true
           → HaveCounted config (entries_at mark entries later) after → nexus.seq ≡ seq actor (entries_at mark entries later)
           → outcomes_at mark outcome ≡ found ∷ [] → (wanted : Bool) → (gave_up (p.outcomes ++ found ∷ []) ≡ true → wanted ≡ false)
           → WentOn config (noted (noted p (found ∷ [])) (noted_at_step (mark_of wanted))) nexus.waiting reply
@@ -93,8 +94,8 @@ module _ (config : Configuration) (entries : List Entry) (p : Pending) (u moment
               by true e = absurd (goes (gave-up-more p.outcomes found ∙ or-front (gave_up p.outcomes) (gives_up found) e))
       go AtAct allowed units n is wanted once went =
           let none : found ≡ Outcome.NoMemory = cc in
-          let first = left-of (gave_up p.outcomes) (ends_operation config entries actor u act) allowed in
-          let ends = right-of (gave_up p.outcomes) (ends_operation config entries actor u act) allowed in
+          let first = left-of (gave_up p.outcomes) (ends_operation (past_of config u entries) actor act) allowed in
+          let ends = right-of (gave_up p.outcomes) (ends_operation (past_of config u entries) actor act) allowed in
           let gone : wanted ≡ false = once (ap (λ o. gave_up (p.outcomes ++ o ∷ [])) none ∙ gave-up-none p.outcomes) in
           record {
             mark = AtAct;

@@ -8,6 +8,7 @@ use Rattle.cm_history.specs.declared.answer.Answer.{Answer}
 use Rattle.cm_history.specs.Limits.{within_limits}
 use Rattle.cm_history.specs.Legal.{may_ask, IsLegal}
 use Rattle.cm_history.specs.Deeds.{last_stamp}
+use Rattle.cm_history.specs.Ends.{ends_operation}
 use Rattle.cm_history.specs.History.{on, past_of, answer}
 use Rattle.cm_history.specs.declared.refused.ActRefused.{ActRefused}
 use Rattle.unit_core.specs.Standing as unit
@@ -32,7 +33,7 @@ use Rattle.trace_replay.specs.declared.machine.Machine.{Machine}
 use Rattle.trace_replay.specs.declared.machine.Effect.{Effect}
 use Rattle.trace_replay.specs.Standing.{Pending, Record, Standing, Mark, NoMark, AtBegin, AtAct, AtStep, waiting, seq, new_entry, has_no_room, entries_after, outcome_of, noted, noted_at_step, outcomes_at, entries_at, next_step, next, fits}
 use Rattle.trace_replay.specs.Played.{mark_for}
-use Rattle.trace_replay.specs.Marks.{ends_operation, is_no_mark, allowed_at_act, is_allowed}
+use Rattle.trace_replay.specs.Marks.{is_no_mark, allowed_at_act, is_allowed}
 
 -- ---- units
 
@@ -75,7 +76,7 @@ pub record MayPump (units : Units) (u : ℕ) : Type 0 where
 
 abbrev pub Refuses : Configuration → List Entry → ℕ → Actor → Act → ActRefused → Type 0
 Refuses config entries u actor act ActRefused.Full = has_no_room config entries actor u act ≡ true
-Refuses config entries u actor act ActRefused.OutOfMemory = ends_operation config entries actor u act ≡ false
+Refuses config entries u actor act ActRefused.OutOfMemory = ends_operation (past_of config u entries) actor act ≡ false
 
 -- Where the seq is right, the act is answered and is one more entry, or it is refused and nothing changes.
 abbrev pub DoesAct : (List Entry → Type 0) → Configuration → List Entry → ℕ → Actor → ℕ → ℕ → Act → Result Answer ActRefused → Type 0
@@ -131,7 +132,7 @@ is_at_act_of given mark ends = false
 -- the act of a command was done, or memory was wanted for it, and this is its outcome
 pub record HasActed (config : Configuration) (entries : List Entry) (initiator u moment : ℕ) (act : Act) (given : Bool) (after : Units) (n : ℕ) (found : Outcome) : Type 0 where
   pub mark : Mark
-  pub allowed : is_at_act_of given mark (ends_operation config entries (Actor.Nexus initiator) u act) ≡ true
+  pub allowed : is_at_act_of given mark (ends_operation (past_of config u entries) (Actor.Nexus initiator) act) ≡ true
   pub units : HaveCounted config (entries_at mark entries (entries_after config entries (Actor.Nexus initiator) u moment act)) after
   pub seq : n ≡ seq (Actor.Nexus initiator) (entries_at mark entries (entries_after config entries (Actor.Nexus initiator) u moment act))
   pub outcome : outcomes_at mark (outcome_of config entries (Actor.Nexus initiator) u moment act) ≡ found ∷ []

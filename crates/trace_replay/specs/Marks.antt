@@ -1,12 +1,11 @@
 -- Where memory may have been refused
-use Rattle.std.specs.Prelude.{ℕ, List, [], ◌∷◌, drop, Option, Some, None, is_some, Bool, true, false, ◌&&◌, ◌||◌, not, nat_lt, if◌then◌else◌}
+use Rattle.std.specs.Prelude.{ℕ, List, [], ◌∷◌, drop, Option, Some, None, Bool, true, false, ◌&&◌, ◌||◌, not, nat_lt, if◌then◌else◌}
 use Rattle.std.specs.List.{list_any}
 use Rattle.cm_base.specs.Configuration.{Configuration}
-use Rattle.cm_history.specs.declared.act.Act.{Act}
 use Rattle.cm_history.specs.declared.act.Actor.{Actor}
 use Rattle.cm_history.specs.declared.act.Entry.{Entry}
 use Rattle.cm_history.specs.History.{past_of}
-use Rattle.cm_history.specs.Operations.{would_serve}
+use Rattle.cm_history.specs.Ends.{ends_operation}
 use Rattle.cm_frame.specs.declared.item.TraceItem.{TraceItem}
 use Rattle.cm_base.specs.declared.parsed.Parsed.{Parsed}
 use Rattle.cm_base.specs.declared.parsed.Parsed.TheVariants.{Whole}
@@ -18,23 +17,15 @@ use Rattle.trace_replay.specs.Items.{Placed, trace_of, items_limit}
 use Rattle.trace_replay.specs.Standing.{Pending, Standing, Mark, NoMark, AtBegin, AtAct, AtStep, at_first, waiting, has_no_room, next_step, next, fits}
 use Rattle.trace_replay.specs.Played.{mark_for, marks_behind, is_busy, replies_that}
 
--- an End, Abort or Close that serves an operation, for which memory is never wanted
-abbrev pub ends_operation : Configuration → List Entry → Actor → ℕ → Act → Bool
-ends_operation config entries actor unit (Act.End id) = is_some (would_serve (past_of config unit entries) actor (Act.End id))
-ends_operation config entries actor unit (Act.Abort id) = is_some (would_serve (past_of config unit entries) actor (Act.Abort id))
-ends_operation config entries actor unit (Act.Close id result) =
-    is_some (would_serve (past_of config unit entries) actor (Act.Close id result))
-ends_operation config entries actor unit _ = false
-
 -- the mark says nothing
 abbrev pub is_no_mark : Mark → Bool
 is_no_mark NoMark = true
 is_no_mark _ = false
 
--- the mark may stand at the act
+-- the mark may stand at the act; an act that ends an operation never wants memory
 abbrev pub allowed_at_act : Configuration → List Entry → Actor → Mark → Step → Bool
 allowed_at_act config entries actor mark (Step.Done reply) = is_no_mark mark
-allowed_at_act config entries actor AtAct (Step.Do unit act) = not (ends_operation config entries actor unit act)
+allowed_at_act config entries actor AtAct (Step.Do unit act) = not (ends_operation (past_of config unit entries) actor act)
 allowed_at_act config entries actor AtStep (Step.Do unit act) = not (has_no_room config entries actor unit act)
 allowed_at_act config entries actor AtBegin (Step.Do unit act) = false
 allowed_at_act config entries actor NoMark (Step.Do unit act) = true
