@@ -1,0 +1,80 @@
+ghost use Rattle.std.specs.Prelude.{◌≡◌, [], true, Some};
+ghost use Rattle.cm_history.specs.declared.act.Entry.{Entry};
+
+use crate::recording::{RecordRefused, Recorder};
+use cm_base::CallList;
+use cm_history::Entry;
+use std::alloc::Global;
+use std::marker::Model;
+
+/// A recorder in memory, whose calls of the listed numbers, from 1, fail.
+#[derive(Drop)]
+pub struct MemoryRecorder {
+    alloc: Global,
+    entries: Vec<Entry>,
+    failing: CallList,
+    calls: u64,
+    faults: u64,
+}
+
+impl Model for MemoryRecorder {
+    ghost use Rattle.recorder.specs.Recording.{Recorded};
+
+    ghost Value = { Recorded };
+
+    ghost view = { λ r. record { entries = r.entries.items; failing = r.failing; calls = r.calls; faults = r.faults } };
+}
+
+impl MemoryRecorder {
+    /// A recorder that recorded nothing yet. It takes no memory.
+    pub fn new(alloc: Global, failing: CallList) -> MemoryRecorder
+        ensures made { result ≡ record { entries = []; failing = failing; calls = 0; faults = 0 } }
+        ensures told { ⟦<MemoryRecorder as Recorder>⟧.recorded result ≡ Some [] }
+        ensures fits { (e : Entry) → ⟦<MemoryRecorder as Recorder>⟧.fits result e }
+    {
+        MemoryRecorder {
+            alloc,
+            entries: Vec::new(alloc),
+            failing,
+            calls: 0,
+            faults: 0,
+        }
+    }
+
+    /// The entries that were recorded.
+    pub fn entries(&self) -> &[Entry]
+        ensures { result.now ≡ self.now.entries }
+    {
+        &self.entries
+    }
+}
+
+impl Recorder for MemoryRecorder {
+    ghost use Rattle.std.specs.Prelude.{Some, true, false};
+
+    const EAGER: bool = false;
+
+    ghost recorded = { λ r. Some r.entries };
+
+    ghost record_faults = { λ r. r.faults };
+
+    ghost absent = { λ _. false };
+
+    ghost fits = { λ _ _. Unit {0} };
+
+    fn record(&mut self, entry: &Entry) -> Result<(), RecordRefused> {
+        self.calls = self.calls.saturating_add(1);
+        if self.failing.as_slice().contains(&self.calls) {
+            self.faults = self.faults.saturating_add(1);
+            return Err(RecordRefused::Failed);
+        }
+        let copy = match entry.copy(self.alloc) {
+            Ok(copy) => copy,
+            Err(_) => return Err(RecordRefused::OutOfMemory),
+        };
+        match self.entries.push(copy) {
+            Ok(()) => Ok(()),
+            Err(_) => Err(RecordRefused::OutOfMemory),
+        }
+    }
+}
