@@ -1,0 +1,19 @@
+use Rattle.std.proofs.Common.{◌≡◌, ◌+◌, [], ◌∷◌, ◌++◌, take, ap, sym, ◌∙◌, append_assoc, append-nil}
+use Rattle.std.specs.Prelude.{flat_map}
+use Rattle.std.proofs.lemmas.Grind.{flat_map-append}
+use Rattle.lba_ranges.proofs.Rows.{take-get}
+use Rattle.recorder.specs.Text.{range_bytes}
+use Rattle.recorder.proofs.writing.write_ranges.Goals as goal
+
+pub loop-index-preserved : goal.loop-index-preserved
+loop-index-preserved c =
+    let before = take c.loop-index.index c.args.ranges.now in
+    let range = c.at.result in
+    let more : take (c.loop-index.index + 1) c.args.ranges.now ≡ before ++ range ∷ [] =
+    take-get c.args.ranges.now c.loop-index.index range c.at.ensures in
+    let grown : flat_map range_bytes (take (c.loop-index.index + 1) c.args.ranges.now) ≡ flat_map range_bytes before ++ range_bytes range =
+    ap (flat_map range_bytes) more ∙ flat_map-append range_bytes before (range ∷ []) in
+    c.in_ok-extend.ensures.ok ∙ ap (λ l. l ++ c.range_text.result) c.loop-index.invariant
+    ∙ ap (λ l. c.write_u8.new.into ++ flat_map range_bytes before ++ l) c.range_text.ensures
+    ∙ append_assoc c.write_u8.new.into (flat_map range_bytes before) (range_bytes range)
+    ∙ ap (λ l. c.write_u8.new.into ++ l) (sym grown)

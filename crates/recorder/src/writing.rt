@@ -1,0 +1,248 @@
+ghost use Rattle.std.specs.Prelude.{◌≡◌, ◌∷◌, ◌++◌, ◌≤◌, [], length, IfOk, OnOk};
+ghost use Rattle.byteorder.specs.Endian.{big_bytes};
+ghost use Rattle.cm_base.specs.Fields.{flag};
+ghost use Rattle.recorder.specs.Text.{range_bytes, ranges_bytes, blocks_text, block_limit, state_code, end_bytes, act_code, act_fields, actor_bytes, behind_actor, entry_bytes, HasShortLists};
+
+use crate::groups::write_blocks;
+use cm_base::{Bytes, OutOfMemory, set_u16, set_u32, set_u64};
+use cm_history::{Act, Actor, CopyEnd, CopyState, Entry, TokenText};
+use lba_ranges::{BlockList, Range, RangeList};
+use std::alloc::Global;
+
+fn write_u8(into: &mut Bytes, number: u8) -> Result<(), OutOfMemory>
+    ensures { OnOk result (into.new ≡ into.old ++ number ∷ []) }
+{
+    into.push(number)
+}
+
+fn write_u16(into: &mut Bytes, number: u16) -> Result<(), OutOfMemory>
+    ensures { OnOk result (into.new ≡ into.old ++ big_bytes 2 number) }
+{
+    let mut bytes = [0; 2];
+    set_u16(&mut bytes, 0, number);
+    into.extend(&bytes)
+}
+
+fn write_u32(into: &mut Bytes, number: u32) -> Result<(), OutOfMemory>
+    ensures { OnOk result (into.new ≡ into.old ++ big_bytes 4 number) }
+{
+    let mut bytes = [0; 4];
+    set_u32(&mut bytes, 0, number);
+    into.extend(&bytes)
+}
+
+fn write_u64(into: &mut Bytes, number: u64) -> Result<(), OutOfMemory>
+    ensures { OnOk result (into.new ≡ into.old ++ big_bytes 8 number) }
+{
+    let mut bytes = [0; 8];
+    set_u64(&mut bytes, 0, number);
+    into.extend(&bytes)
+}
+
+/// A range: LBA, number of blocks.
+fn range_text(range: Range) -> [u8; 12]
+    ensures { result ≡ range_bytes range }
+{
+    let mut bytes = [0; 12];
+    set_u64(&mut bytes, 0, range.lba);
+    set_u32(&mut bytes, 8, range.count);
+    bytes
+}
+
+/// Adds the number of ranges, and the ranges.
+fn write_ranges(into: &mut Bytes, ranges: &RangeList) -> Result<(), OutOfMemory>
+    ensures { OnOk result (into.new ≡ into.old ++ ranges_bytes ranges.now) }
+{
+    write_u8(into, ranges.len() as u8)?;
+    for index in 0..ranges.len() {
+        into.extend(&range_text(ranges.at(index)))?;
+    }
+    Ok(())
+}
+
+/// Adds a LBA and a number of blocks.
+fn write_extent(into: &mut Bytes, lba: u64, count: u32) -> Result<(), OutOfMemory>
+    ensures { OnOk result (into.new ≡ into.old ++ (big_bytes 8 lba ++ big_bytes 4 count)) }
+{
+    into.extend(&range_text(Range { lba, count }))
+}
+
+/// Adds a LBA and the blocks from it on.
+fn write_list(into: &mut Bytes, lba: u64, list: &BlockList) -> Result<(), OutOfMemory>
+    requires { length list.now.items ≤ block_limit }
+    ensures { OnOk result (into.new ≡ into.old ++ (big_bytes 8 lba ++ blocks_text list.now)) }
+{
+    write_u64(into, lba)?;
+    write_blocks(into, list)
+}
+
+fn write_populate(
+    into: &mut Bytes,
+    id: u32,
+    timeout: u32,
+    ranges: &RangeList,
+) -> Result<(), OutOfMemory>
+    ensures { OnOk result (into.new
+        ≡ into.old ++ (big_bytes 4 id ++ big_bytes 4 timeout ++ ranges_bytes ranges.now)) }
+{
+    write_u32(into, id)?;
+    write_u32(into, timeout)?;
+    write_ranges(into, ranges)
+}
+
+fn write_redeem(into: &mut Bytes, text: &TokenText, target: u16) -> Result<(), OutOfMemory>
+    ensures { OnOk result (into.new ≡ into.old ++ (text.now ++ big_bytes 2 target)) }
+{
+    into.extend(text.bytes())?;
+    write_u16(into, target)
+}
+
+fn write_start(
+    into: &mut Bytes,
+    id: u32,
+    background: bool,
+    ranges: &RangeList,
+    rod: &BlockList,
+) -> Result<(), OutOfMemory>
+    requires { length rod.now.items ≤ block_limit }
+    ensures { OnOk result (into.new ≡ into.old
+        ++ (big_bytes 4 id ++ flag background ∷ ranges_bytes ranges.now ++ blocks_text rod.now)) }
+{
+    write_u32(into, id)?;
+    write_u8(into, u8::from(background))?;
+    write_ranges(into, ranges)?;
+    write_blocks(into, rod)
+}
+
+/// The state of a copy's end.
+fn state_code(state: CopyState) -> u8
+    ensures { result ≡ state_code state }
+{
+    match state {
+        CopyState::Running => 0,
+        CopyState::Done => 1,
+        CopyState::Failed => 2,
+        CopyState::Terminated => 3,
+    }
+}
+
+fn write_close(into: &mut Bytes, id: u8, end: CopyEnd) -> Result<(), OutOfMemory>
+    ensures { OnOk result (into.new ≡ into.old ++ id ∷ end_bytes end) }
+{
+    let mut bytes = [0; 8];
+    bytes[0] = id;
+    bytes[1] = state_code(end.state);
+    set_u16(&mut bytes, 2, end.segments);
+    set_u32(&mut bytes, 4, end.bytes);
+    into.extend(&bytes)
+}
+
+/// The code of an act, 1 to 18.
+fn act_code(act: &Act) -> u8
+    ensures { result ≡ act_code act.now }
+{
+    match *act {
+        Act::Read { .. } => 0x01,
+        Act::Write { .. } => 0x02,
+        Act::Unmap { .. } => 0x03,
+        Act::MapStatus { .. } => 0x04,
+        Act::Populate { .. } => 0x05,
+        Act::Redeem { .. } => 0x06,
+        Act::Delete { .. } => 0x07,
+        Act::Start { .. } => 0x08,
+        Act::Advance { .. } => 0x09,
+        Act::Pump => 0x0a,
+        Act::End { .. } => 0x0b,
+        Act::Abort { .. } => 0x0c,
+        Act::Report { .. } => 0x0d,
+        Act::Capture { .. } => 0x0e,
+        Act::Put { .. } => 0x0f,
+        Act::Open { .. } => 0x10,
+        Act::Close { .. } => 0x11,
+        Act::Recall { .. } => 0x12,
+    }
+}
+
+/// Adds the fields of an act, in their order and width.
+fn write_fields(into: &mut Bytes, act: &Act) -> Result<(), OutOfMemory>
+    requires { HasShortLists act.now }
+    ensures { OnOk result (into.new ≡ into.old ++ act_fields act.now) }
+{
+    match *act {
+        Act::Read { lba, count } => write_extent(into, lba, count),
+        Act::Write { lba, ref list } => write_list(into, lba, list),
+        Act::Unmap { ref ranges } => write_ranges(into, ranges),
+        Act::MapStatus { lba } => write_u64(into, lba),
+        Act::Populate {
+            id,
+            timeout,
+            ref ranges,
+        } => write_populate(into, id, timeout, ranges),
+        Act::Redeem { ref text, target } => write_redeem(into, text, target),
+        Act::Delete { serial } => write_u64(into, serial),
+        Act::Start {
+            id,
+            background,
+            ref ranges,
+            ref rod,
+        } => write_start(into, id, background, ranges, rod),
+        Act::Advance { id } => write_u32(into, id),
+        Act::Pump => Ok(()),
+        Act::End { id } => write_u32(into, id),
+        Act::Abort { id } => write_u32(into, id),
+        Act::Report { id } => write_u32(into, id),
+        Act::Capture { lba, count } => write_extent(into, lba, count),
+        Act::Put { lba, ref list } => write_list(into, lba, list),
+        Act::Open { id } => write_u8(into, id),
+        Act::Close { id, result } => write_close(into, id, result),
+        Act::Recall { id } => write_u8(into, id),
+    }
+}
+
+/// Adds the kind of an actor, and its number in four bytes.
+fn write_actor(into: &mut Bytes, actor: Actor) -> Result<(), OutOfMemory>
+    ensures { OnOk result (into.new ≡ into.old ++ actor_bytes actor) }
+{
+    let (kind, number) = match actor {
+        Actor::Nexus(nexus) => (0x00, nexus),
+        Actor::Pump(unit) => (0x01, u32::from(unit)),
+    };
+    write_u8(into, kind)?;
+    write_u32(into, number)
+}
+
+/// What stands before the fields of an act: seq, moment, code.
+fn act_head(seq: u64, moment: u64, code: u8) -> [u8; 17]
+    ensures { result ≡ big_bytes 8 seq ++ big_bytes 8 moment ++ code ∷ [] }
+{
+    let mut head = [0; 17];
+    set_u64(&mut head, 0, seq);
+    set_u64(&mut head, 8, moment);
+    head[16] = code;
+    head
+}
+
+/// Adds the number of the actor's act, the moment, and the act.
+fn write_behind(into: &mut Bytes, entry: &Entry) -> Result<(), OutOfMemory>
+    requires { HasShortLists entry.now.act }
+    ensures { OnOk result (into.new ≡ into.old ++ behind_actor entry.now) }
+{
+    let code = act_code(&entry.act);
+    into.extend(&act_head(entry.seq, entry.moment, code))?;
+    write_fields(into, &entry.act)
+}
+
+/// The text of an entry (own profile): stamp 8 bytes, unit 2, kind of the actor 1, its number 4, seq 8,
+/// moment 8, code of the act 1, and the fields of the act. No list of its blocks has more than
+/// 1,048,576 blocks.
+pub fn write_entry(alloc: Global, entry: &Entry) -> Result<Bytes, OutOfMemory>
+    requires { HasShortLists entry.now.act }
+    ensures { IfOk result (λ text. text ≡ entry_bytes entry.now) }
+{
+    let mut text = Bytes::empty(alloc);
+    write_u64(&mut text, entry.stamp)?;
+    write_u16(&mut text, entry.unit)?;
+    write_actor(&mut text, entry.actor)?;
+    write_behind(&mut text, entry)?;
+    Ok(text)
+}
