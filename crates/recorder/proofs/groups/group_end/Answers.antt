@@ -1,5 +1,5 @@
-use Rattle.std.proofs.Common.{◌≡◌, ◌≢◌, ℕ, ◌≤◌, ◌<◌, length, ap, sym, ◌∙◌, arith, rules}
-use Rattle.std.specs.Prelude.{is_some, true, false}
+use Rattle.std.proofs.Common.{◌≡◌, sym, ◌∙◌, arith, rules}
+use Rattle.std.specs.Prelude.{is_some}
 use Rattle.lba_ranges.specs.HeldBlocks.{held_at}
 use Rattle.recorder.proofs.Fronts.{group-here}
 use Rattle.recorder.proofs.groups.group_end.Goals as goal
