@@ -1,7 +1,7 @@
 use crate::recording::{RecordRefused, Recorder};
 use cm_history::Entry;
 
-/// No recorder: entries are kept until the record is full.
+/// No recorder: every entry is refused, and none is kept.
 #[derive(Drop)]
 pub struct NoRecorder;
 

@@ -7,7 +7,8 @@ use cm_history::Entry;
 use std::alloc::Global;
 use std::marker::Model;
 
-/// A recorder in memory, whose calls of the listed numbers, from 1, fail.
+/// A recorder that keeps its entries in memory, for tests. Its calls whose numbers, from 1, are
+/// listed fail.
 #[derive(Drop)]
 pub struct MemoryRecorder {
     alloc: Global,

@@ -8,8 +8,11 @@ use cm_history::Entry;
 /// Why an entry was not recorded.
 #[derive(Drop, Clone, Copy)]
 pub enum RecordRefused {
+    /// Memory was wanted and not had.
     OutOfMemory,
+    /// The recorder failed, and counted the failure.
     Failed,
+    /// There is no recorder: it is refused each time.
     Absent,
 }
 
@@ -32,7 +35,9 @@ pub trait Recorder {
     // The entry may be the next one.
     ghost fits: { Self → Entry → Type 0 };
 
-    /// Records an entry. A refusal leaves what was recorded, and the same entry may be tried again.
+    /// Records an entry behind those that were recorded. Its lists have at most 1,048,576 blocks
+    /// each, as those of every act within its limits. A refusal leaves what was recorded, and the
+    /// same entry may be tried again; after `Ok` any entry may be the next.
     fn record(&mut self, entry: &Entry) -> Result<(), RecordRefused>
         requires fits { fits self.old entry.now }
         requires short { HasShortLists entry.now.act }
