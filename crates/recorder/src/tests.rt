@@ -1,6 +1,6 @@
-ghost use Rattle.std.specs.Prelude.{◌≡◌, IfOk};
-ghost use Rattle.recorder.specs.Text.{HasShortLists};
+ghost use Rattle.std.specs.Prelude.{◌≡◌};
 ghost use Rattle.cm_history.specs.declared.act.Act.{Act};
+ghost use Rattle.lba_ranges.specs.HeldBlocks.{IsFull};
 
 use super::*;
 use cm_base::{CallList, Payload};
@@ -35,16 +35,32 @@ fn a_read_as_bytes(rt: HostRuntime) -> Result<(), Fail> {
     Ok(())
 }
 
+/// One mapped block of two bytes.
+fn one_block(bytes: &'static [u8; 2]) -> Piece
+    ensures count { result.count ≡ 1 }
+    ensures full { IsFull 2 result.count result.fill }
+{
+    Piece {
+        count: 1,
+        fill: Fill::Bytes(Payload::from_static(bytes)),
+    }
+}
+
 /// Two mapped blocks of two bytes, which lie in two runs, and three unmapped ones.
 fn two_groups(rt: &HostRuntime) -> Result<BlockList, Fail> {
     let mut list = BlockList::empty(rt.alloc(), 2);
-    for (count, fill) in [
-        (1, Fill::Bytes(Payload::from_static(&[0x11, 0x12]))),
-        (1, Fill::Bytes(Payload::from_static(&[0x21, 0x22]))),
-        (3, Fill::Hole),
-    ] {
-        list.push(Piece { count, fill })?;
+    list.push(one_block(&[0x11, 0x12]))?;
+    if list.blocks() > 1 {
+        return Err(Fail::new("too many blocks"));
     }
+    list.push(one_block(&[0x21, 0x22]))?;
+    if list.blocks() > 2 {
+        return Err(Fail::new("too many blocks"));
+    }
+    list.push(Piece {
+        count: 3,
+        fill: Fill::Hole,
+    })?;
     Ok(list)
 }
 
