@@ -1,5 +1,6 @@
 ghost use Rattle.std.specs.Prelude.{◌≡◌, ◌∷◌, ◌++◌, ◌+◌, ◌<◌, ◌≤◌, length, drop, slice_range, flat_map, OnOk, IfOk};
-ghost use Rattle.recorder.specs.Text.{groups_of, group_bytes, blocks_text, block_limit};
+ghost use Rattle.recorder.specs.Text.{groups_of, group_bytes, blocks_text, block_limit, FitBlocks};
+ghost use Rattle.cm_base.specs.Fields.{AreBytes};
 ghost use Rattle.recorder.specs.Grouping.{group_in, held_bytes, fill_bytes};
 
 use cm_base::{Bytes, OutOfMemory, set_u32};
@@ -108,8 +109,10 @@ fn write_groups(into: &mut Bytes, list: &BlockList) -> Result<(), OutOfMemory>
 /// Adds a list of blocks: the block length, the number of groups, and the groups.
 pub(crate) fn write_blocks(into: &mut Bytes, list: &BlockList) -> Result<(), OutOfMemory>
     requires { length list.now.items ≤ block_limit }
-    ensures { OnOk result (into.new ≡ into.old ++ blocks_text list.now) }
+    ensures written { OnOk result (into.new ≡ into.old ++ blocks_text list.now) }
+    ensures fits { OnOk result (AreBytes (blocks_text list.now) → FitBlocks list.now) }
 {
+    let _sized = list.blocks();
     let mut head = [0; 8];
     set_u32(&mut head, 0, list.block_length());
     set_u32(&mut head, 4, group_count(list));

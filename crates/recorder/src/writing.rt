@@ -1,13 +1,21 @@
-ghost use Rattle.std.specs.Prelude.{◌≡◌, ◌∷◌, ◌++◌, ◌≤◌, [], length, IfOk, OnOk};
+ghost use Rattle.std.specs.Prelude.{◌≡◌, ◌∷◌, ◌++◌, ◌≤◌, ◌<◌, ◌^◌, [], length, IfOk, OnOk};
 ghost use Rattle.byteorder.specs.Endian.{big_bytes};
-ghost use Rattle.cm_base.specs.Fields.{flag};
-ghost use Rattle.recorder.specs.Text.{range_bytes, ranges_bytes, blocks_text, block_limit, state_code, end_bytes, act_code, act_fields, actor_bytes, behind_actor, entry_bytes, HasShortLists};
+ghost use Rattle.cm_base.specs.Fields.{flag, AreBytes};
+ghost use Rattle.recorder.specs.Text.{range_bytes, ranges_bytes, blocks_text, block_limit, state_code, end_bytes, act_code, act_fields, actor_bytes, behind_actor, entry_bytes, HasShortLists, FitsRange, FitRanges, FitBlocks, FitsAct, FitsActor, IsEntry};
+ghost use Rattle.recorder.specs.Reading.{read_entry};
+ghost use Rattle.cm_history.specs.declared.act.Act.{Act};
+ghost use Rattle.cm_base.specs.declared.parsed.Parsed.TheVariants.{Whole};
 
 use crate::groups::write_blocks;
 use cm_base::{Bytes, OutOfMemory, set_u16, set_u32, set_u64};
 use cm_history::{Act, Actor, CopyEnd, CopyState, Entry, TokenText};
 use lba_ranges::{BlockList, Range, RangeList};
 use std::alloc::Global;
+
+/// Each is the number of a byte.
+fn bytes_law(_bytes: &[u8])
+    ensures { AreBytes _bytes.now }
+{}
 
 fn write_u8(into: &mut Bytes, number: u8) -> Result<(), OutOfMemory>
     ensures { OnOk result (into.new ≡ into.old ++ number ∷ []) }
@@ -41,7 +49,8 @@ fn write_u64(into: &mut Bytes, number: u64) -> Result<(), OutOfMemory>
 
 /// A range: LBA, number of blocks.
 fn range_text(range: Range) -> [u8; 12]
-    ensures { result ≡ range_bytes range }
+    ensures text { result ≡ range_bytes range }
+    ensures fits { FitsRange range }
 {
     let mut bytes = [0; 12];
     set_u64(&mut bytes, 0, range.lba);
@@ -51,7 +60,8 @@ fn range_text(range: Range) -> [u8; 12]
 
 /// Adds the number of ranges, and the ranges.
 fn write_ranges(into: &mut Bytes, ranges: &RangeList) -> Result<(), OutOfMemory>
-    ensures { OnOk result (into.new ≡ into.old ++ ranges_bytes ranges.now) }
+    ensures written { OnOk result (into.new ≡ into.old ++ ranges_bytes ranges.now) }
+    ensures fits { OnOk result (FitRanges ranges.now) }
 {
     write_u8(into, ranges.len() as u8)?;
     for index in 0..ranges.len() {
@@ -70,7 +80,8 @@ fn write_extent(into: &mut Bytes, lba: u64, count: u32) -> Result<(), OutOfMemor
 /// Adds a LBA and the blocks from it on.
 fn write_list(into: &mut Bytes, lba: u64, list: &BlockList) -> Result<(), OutOfMemory>
     requires { length list.now.items ≤ block_limit }
-    ensures { OnOk result (into.new ≡ into.old ++ (big_bytes 8 lba ++ blocks_text list.now)) }
+    ensures written { OnOk result (into.new ≡ into.old ++ (big_bytes 8 lba ++ blocks_text list.now)) }
+    ensures fits { OnOk result (AreBytes (blocks_text list.now) → FitBlocks list.now) }
 {
     write_u64(into, lba)?;
     write_blocks(into, list)
@@ -82,8 +93,9 @@ fn write_populate(
     timeout: u32,
     ranges: &RangeList,
 ) -> Result<(), OutOfMemory>
-    ensures { OnOk result (into.new
+    ensures written { OnOk result (into.new
         ≡ into.old ++ (big_bytes 4 id ++ big_bytes 4 timeout ++ ranges_bytes ranges.now)) }
+    ensures fits { OnOk result (FitRanges ranges.now) }
 {
     write_u32(into, id)?;
     write_u32(into, timeout)?;
@@ -91,7 +103,8 @@ fn write_populate(
 }
 
 fn write_redeem(into: &mut Bytes, text: &TokenText, target: u16) -> Result<(), OutOfMemory>
-    ensures { OnOk result (into.new ≡ into.old ++ (text.now ++ big_bytes 2 target)) }
+    ensures written { OnOk result (into.new ≡ into.old ++ (text.now ++ big_bytes 2 target)) }
+    ensures fits { (length text.now ≡ 512) × (target < 2 ^ 16) }
 {
     into.extend(text.bytes())?;
     write_u16(into, target)
@@ -105,8 +118,11 @@ fn write_start(
     rod: &BlockList,
 ) -> Result<(), OutOfMemory>
     requires { length rod.now.items ≤ block_limit }
-    ensures { OnOk result (into.new ≡ into.old
+    ensures written { OnOk result (into.new ≡ into.old
         ++ (big_bytes 4 id ++ flag background ∷ ranges_bytes ranges.now ++ blocks_text rod.now)) }
+    ensures id { id < 2 ^ 32 }
+    ensures ranges { OnOk result (FitRanges ranges.now) }
+    ensures rod { OnOk result (AreBytes (blocks_text rod.now) → FitBlocks rod.now) }
 {
     write_u32(into, id)?;
     write_u8(into, u8::from(background))?;
@@ -127,7 +143,8 @@ fn state_code(state: CopyState) -> u8
 }
 
 fn write_close(into: &mut Bytes, id: u8, end: CopyEnd) -> Result<(), OutOfMemory>
-    ensures { OnOk result (into.new ≡ into.old ++ id ∷ end_bytes end) }
+    ensures written { OnOk result (into.new ≡ into.old ++ id ∷ end_bytes end) }
+    ensures fits { FitsAct (Act.Close id end) }
 {
     let mut bytes = [0; 8];
     bytes[0] = id;
@@ -166,7 +183,8 @@ fn act_code(act: &Act) -> u8
 /// Adds the fields of an act, in their order and width.
 fn write_fields(into: &mut Bytes, act: &Act) -> Result<(), OutOfMemory>
     requires { HasShortLists act.now }
-    ensures { OnOk result (into.new ≡ into.old ++ act_fields act.now) }
+    ensures written { OnOk result (into.new ≡ into.old ++ act_fields act.now) }
+    ensures fits { OnOk result (AreBytes (act_fields act.now) → FitsAct act.now) }
 {
     match *act {
         Act::Read { lba, count } => write_extent(into, lba, count),
@@ -201,7 +219,8 @@ fn write_fields(into: &mut Bytes, act: &Act) -> Result<(), OutOfMemory>
 
 /// Adds the kind of an actor, and its number in four bytes.
 fn write_actor(into: &mut Bytes, actor: Actor) -> Result<(), OutOfMemory>
-    ensures { OnOk result (into.new ≡ into.old ++ actor_bytes actor) }
+    ensures written { OnOk result (into.new ≡ into.old ++ actor_bytes actor) }
+    ensures fits { FitsActor actor }
 {
     let (kind, number) = match actor {
         Actor::Nexus(nexus) => (0x00, nexus),
@@ -213,7 +232,8 @@ fn write_actor(into: &mut Bytes, actor: Actor) -> Result<(), OutOfMemory>
 
 /// What stands before the fields of an act: seq, moment, code.
 fn act_head(seq: u64, moment: u64, code: u8) -> [u8; 17]
-    ensures { result ≡ big_bytes 8 seq ++ big_bytes 8 moment ++ code ∷ [] }
+    ensures written { result ≡ big_bytes 8 seq ++ big_bytes 8 moment ++ code ∷ [] }
+    ensures fits { (seq < 2 ^ 64) × (moment < 2 ^ 64) }
 {
     let mut head = [0; 17];
     set_u64(&mut head, 0, seq);
@@ -225,7 +245,9 @@ fn act_head(seq: u64, moment: u64, code: u8) -> [u8; 17]
 /// Adds the number of the actor's act, the moment, and the act.
 fn write_behind(into: &mut Bytes, entry: &Entry) -> Result<(), OutOfMemory>
     requires { HasShortLists entry.now.act }
-    ensures { OnOk result (into.new ≡ into.old ++ behind_actor entry.now) }
+    ensures written { OnOk result (into.new ≡ into.old ++ behind_actor entry.now) }
+    ensures numbers { (entry.now.seq < 2 ^ 64) × (entry.now.moment < 2 ^ 64) }
+    ensures fits { OnOk result (AreBytes (act_fields entry.now.act) → FitsAct entry.now.act) }
 {
     let code = act_code(&entry.act);
     into.extend(&act_head(entry.seq, entry.moment, code))?;
@@ -237,12 +259,15 @@ fn write_behind(into: &mut Bytes, entry: &Entry) -> Result<(), OutOfMemory>
 /// 1,048,576 blocks.
 pub fn write_entry(alloc: Global, entry: &Entry) -> Result<Bytes, OutOfMemory>
     requires { HasShortLists entry.now.act }
-    ensures { IfOk result (λ text. text ≡ entry_bytes entry.now) }
+    ensures written { IfOk result (λ text. text ≡ entry_bytes entry.now) }
+    ensures fits { IfOk result (λ text. IsEntry entry.now) }
+    ensures read_back { IfOk result (λ text. read_entry text ≡ Whole entry.now (length text)) }
 {
     let mut text = Bytes::empty(alloc);
     write_u64(&mut text, entry.stamp)?;
     write_u16(&mut text, entry.unit)?;
     write_actor(&mut text, entry.actor)?;
     write_behind(&mut text, entry)?;
+    bytes_law(text.as_slice());
     Ok(text)
 }
