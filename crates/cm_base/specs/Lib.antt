@@ -2,6 +2,8 @@ pub mod Fields
 pub mod Configuration
 pub mod Units
 pub mod Outside
+pub mod Sides
+pub mod Listening
 pub mod Memory
 pub mod Windows
 pub mod Roomy

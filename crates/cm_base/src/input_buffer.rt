@@ -4,7 +4,7 @@ ghost use Rattle.cm_base.specs.Outside.{Faulted, StaysTold};
 
 use crate::out_of_memory::OutOfMemory;
 use crate::source::{ReadFailed, Source};
-use crate::window::Window;
+use crate::window::{PIECE, Window};
 use std::alloc::Global;
 use std::error::Error;
 use std::fmt;
@@ -90,6 +90,14 @@ impl InputBuffer {
         self.window.consume(count);
     }
 
+    /// Adds these bytes behind those that wait. At `OutOfMemory` the same bytes wait as before.
+    pub fn feed(&mut self, piece: &[u8]) -> Result<(), OutOfMemory>
+        ensures ok { OnOk result (self.new ≡ self.old ++ piece.now) }
+        ensures err { OnErr result (self.new ≡ self.old) }
+    {
+        self.window.extend(piece)
+    }
+
     /// Pulls once, and adds what came; 0 bytes come only at the end of the input.
     ///
     /// `Read` where the source failed; `OutOfMemory` before anything was pulled. Both leave the
@@ -104,8 +112,9 @@ impl InputBuffer {
             × Faulted (S.read_faults source.old) (S.read_faults source.new)) }
         ensures memory { IfErr result (λ e. e ≡ FillFailed.OutOfMemory → source.new ≡ source.old) }
         ensures told { StaysTold (S.left source.old) (S.left source.new) }
+        ensures apart { S.unpulled source.new ≡ S.unpulled source.old }
     {
-        self.window.settle()?;
+        self.window.settle(PIECE)?;
         Ok(self.window.pull(source)?)
     }
 }

@@ -1,6 +1,7 @@
 ghost use Rattle.std.specs.Prelude.{◌≡◌, ◌<◌, ◌≤◌, [], ◌++◌, min, take, length, IsTrue, IsErr, IfOk, OnErr, Some};
-ghost use Rattle.cm_base.specs.Memory.{Output, one_more, is_listed};
+ghost use Rattle.cm_base.specs.Memory.{Output, is_listed, after_push, after_failed_push};
 ghost use Rattle.cm_base.specs.Outside.{Faulted};
+ghost use Rattle.cm_base.specs.Sides.{no_side};
 
 use crate::config::CallList;
 use crate::sequence::Bytes;
@@ -67,14 +68,14 @@ impl Sink for MemorySink {
 
     ghost write_faults = { λ s. s.faults };
 
+    ghost unpushed = { λ _. no_side };
+
     fn push(&mut self, from: &[u8]) -> Result<usize, WriteFailed>
         ensures listed { IsTrue (is_listed self.old.failing self.old.calls) → IsErr result }
         ensures count { IfOk result (λ n. n ≡ min (length from.now) self.old.step) }
         ensures some { IfOk result (λ n. 0 < length from.now → 0 < n) }
-        ensures grown { IfOk result (λ n. self.new
-            ≡ record self.old { taken = self.old.taken ++ take n from.now; calls = one_more self.old.calls }) }
-        ensures failed { OnErr result (self.new
-            ≡ record self.old { calls = one_more self.old.calls; faults = one_more self.old.faults }) }
+        ensures grown { IfOk result (λ n. self.new ≡ after_push (take n from.now) self.old) }
+        ensures failed { OnErr result (self.new ≡ after_failed_push self.old) }
         ensures faulted { OnErr result (Faulted self.old.faults self.new.faults) }
     {
         self.calls = self.calls.saturating_add(1);

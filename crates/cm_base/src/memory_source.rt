@@ -1,6 +1,7 @@
 ghost use Rattle.std.specs.Prelude.{◌≡◌, ◌<◌, ◌≤◌, [], min, take, drop, length, is_err, IfOk, OnErr, Some};
-ghost use Rattle.cm_base.specs.Memory.{Input, one_more, is_listed};
+ghost use Rattle.cm_base.specs.Memory.{Input, is_listed, after_pull, after_failed_pull};
 ghost use Rattle.cm_base.specs.Outside.{Faulted};
+ghost use Rattle.cm_base.specs.Sides.{no_side};
 
 use crate::config::CallList;
 use crate::sequence::Bytes;
@@ -61,15 +62,16 @@ impl Source for MemorySource {
 
     ghost read_faults = { λ s. s.faults };
 
+    ghost unpulled = { λ _. no_side };
+
     fn pull(&mut self, into: &mut [u8]) -> Result<usize, ReadFailed>
         ensures listed { is_err result ≡ is_listed self.old.failing self.old.calls }
         ensures count { IfOk result
             (λ n. n ≡ min (min (length into.old) self.old.step) (length self.old.left)) }
         ensures given { IfOk result (λ n. (take n into.new ≡ take n self.old.left)
-            × (self.new ≡ record self.old { left = drop n self.old.left; calls = one_more self.old.calls })) }
+            × (self.new ≡ after_pull n self.old)) }
         ensures ended { IfOk result (λ n. n ≡ 0 → 0 < length into.new → self.new.left ≡ []) }
-        ensures failed { OnErr result (self.new
-            ≡ record self.old { calls = one_more self.old.calls; faults = one_more self.old.faults }) }
+        ensures failed { OnErr result (self.new ≡ after_failed_pull self.old) }
         ensures faulted { OnErr result (Faulted self.old.faults self.new.faults) }
     {
         self.calls = self.calls.saturating_add(1);

@@ -1,4 +1,4 @@
-ghost use Rattle.std.specs.Prelude.{◌≡◌, ◌==◌, ◌≤◌, ℕ, List, [], ◌++◌, length, OnOk, OnErr};
+ghost use Rattle.std.specs.Prelude.{◌≡◌, ◌==◌, ◌≤◌, ◌<◌, ℕ, List, [], ◌++◌, length, OnOk, OnErr};
 ghost use Rattle.std.specs.Io.KnownBytes.{Appends};
 ghost use Rattle.cm_base.specs.Outside.{Faulted, StaysTold};
 
@@ -64,9 +64,11 @@ impl OutputBuffer {
         ensures whole { OnOk result (self.new ≡ []) }
         ensures begun { OnErr result ((front : List ℕ) × (front ++ self.new ≡ self.old)
             × Appends (O.taken sink.old) (O.taken sink.new) front) }
+        ensures part { OnErr result (0 < length self.new) }
         ensures sound { OnOk result (O.write_faults sink.new ≡ O.write_faults sink.old) }
         ensures faulted { OnErr result (Faulted (O.write_faults sink.old) (O.write_faults sink.new)) }
         ensures told { StaysTold (O.taken sink.old) (O.taken sink.new) }
+        ensures apart { O.unpushed sink.new ≡ O.unpushed sink.old }
     {
         push_from(sink, self.bytes.as_slice(), &mut self.pushed)?;
         self.bytes.clear();

@@ -1,6 +1,7 @@
 ghost use Rattle.std.specs.Prelude.{◌≡◌, ◌≤◌, ◌<◌, ℕ, List, Option, ◌++◌, length, take, drop, IfOk, OnOk, OnErr};
 ghost use Rattle.std.specs.Io.KnownBytes.{Appends, Keeps};
-ghost use Rattle.cm_base.specs.Outside.{Faulted, StaysTold, IsBeginning};
+ghost use Rattle.cm_base.specs.Outside.{Faulted, StaysTold};
+ghost use Rattle.cm_base.specs.Sides.{Side, IsCut};
 
 use std::error::Error;
 use std::fmt;
@@ -25,6 +26,9 @@ pub trait Sink {
     // How many pushes failed, up to 2^64 - 1.
     ghost write_faults: { Self → ℕ };
 
+    // What pushes leave as it is: the other side of a connection.
+    ghost unpushed: { Self → Side };
+
     /// Takes the first of these bytes: at least one, unless there is none. `WriteFailed` takes
     /// none, and raises the count of faults.
     fn push(&mut self, from: &[u8]) -> Result<usize, WriteFailed>
@@ -34,17 +38,19 @@ pub trait Sink {
         ensures sound { OnOk result (write_faults self.new ≡ write_faults self.old) }
         ensures kept { OnErr result (Keeps (taken self.old) (taken self.new)) }
         ensures faulted { OnErr result (Faulted (write_faults self.old) (write_faults self.new)) }
-        ensures told { StaysTold (taken self.old) (taken self.new) };
+        ensures told { StaysTold (taken self.old) (taken self.new) }
+        ensures apart { unpushed self.new ≡ unpushed self.old };
 }
 
-/// Pushes all of these bytes. At `WriteFailed` the sink took a beginning of them.
+/// Pushes all of these bytes. At `WriteFailed` the sink took a beginning of them, and not all.
 pub fn push_all<O: Sink>(sink: &mut O, bytes: &[u8]) -> Result<(), WriteFailed>
     ensures grown { OnOk result (Appends (O.taken sink.old) (O.taken sink.new) bytes.now) }
     ensures sound { OnOk result (O.write_faults sink.new ≡ O.write_faults sink.old) }
-    ensures begun { OnErr result ((front : List ℕ) × IsBeginning front bytes.now
+    ensures begun { OnErr result ((front : List ℕ) × IsCut front bytes.now
         × Appends (O.taken sink.old) (O.taken sink.new) front) }
     ensures faulted { OnErr result (Faulted (O.write_faults sink.old) (O.write_faults sink.new)) }
     ensures told { StaysTold (O.taken sink.old) (O.taken sink.new) }
+    ensures apart { O.unpushed sink.new ≡ O.unpushed sink.old }
 {
     let mut at = 0;
     push_from(sink, bytes, &mut at)
@@ -62,9 +68,11 @@ pub(crate) fn push_from<O: Sink>(
     ensures within { at.old ≤ at.new }
     ensures end { at.new ≤ length bytes.now }
     ensures whole { OnOk result (at.new ≡ length bytes.now) }
+    ensures part { OnErr result (at.new < length bytes.now) }
     ensures sound { OnOk result (O.write_faults sink.new ≡ O.write_faults sink.old) }
     ensures faulted { OnErr result (Faulted (O.write_faults sink.old) (O.write_faults sink.new)) }
     ensures told { StaysTold (O.taken sink.old) (O.taken sink.new) }
+    ensures apart { O.unpushed sink.new ≡ O.unpushed sink.old }
 {
     while *at < bytes.len() {
         let count = sink.push(&bytes[*at..])?;

@@ -1,6 +1,7 @@
 ghost use Rattle.std.specs.Prelude.{◌≡◌, ◌≤◌, ◌<◌, ℕ, List, Option, length, take, IfOk, OnOk, OnErr};
 ghost use Rattle.std.specs.Io.KnownBytes.{Consumes, Keeps, IsAtEnd};
 ghost use Rattle.cm_base.specs.Outside.{Faulted, StaysTold};
+ghost use Rattle.cm_base.specs.Sides.{Side};
 
 use std::error::Error;
 use std::fmt;
@@ -25,6 +26,9 @@ pub trait Source {
     // How many pulls failed, up to 2^64 - 1.
     ghost read_faults: { Self → ℕ };
 
+    // What pulls leave as it is: the other side of a connection.
+    ghost unpulled: { Self → Side };
+
     /// Gives some of the next bytes: at least one, unless the slice is empty or the input has
     /// ended. `ReadFailed` takes none, and raises the count of faults.
     fn pull(&mut self, into: &mut [u8]) -> Result<usize, ReadFailed>
@@ -34,5 +38,6 @@ pub trait Source {
         ensures sound { OnOk result (read_faults self.new ≡ read_faults self.old) }
         ensures kept { OnErr result (Keeps (left self.old) (left self.new)) }
         ensures faulted { OnErr result (Faulted (read_faults self.old) (read_faults self.new)) }
-        ensures told { StaysTold (left self.old) (left self.new) };
+        ensures told { StaysTold (left self.old) (left self.new) }
+        ensures apart { unpulled self.new ≡ unpulled self.old };
 }

@@ -1,4 +1,5 @@
 ghost use Rattle.std.specs.Prelude.{◌≡◌, None};
+ghost use Rattle.cm_base.specs.Sides.{no_side};
 
 use crate::sink::{Sink, WriteFailed};
 use crate::source::{ReadFailed, Source};
@@ -25,6 +26,8 @@ impl<R: Read> Source for StandardInput<R> {
     ghost left = { λ _. None };
 
     ghost read_faults = { λ s. s.faults };
+
+    ghost unpulled = { λ _. no_side };
 
     fn pull(&mut self, into: &mut [u8]) -> Result<usize, ReadFailed> {
         match self.reader.read(into) {
@@ -58,6 +61,8 @@ impl<W: Write> Sink for StandardOutput<W> {
     ghost taken = { λ _. None };
 
     ghost write_faults = { λ s. s.faults };
+
+    ghost unpushed = { λ _. no_side };
 
     /// A writer that takes none of some bytes has failed.
     fn push(&mut self, from: &[u8]) -> Result<usize, WriteFailed> {

@@ -63,6 +63,21 @@ fn an_input_is_filled(rt: HostRuntime) -> Result<(), Fail> {
     Ok(())
 }
 
+/// An input that is fed grows and keeps its bytes.
+#[test]
+fn an_input_is_fed(rt: HostRuntime) -> Result<(), Fail> {
+    let mut input = InputBuffer::new(rt.alloc());
+    input.feed(b"from ")?;
+    input.feed(b"")?;
+    input.feed(b"block")?;
+    input.consume(5);
+    input.feed(&vec![in rt.alloc(); 7u8; 100_000]?)?;
+    assert_eq!(rt; input.as_slice().len(), 100_005);
+    assert_eq!(rt; input.as_slice().first(), Some(&b'b'));
+    assert_eq!(rt; input.as_slice().last(), Some(&7));
+    Ok(())
+}
+
 /// An output keeps what a sink did not take, and hands it on at the next flush.
 #[test]
 fn an_output_is_flushed(rt: HostRuntime) -> Result<(), Fail> {

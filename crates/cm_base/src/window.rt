@@ -45,17 +45,17 @@ impl Window {
         self.start += count;
     }
 
-    /// Makes room for a pull. What is left moves to the front where that costs no more than using
-    /// the bytes before it did, and to a larger window where there is too little room.
-    pub(crate) fn settle(&mut self) -> Result<(), OutOfMemory>
+    /// Makes room for so many bytes. What is left moves to the front where that costs no more than
+    /// using the bytes before it did, and to a larger window where there is too little room.
+    pub(crate) fn settle(&mut self, wanted: usize) -> Result<(), OutOfMemory>
         ensures held { held self.new ≡ held self.old }
-        ensures room { OnOk result (65_536 ≤ room self.new) }
+        ensures room { OnOk result (wanted ≤ room self.new) }
     {
         if self.end - self.start <= self.start {
             self.move_to_front();
         }
-        if self.bytes.len() - self.end < PIECE {
-            self.grow()?;
+        if self.bytes.len() - self.end < wanted {
+            self.grow(wanted)?;
         }
         Ok(())
     }
@@ -71,14 +71,14 @@ impl Window {
         self.end = end - start;
     }
 
-    /// Moves the bytes to the front of a window of twice their length.
-    fn grow(&mut self) -> Result<(), OutOfMemory>
+    /// Moves the bytes to the front of a window of twice their length, or of what is wanted.
+    fn grow(&mut self, wanted: usize) -> Result<(), OutOfMemory>
         ensures held { held self.new ≡ held self.old }
-        ensures room { OnOk result (65_536 ≤ room self.new) }
+        ensures room { OnOk result (wanted ≤ room self.new) }
     {
         let left = self.as_slice();
         let count = left.len();
-        let length = count.max(PIECE).checked_mul(2).ok_or(OutOfMemory)?;
+        let length = count.max(wanted).checked_mul(2).ok_or(OutOfMemory)?;
         let mut bytes = Vec::with_capacity(*self.bytes.allocator(), length)?;
         bytes.extend_from_slice(left)?;
         bytes.resize(length, 0)?;
@@ -86,6 +86,26 @@ impl Window {
         self.start = 0;
         self.end = count;
         Ok(())
+    }
+
+    /// Adds these bytes behind those that wait. At `OutOfMemory` the same bytes wait as before.
+    pub(crate) fn extend(&mut self, piece: &[u8]) -> Result<(), OutOfMemory>
+        ensures ok { OnOk result (held self.new ≡ held self.old ++ piece.now) }
+        ensures err { OnErr result (held self.new ≡ held self.old) }
+    {
+        self.settle(piece.len())?;
+        self.append(piece);
+        Ok(())
+    }
+
+    /// Adds bytes into the room behind those that wait.
+    fn append(&mut self, piece: &[u8])
+        requires { length piece.now ≤ room self.old }
+        ensures { held self.new ≡ held self.old ++ piece.now }
+    {
+        let end = self.end;
+        self.bytes[end..end + piece.len()].copy_from_slice(piece);
+        self.end = end + piece.len();
     }
 
     /// Pulls once, into the room behind the bytes.
@@ -99,6 +119,7 @@ impl Window {
         ensures kept { OnErr result (Keeps (S.left source.old) (S.left source.new)) }
         ensures faulted { OnErr result (Faulted (S.read_faults source.old) (S.read_faults source.new)) }
         ensures told { StaysTold (S.left source.old) (S.left source.new) }
+        ensures apart { S.unpulled source.new ≡ S.unpulled source.old }
     {
         let end = self.end;
         let room = (self.bytes.len() - end).min(2 * PIECE);

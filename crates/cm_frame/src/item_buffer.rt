@@ -95,6 +95,7 @@ impl ItemBuffer {
             × Faulted (S.read_faults source.old) (S.read_faults source.new)) }
         ensures memory { IfErr result (λ e. e ≡ FillFailed.OutOfMemory → source.new ≡ source.old) }
         ensures told { StaysTold (S.left source.old) (S.left source.new) }
+        ensures apart { S.unpulled source.new ≡ S.unpulled source.old }
     {
         self.make_room(memory)?;
         self.rest.fill(source)

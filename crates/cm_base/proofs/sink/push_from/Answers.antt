@@ -20,5 +20,6 @@ loop-at-preserved g c =
       omega (arith, r.within, ap length whole, length-drop at bytes),
       r.sound ∙ before.2,
       r.told ∙ before.3,
-      pushed _ _ _ before.4.0 bytes _ at n before.4.1 before.4.2 then,
+      r.apart ∙ before.4,
+      pushed _ _ _ before.5.0 bytes _ at n before.5.1 before.5.2 then,
     )

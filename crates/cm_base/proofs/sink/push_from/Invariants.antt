@@ -8,6 +8,7 @@ invariant-loop-at g l =
     (l.initial.at ≤ l.at) × (l.at ≤ length l.bytes)
     × (g.O.Sink.write_faults l.sink ≡ g.O.Sink.write_faults l.initial.sink)
     × StaysTold (g.O.Sink.taken l.initial.sink) (g.O.Sink.taken l.sink)
+    × (g.O.Sink.unpushed l.sink ≡ g.O.Sink.unpushed l.initial.sink)
     × ((front : List ℕ) × (front ++ drop l.at l.bytes ≡ drop l.initial.at l.bytes)
     × Appends (g.O.Sink.taken l.initial.sink) (g.O.Sink.taken l.sink) front)
 

@@ -19,7 +19,7 @@ returns-in_err-push_all-clause-written g c = λ taken bytes w.
     let p = err_from_is_err_and c.from_residual-in_err-push_all.result c.from_residual-in_err-push_all.ensures.1 in
     let h = c.in_ok-flush.ensures.written taken bytes w in
     let b = c.in_err-push_all.ensures.begun in
-    rw (p.1, p.2) (begun-passing taken _ _ _ bytes b.0 c.args.part.now h.1 b.1 h.0 b.2, inl refl)
+    rw (p.1, p.2) (begun-passing taken _ _ _ bytes b.0 c.args.part.now h.1 (b.1.rest, b.1.whole) h.0 b.2, inl refl)
 
 pub returns-in_err-push_all-clause-counted : goal.returns-in_err-push_all-clause-counted
 returns-in_err-push_all-clause-counted g c = λ reads.
