@@ -3,7 +3,7 @@ use Rattle.std.specs.Prelude.{ℕ, ◌-◌, ◌/◌, ◌==◌, List, [], length,
 use Rattle.cm_base.specs.Fields.{field, bit}
 use Rattle.lba_ranges.specs.declared.ranges.Range.{Range}
 use Rattle.scsi_sense.specs.SenseCode.{SenseCode}
-use Rattle.scsi_sense.specs.Codes.{bad_list_length, bad_list}
+use Rattle.scsi_sense.specs.Codes.{parameter_list_length_error, invalid_field_in_parameter_list}
 use Rattle.scsi_sense.specs.Faults.{unless, or_else}
 use Rattle.block_params.specs.declared.lists.PopulateList.{PopulateList}
 use Rattle.block_params.specs.declared.lists.WriteList.{WriteList}
@@ -18,8 +18,8 @@ unmap_count bytes = min (field bytes 2 3) (length bytes - 8) / 16
 abbrev pub unmap_read : List ℕ → Result (List Range) SenseCode
 unmap_read bytes =
     if length bytes == 0 then Ok [] else
-    if nat_lt (length bytes) 8 then Err bad_list_length else
-    if nat_lt 64 (unmap_count bytes) then Err bad_list else
+    if nat_lt (length bytes) 8 then Err parameter_list_length_error else
+    if nat_lt 64 (unmap_count bytes) then Err invalid_field_in_parameter_list else
     Ok (ranges_in (unmap_count bytes) (drop 8 bytes))
 
 -- ---- POPULATE TOKEN
@@ -30,7 +30,7 @@ is_bad_type bytes = bit bytes 2 1 && not (field bytes 8 11 == 0x0080_0000) && no
 
 -- what is wrong with the timeout or the type
 abbrev pub populate_fault : List ℕ → Option SenseCode
-populate_fault bytes = if nat_lt 3600 (field bytes 4 7) then Some bad_list else if is_bad_type bytes then Some bad_list else None
+populate_fault bytes = if nat_lt 3600 (field bytes 4 7) then Some invalid_field_in_parameter_list else if is_bad_type bytes then Some invalid_field_in_parameter_list else None
 
 -- 0 asks for the usual timeout
 abbrev pub timeout_of : ℕ → ℕ

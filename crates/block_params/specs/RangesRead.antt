@@ -4,7 +4,7 @@ use Rattle.cm_base.specs.Fields.{field}
 use Rattle.lba_ranges.specs.declared.ranges.Range.{Range}
 use Rattle.lba_ranges.specs.Denoted.{total, is_overlapping}
 use Rattle.scsi_sense.specs.SenseCode.{SenseCode}
-use Rattle.scsi_sense.specs.Codes.{bad_list_length, bad_list}
+use Rattle.scsi_sense.specs.Codes.{parameter_list_length_error, invalid_field_in_parameter_list}
 use Rattle.scsi_sense.specs.Faults.{unless}
 
 -- `n` range descriptors of 16 bytes: eight bytes of LBA, four of count, four that are not used
@@ -23,16 +23,16 @@ ranges_from start bytes = ranges_in (ranges_length start bytes / 16) (drop start
 -- what is wrong with the lengths of a token's list
 abbrev pub length_fault : ℕ → List ℕ → Option SenseCode
 length_fault start bytes =
-    if nat_lt (length bytes) start then Some bad_list_length else
-    if nat_lt (length bytes) (field bytes 0 1 + 2) then Some bad_list_length else
-    if not (ranges_length start bytes % 16 == 0) then Some bad_list else
-    if nat_lt (length bytes) (start + ranges_length start bytes) then Some bad_list_length else
-    if nat_lt 1024 (ranges_length start bytes) then Some bad_list else
+    if nat_lt (length bytes) start then Some parameter_list_length_error else
+    if nat_lt (length bytes) (field bytes 0 1 + 2) then Some parameter_list_length_error else
+    if not (ranges_length start bytes % 16 == 0) then Some invalid_field_in_parameter_list else
+    if nat_lt (length bytes) (start + ranges_length start bytes) then Some parameter_list_length_error else
+    if nat_lt 1024 (ranges_length start bytes) then Some invalid_field_in_parameter_list else
     None
 
 -- two ranges share a block, or there are more than 1,048,576 blocks
 abbrev pub range_fault : List Range → Option SenseCode
-range_fault ranges = if is_overlapping ranges || nat_lt 1_048_576 (total ranges) then Some bad_list else None
+range_fault ranges = if is_overlapping ranges || nat_lt 1_048_576 (total ranges) then Some invalid_field_in_parameter_list else None
 
 -- the ranges of a token's list, or why they are refused
 abbrev pub checked : List Range → Result (List Range) SenseCode

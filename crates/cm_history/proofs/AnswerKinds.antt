@@ -17,8 +17,8 @@ use Rattle.lba_ranges.specs.Denoted.{row}
 use Rattle.cm_history.specs.declared.answer.OpState.{OpState}
 use Rattle.cm_history.specs.Bounds.{told_runs}
 use Rattle.cm_history.specs.Blocks.{held, cut, mapped_with}
-use Rattle.cm_history.specs.Status.{runs}
-use Rattle.cm_history.specs.Senses.{wrong_unit, altered, no_such_operation, out_of_range, over_quota, in_use, too_many}
+use Rattle.cm_history.specs.Status.{map_runs}
+use Rattle.scsi_sense.specs.Codes.{remote_token_usage_not_supported, token_corrupt, invalid_field_in_cdb, lba_out_of_range, space_allocation_failed, operation_in_progress, insufficient_resources}
 use Rattle.cm_history.specs.Operations.{Operation, OfToken, OfCopy, has_key, kept, would_serve, next_piece, count}
 use Rattle.cm_history.specs.Tokens.{tokens}
 use Rattle.cm_history.specs.Answers.{answer_after, answer_end, done_if, answer_report, answer_recall, progress, progress_by, is_busy, is_crowded, put_at}
@@ -40,23 +40,23 @@ redeem-kind : (config : Configuration) (unit now : ℕ) (text : List ℕ) (targe
     → HasKind (Act.Redeem text target) (redeemed config unit now text target w)
 redeem-kind config unit now text target None = tt
 redeem-kind config unit now text target (Some t) =
-    either (Act.Redeem text target) (not (are_alike (unit_of config unit) (unit_of config target))) (Answer.Refused wrong_unit) _ tt
-    (either (Act.Redeem text target) (not (bytes_eq text (token_text config unit t.serial (total t.ranges)))) (Answer.Refused altered) _ tt
+    either (Act.Redeem text target) (not (are_alike (unit_of config unit) (unit_of config target))) (Answer.Refused remote_token_usage_not_supported) _ tt
+    (either (Act.Redeem text target) (not (bytes_eq text (token_text config unit t.serial (total t.ranges)))) (Answer.Refused token_corrupt) _ tt
     (fate-kind config unit text target t (fate_at now t t.fate)))
 
 advance-kind : (config : Configuration) (unit : ℕ) (past : List Deed) (id : ℕ) (w : Option Operation)
-    → HasKind (Act.Advance id) (progress (unit_of config unit) past (Answer.Refused no_such_operation) w)
+    → HasKind (Act.Advance id) (progress (unit_of config unit) past (Answer.Refused invalid_field_in_cdb) w)
 advance-kind config unit past id None = tt
 advance-kind config unit past id (Some o) =
     either (Act.Advance id) (nat_lt (unit_of config unit).quota (mapped_with (unit_of config unit) (held past) (next_piece o)))
-    (Answer.Progress (OpState.Failed over_quota) (count o)) (progress_by o (length (next_piece o))) tt tt
+    (Answer.Progress (OpState.Failed space_allocation_failed) (count o)) (progress_by o (length (next_piece o))) tt tt
 
 pump-kind : (config : Configuration) (unit : ℕ) (past : List Deed) (w : Option Operation)
     → HasKind Act.Pump (progress (unit_of config unit) past Answer.Idle w)
 pump-kind config unit past None = tt
 pump-kind config unit past (Some o) =
     either Act.Pump (nat_lt (unit_of config unit).quota (mapped_with (unit_of config unit) (held past) (next_piece o)))
-    (Answer.Progress (OpState.Failed over_quota) (count o)) (progress_by o (length (next_piece o))) tt tt
+    (Answer.Progress (OpState.Failed space_allocation_failed) (count o)) (progress_by o (length (next_piece o))) tt tt
 
 end-kind : (id : ℕ) (w : Option Operation) → HasKind (Act.End id) (answer_end w)
 end-kind id None = tt
@@ -78,32 +78,32 @@ pub after-kind : (config : Configuration) (unit : ℕ) (past : List Deed) (actor
     → HasKind act (answer_after config unit past actor now act)
 after-kind config unit past actor now (Act.Read lba count) =
     either (Act.Read lba count) (nat_le (lba + count) (unit_of config unit).blocks)
-    (Answer.Blocks (cut (unit_of config unit) (held past) (row lba count))) (Answer.Refused out_of_range) tt tt
+    (Answer.Blocks (cut (unit_of config unit) (held past) (row lba count))) (Answer.Refused lba_out_of_range) tt tt
 after-kind config unit past actor now (Act.Capture lba count) =
     either (Act.Capture lba count) (nat_le (lba + count) (unit_of config unit).blocks)
-    (Answer.Blocks (cut (unit_of config unit) (held past) (row lba count))) (Answer.Refused out_of_range) tt tt
+    (Answer.Blocks (cut (unit_of config unit) (held past) (row lba count))) (Answer.Refused lba_out_of_range) tt tt
 after-kind config unit past actor now (Act.Write lba list) = go (nat_lt (unit_of config unit).blocks (lba + length list.items)) (nat_lt (unit_of config unit).quota (mapped_with (unit_of config unit) (held past) (put_at lba list.items)))
   where
-    go : (a b : Bool) → HasKind (Act.Write lba list) (if a then Answer.Refused out_of_range else if b then Answer.Refused over_quota else Answer.Done)
+    go : (a b : Bool) → HasKind (Act.Write lba list) (if a then Answer.Refused lba_out_of_range else if b then Answer.Refused space_allocation_failed else Answer.Done)
     go true b = tt
     go false true = tt
     go false false = tt
 after-kind config unit past actor now (Act.Put lba list) = go (nat_lt (unit_of config unit).blocks (lba + length list.items)) (nat_lt (unit_of config unit).quota (mapped_with (unit_of config unit) (held past) (put_at lba list.items)))
   where
-    go : (a b : Bool) → HasKind (Act.Put lba list) (if a then Answer.Refused out_of_range else if b then Answer.Refused over_quota else Answer.Done)
+    go : (a b : Bool) → HasKind (Act.Put lba list) (if a then Answer.Refused lba_out_of_range else if b then Answer.Refused space_allocation_failed else Answer.Done)
     go true b = tt
     go false true = tt
     go false false = tt
 after-kind config unit past actor now (Act.Unmap ranges) =
-    either (Act.Unmap ranges) (is_within (unit_of config unit).blocks ranges) Answer.Done (Answer.Refused out_of_range) tt tt
+    either (Act.Unmap ranges) (is_within (unit_of config unit).blocks ranges) Answer.Done (Answer.Refused lba_out_of_range) tt tt
 after-kind config unit past actor now (Act.MapStatus lba) =
     either (Act.MapStatus lba) (nat_lt lba (unit_of config unit).blocks)
-    (Answer.Status (runs (held past) told_runs lba ((unit_of config unit).blocks - lba))) (Answer.Refused out_of_range) tt tt
+    (Answer.Status (map_runs (held past) told_runs lba ((unit_of config unit).blocks - lba))) (Answer.Refused lba_out_of_range) tt tt
 after-kind config unit past actor now (Act.Populate id timeout ranges) =
     go (is_busy past actor OfToken id) (not (is_within (unit_of config unit).blocks ranges)) (nat_le (2 ^ 48) (length (tokens past)))
   where
     go : (a b c : Bool) → HasKind (Act.Populate id timeout ranges)
-        (if a then Answer.Refused in_use else if b then Answer.Refused out_of_range else if c then Answer.Refused too_many else Answer.Made (length (tokens past)))
+        (if a then Answer.Refused operation_in_progress else if b then Answer.Refused lba_out_of_range else if c then Answer.Refused insufficient_resources else Answer.Made (length (tokens past)))
     go true b c = tt
     go false true c = tt
     go false false true = tt
@@ -114,7 +114,7 @@ after-kind config unit past actor now (Act.Start id background ranges rod) =
     go (is_busy past actor OfToken id) (not (is_within (unit_of config unit).blocks ranges)) (is_crowded past)
   where
     go : (a b c : Bool) → HasKind (Act.Start id background ranges rod)
-        (if a then Answer.Refused in_use else if b then Answer.Refused out_of_range else if c then Answer.Refused too_many
+        (if a then Answer.Refused operation_in_progress else if b then Answer.Refused lba_out_of_range else if c then Answer.Refused insufficient_resources
         else Answer.Progress (if length rod.items == 0 then OpState.Done else OpState.Running) 0)
     go true b c = tt
     go false true c = tt
@@ -127,7 +127,7 @@ after-kind config unit past actor now (Act.Abort id) = abort-kind id (would_serv
 after-kind config unit past actor now (Act.Report id) = report-kind id (find (has_key actor OfToken id) (kept past))
 after-kind config unit past actor now (Act.Open id) = go (is_busy past actor OfCopy id) (is_crowded past)
   where
-    go : (a b : Bool) → HasKind (Act.Open id) (if a then Answer.Refused in_use else if b then Answer.Refused too_many else Answer.Done)
+    go : (a b : Bool) → HasKind (Act.Open id) (if a then Answer.Refused operation_in_progress else if b then Answer.Refused insufficient_resources else Answer.Done)
     go true b = tt
     go false true = tt
     go false false = tt

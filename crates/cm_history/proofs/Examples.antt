@@ -8,7 +8,7 @@ use Rattle.cm_history.specs.declared.act.Act.{Act}
 use Rattle.cm_history.specs.declared.act.Actor.{Actor}
 use Rattle.cm_history.specs.declared.act.Entry.{Entry}
 use Rattle.cm_history.specs.declared.answer.Answer.{Answer}
-use Rattle.cm_history.specs.Senses.{expired}
+use Rattle.scsi_sense.specs.Codes.{token_expired}
 use Rattle.cm_history.specs.Blocks.{held, mapped}
 use Rattle.cm_base.specs.Units.{unit_of}
 use Rattle.rod_token.specs.TokenText.{token_text}
@@ -42,7 +42,7 @@ unfolding block_word double_rounds diagonal_round column_round quarter_round u32
 token_keeps = refl
 
 -- past its last use and its timeout it is over
-token_expires : answer config overwritten 0 (Actor.Nexus 1) 111 (Act.Redeem (token_text config 0 0 1) 0) ≡ Answer.Refused expired
+token_expires : answer config overwritten 0 (Actor.Nexus 1) 111 (Act.Redeem (token_text config 0 0 1) 0) ≡ Answer.Refused token_expired
 unfolding block_word double_rounds diagonal_round column_round quarter_round u32_at
 token_expires = refl
 

@@ -7,8 +7,8 @@ use Rattle.cm_history.specs.declared.act.Act.{Act}
 use Rattle.cm_history.specs.declared.act.Actor.{Actor}
 use Rattle.cm_history.specs.declared.act.Actor.TheVariants.{Nexus, Pump}
 use Rattle.cm_history.specs.declared.answer.Answer.{Answer}
-use Rattle.cm_history.specs.Bounds.{kept_records}
-use Rattle.cm_history.specs.Senses.{in_use}
+use Rattle.cm_history.specs.Bounds.{kept_operations}
+use Rattle.scsi_sense.specs.Codes.{operation_in_progress}
 use Rattle.cm_history.specs.Deeds.{Deed, is_answered, is_refusal, same_actor}
 use Rattle.cm_history.specs.Operations.{Operation, Form, OfToken, OfCopy, same_form, form_of, id_of, has_key, operation_after, made_operation, makes_operation, is_making, running, is_running, has_ended, same_key, without_first_ended, with_room, keep, kept}
 use Rattle.cm_history.specs.Answers.{deed, answer_after, is_busy}
@@ -62,7 +62,7 @@ apart-without (o ∷ os) a = go (has_ended o) (apart-without os a.1)
     go false rest = (Each-by _ (without_first_ended os) (λ x i. Each-in (λ (y : Operation). same_key y o ≡ false) os x a.0 (without_in os x i)), rest)
 
 apart-room : (os : List Operation) → KeysApart os → KeysApart (with_room os)
-apart-room os a = go (length os == kept_records)
+apart-room os a = go (length os == kept_operations)
   where
     go : (t : Bool) → KeysApart (if t then without_first_ended os else os)
     go true = apart-without os a
@@ -77,17 +77,17 @@ not_busy : (config : Configuration) (unit : ℕ) (past : List Deed) (actor : Act
     → not (is_refusal (answer_after config unit past actor now act)) ≡ true → is_busy past actor (form_of act) (id_of act) ≡ false
 not_busy config unit past actor now (Act.Populate id timeout ranges) m e = go (is_busy past actor OfToken id) _ e
   where
-    go : (t : Bool) (other : Answer) → not (is_refusal (if t then Answer.Refused in_use else other)) ≡ true → t ≡ false
+    go : (t : Bool) (other : Answer) → not (is_refusal (if t then Answer.Refused operation_in_progress else other)) ≡ true → t ≡ false
     go true other x = cc
     go false other x = refl
 not_busy config unit past actor now (Act.Start id background ranges rod) m e = go (is_busy past actor OfToken id) _ e
   where
-    go : (t : Bool) (other : Answer) → not (is_refusal (if t then Answer.Refused in_use else other)) ≡ true → t ≡ false
+    go : (t : Bool) (other : Answer) → not (is_refusal (if t then Answer.Refused operation_in_progress else other)) ≡ true → t ≡ false
     go true other x = cc
     go false other x = refl
 not_busy config unit past actor now (Act.Open id) m e = go (is_busy past actor OfCopy id) _ e
   where
-    go : (t : Bool) (other : Answer) → not (is_refusal (if t then Answer.Refused in_use else other)) ≡ true → t ≡ false
+    go : (t : Bool) (other : Answer) → not (is_refusal (if t then Answer.Refused operation_in_progress else other)) ≡ true → t ≡ false
     go true other x = cc
     go false other x = refl
 not_busy config unit past actor now _ m e = cc

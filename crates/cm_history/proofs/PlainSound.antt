@@ -14,7 +14,7 @@ use Rattle.cm_history.specs.declared.answer.Answer.{Answer}
 use Rattle.cm_history.specs.declared.answer.OpState.{OpState}
 use Rattle.cm_history.specs.Deeds.{Deed, is_refusal, is_answered}
 use Rattle.cm_history.specs.Limits.{within_limits, fits_unit}
-use Rattle.cm_history.specs.Senses.{in_use, out_of_range, too_many}
+use Rattle.scsi_sense.specs.Codes.{operation_in_progress, lba_out_of_range, insufficient_resources}
 use Rattle.cm_history.specs.Tokens.{tokens}
 use Rattle.cm_history.specs.Operations.{Operation, OfToken, operations, operation_after, made_operation, makes_operation, is_making, kept, list_of, written}
 use Rattle.cm_history.specs.Answers.{answer_after, deed, is_busy, is_crowded}
@@ -43,9 +43,9 @@ sound-act config unit past actor now (Act.Start id background ranges rod) few li
     (small, numbers-within _ ranges few (go (is_busy past actor OfToken id) (is_within (unit_of config unit).blocks ranges) answered))
   where
     last : Answer
-    last = if is_crowded past then Answer.Refused too_many else Answer.Progress (if length rod.items == 0 then OpState.Done else OpState.Running) 0
+    last = if is_crowded past then Answer.Refused insufficient_resources else Answer.Progress (if length rod.items == 0 then OpState.Done else OpState.Running) 0
 
-    go : (a b : Bool) → not (is_refusal (if a then Answer.Refused in_use else if not b then Answer.Refused out_of_range else last)) ≡ true → b ≡ true
+    go : (a b : Bool) → not (is_refusal (if a then Answer.Refused operation_in_progress else if not b then Answer.Refused lba_out_of_range else last)) ≡ true → b ≡ true
     go true b h = cc
     go false true h = refl
     go false false h = cc
@@ -60,7 +60,7 @@ made-sound config unit past actor now d (Act.Populate id timeout ranges) few lim
     let room : nat_le (2 ^ 48) (length (tokens past)) ≡ false = inside.1 in
     record { low = grind (arith, nat_tests); few = few-populated config unit id timeout ranges limits; numbers = numbers-within _ ranges few inside.0 }
   where
-    go : (a b c : Bool) → not (is_refusal (if a then Answer.Refused in_use else if not b then Answer.Refused out_of_range else if c then Answer.Refused too_many else Answer.Made (length (tokens past)))) ≡ true
+    go : (a b c : Bool) → not (is_refusal (if a then Answer.Refused operation_in_progress else if not b then Answer.Refused lba_out_of_range else if c then Answer.Refused insufficient_resources else Answer.Made (length (tokens past)))) ≡ true
         → (b ≡ true) × (c ≡ false)
     go true b c h = absurd cc
     go false false c h = absurd cc

@@ -6,7 +6,7 @@ use Rattle.std.proofs.lemmas.List.Elements.{filter-append}
 use Rattle.cm_base.specs.Configuration.{Configuration}
 use Rattle.cm_history.specs.declared.act.Act.{Act}
 use Rattle.cm_history.specs.declared.act.Actor.{Actor}
-use Rattle.cm_history.specs.Bounds.{kept_records}
+use Rattle.cm_history.specs.Bounds.{kept_operations}
 use Rattle.cm_history.specs.Deeds.{Deed}
 use Rattle.cm_history.specs.Operations.{Operation, operations, operation_after, made_operation, makes_operation, is_making, serves, would_serve, running, is_running, fits, has_ended, same_key, without_first_ended, with_room, keep, kept}
 use Rattle.cm_history.specs.Answers.{deed}
@@ -41,7 +41,7 @@ without_first_in (x ∷ os) o i = go (has_ended x) i (λ j. without_first_in os 
     go false (inr j) later = inr (later j)
 
 pub with_room_in : (os : List Operation) (o : Operation) → In o (with_room os) → In o os
-with_room_in os o i = go (length os == kept_records) i
+with_room_in os o i = go (length os == kept_operations) i
   where
     go : (t : Bool) → In o (if t then without_first_ended os else os) → In o os
     go true j = without_first_in os o j
@@ -126,7 +126,7 @@ without-running (o ∷ os) = go (is_running o) refl (without-running os)
     go false e ih = rw e refl
 
 with_room-running : (os : List Operation) → filter is_running (with_room os) ≡ filter is_running os
-with_room-running os = go (length os == kept_records)
+with_room-running os = go (length os == kept_operations)
   where
     go : (t : Bool) → filter is_running (if t then without_first_ended os else os) ≡ filter is_running os
     go true = without-running os

@@ -5,7 +5,7 @@ use Rattle.std.specs.Bool.{beq}
 use Rattle.cm_history.specs.declared.answer.MapRun.{MapRun}
 use Rattle.cm_history.specs.Bounds.{run_blocks}
 use Rattle.lba_ranges.specs.Writings.{Held}
-use Rattle.cm_history.specs.Status.{run_length, runs, IsRun}
+use Rattle.cm_history.specs.Status.{run_length, map_runs, IsRun}
 
 beq-same : (a : Bool) → beq a a ≡ true
 beq-same true = refl
@@ -38,20 +38,20 @@ run_length-is held kind block (suc room) (suc c) fits alike ends =
 
 -- the first run, and those after it
 pub runs-is : (held : ℕ → Held) (n block left : ℕ) (run : MapRun) → IsRun held block (suc left) run
-    → runs held (suc n) block (suc left) ≡ run ∷ runs held n (block + run.count) (suc left - run.count)
+    → map_runs held (suc n) block (suc left) ≡ run ∷ map_runs held n (block + run.count) (suc left - run.count)
 runs-is held n block left run is =
     let here : block + 0 ≡ block = omega arith in
     let kind : is_some (held block) ≡ run.mapped = sym (ap (λ b. is_some (held b)) here) ∙ is.alike 0 is.some in
     let count : run_length held (is_some (held block)) block (min (suc left) run_blocks) ≡ run.count =
     ap (λ k. run_length held k block (min (suc left) run_blocks)) kind
     ∙ run_length-is held run.mapped block (min (suc left) run_blocks) run.count is.fits is.alike is.ends in
-    ap (λ c. record { lba = block; count = c; mapped = is_some (held block) } ∷ runs held n (block + c) (suc left - c)) count
-    ∙ ap (λ m. record { lba = block; count = run.count; mapped = m } ∷ runs held n (block + run.count) (suc left - run.count)) kind
-    ∙ ap (λ b. record { lba = b; count = run.count; mapped = run.mapped } ∷ runs held n (block + run.count) (suc left - run.count)) (sym is.starts)
+    ap (λ c. record { lba = block; count = c; mapped = is_some (held block) } ∷ map_runs held n (block + c) (suc left - c)) count
+    ∙ ap (λ m. record { lba = block; count = run.count; mapped = m } ∷ map_runs held n (block + run.count) (suc left - run.count)) kind
+    ∙ ap (λ b. record { lba = b; count = run.count; mapped = run.mapped } ∷ map_runs held n (block + run.count) (suc left - run.count)) (sym is.starts)
 
 -- the first run, and those after it
 pub runs-more : (held : ℕ → Held) (n block left : ℕ) (run : MapRun) → 0 < n → 0 < left → IsRun held block left run
-    → runs held n block left ≡ run ∷ runs held (n - 1) (block + run.count) (left - run.count)
+    → map_runs held n block left ≡ run ∷ map_runs held (n - 1) (block + run.count) (left - run.count)
 runs-more held zero block left run some more is = absurd (omega arith)
 runs-more held (suc n) block zero run some more is = absurd (omega arith)
 runs-more held (suc n) block (suc left) run some more is =
@@ -59,15 +59,15 @@ runs-more held (suc n) block (suc left) run some more is =
     rw e (runs-is held n block left run is)
 
 -- no block, or no run, is left
-pub runs-done : (held : ℕ → Held) (n block left : ℕ) → (n ≡ 0) ⊎ (left ≡ 0) → runs held n block left ≡ []
+pub runs-done : (held : ℕ → Held) (n block left : ℕ) → (n ≡ 0) ⊎ (left ≡ 0) → map_runs held n block left ≡ []
 runs-done held n block left (inl e) = rw e refl
 runs-done held zero block left (inr e) = refl
 runs-done held (suc n) block left (inr e) = rw e refl
 
 -- one more run that was found
 pub runs-step : (held : ℕ → Held) (found : List MapRun) (all : List MapRun) (block blocks : ℕ) (run : MapRun) → length found < 64 → block < blocks → IsRun held block (blocks - block) run
-    → found ++ runs held (64 - length found) block (blocks - block) ≡ all
-    → ((found ++ run ∷ []) ++ runs held (64 - length (found ++ run ∷ [])) (block + run.count) (blocks - (block + run.count)) ≡ all)
+    → found ++ map_runs held (64 - length found) block (blocks - block) ≡ all
+    → ((found ++ run ∷ []) ++ map_runs held (64 - length (found ++ run ∷ [])) (block + run.count) (blocks - (block + run.count)) ≡ all)
     × (block + run.count ≤ blocks) × (length (found ++ run ∷ []) ≤ 64)
 runs-step held found all block blocks run few low is so_far =
     let long = length-append found (run ∷ []) in

@@ -13,7 +13,7 @@ use Rattle.cm_history.specs.declared.act.Actor.{Actor}
 use Rattle.cm_history.specs.declared.act.Entry.{Entry}
 use Rattle.cm_history.specs.declared.answer.Answer.{Answer}
 use Rattle.cm_history.specs.Deeds.{Deed, moment, is_refusal, is_answered}
-use Rattle.cm_history.specs.Senses.{in_use, out_of_range, too_many, wrong_unit, altered}
+use Rattle.scsi_sense.specs.Codes.{operation_in_progress, lba_out_of_range, insufficient_resources, remote_token_usage_not_supported, token_corrupt}
 use Rattle.cm_history.specs.Blocks.{held, cut}
 use Rattle.cm_base.specs.Units.{unit_of}
 use Rattle.rod_token.specs.TokenText.{serial_of, token_text}
@@ -40,7 +40,7 @@ redeemed-rod config unit now text target (Some t) list e =
     go (not (are_alike (unit_of config unit) (unit_of config target))) (not (bytes_eq text (token_text config unit t.serial (total t.ranges)))) (fate_at now t t.fate) refl e
   where
     go : (a b : Bool) (f : Fate) → fate_at now t t.fate ≡ f
-        → (if a then Answer.Refused wrong_unit else if b then Answer.Refused altered else answer_by_fate (unit_of config unit) t f) ≡ Answer.Rod list
+        → (if a then Answer.Refused remote_token_usage_not_supported else if b then Answer.Refused token_corrupt else answer_by_fate (unit_of config unit) t f) ≡ Answer.Rod list
         → CameOf (unit_of config unit) now (Some t) list
     go true b f is x = cc
     go false true f is x = cc
@@ -54,8 +54,8 @@ populate-made : (u : UnitConfig) (past : List Deed) (actor : Actor) (id : ℕ) (
     → not (is_refusal (answer_populate u past actor id ranges)) ≡ true → answer_populate u past actor id ranges ≡ Answer.Made (length (tokens past))
 populate-made u past actor id ranges e = go (is_busy past actor OfToken id) (not (is_within u.blocks ranges)) (nat_le (2 ^ 48) (length (tokens past))) e
   where
-    go : (a b c : Bool) → not (is_refusal (if a then Answer.Refused in_use else if b then Answer.Refused out_of_range else if c then Answer.Refused too_many else Answer.Made (length (tokens past)))) ≡ true
-        → (if a then Answer.Refused in_use else if b then Answer.Refused out_of_range else if c then Answer.Refused too_many else Answer.Made (length (tokens past))) ≡ Answer.Made (length (tokens past))
+    go : (a b c : Bool) → not (is_refusal (if a then Answer.Refused operation_in_progress else if b then Answer.Refused lba_out_of_range else if c then Answer.Refused insufficient_resources else Answer.Made (length (tokens past)))) ≡ true
+        → (if a then Answer.Refused operation_in_progress else if b then Answer.Refused lba_out_of_range else if c then Answer.Refused insufficient_resources else Answer.Made (length (tokens past))) ≡ Answer.Made (length (tokens past))
     go true b c x = cc
     go false true c x = cc
     go false false true x = cc
@@ -65,7 +65,7 @@ made-next : (u : UnitConfig) (past : List Deed) (actor : Actor) (id : ℕ) (rang
     → answer_populate u past actor id ranges ≡ Answer.Made s → s ≡ length (tokens past)
 made-next u past actor id ranges s e = go (is_busy past actor OfToken id) (not (is_within u.blocks ranges)) (nat_le (2 ^ 48) (length (tokens past))) e
   where
-    go : (a b c : Bool) → (if a then Answer.Refused in_use else if b then Answer.Refused out_of_range else if c then Answer.Refused too_many else Answer.Made (length (tokens past))) ≡ Answer.Made s
+    go : (a b c : Bool) → (if a then Answer.Refused operation_in_progress else if b then Answer.Refused lba_out_of_range else if c then Answer.Refused insufficient_resources else Answer.Made (length (tokens past))) ≡ Answer.Made s
         → s ≡ length (tokens past)
     go true b c x = cc
     go false true c x = cc

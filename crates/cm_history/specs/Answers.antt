@@ -14,11 +14,11 @@ use Rattle.cm_history.specs.declared.act.Entry.{Entry}
 use Rattle.cm_history.specs.declared.answer.Answer.{Answer}
 use Rattle.cm_history.specs.declared.answer.OpState.{OpState}
 use Rattle.cm_history.specs.declared.answer.OpReport.{OpReport}
-use Rattle.cm_history.specs.Senses.{out_of_range, over_quota, in_use, too_many, no_such_operation}
+use Rattle.scsi_sense.specs.Codes.{lba_out_of_range, space_allocation_failed, operation_in_progress, insufficient_resources, invalid_field_in_cdb}
 use Rattle.lba_ranges.specs.Writings.{Held, Writing, paired, unmapped}
 use Rattle.cm_history.specs.Deeds.{Deed, moment, is_refusal}
 use Rattle.cm_history.specs.Blocks.{held, cut, mapped_with}
-use Rattle.cm_history.specs.Status.{runs}
+use Rattle.cm_history.specs.Status.{map_runs}
 use Rattle.cm_base.specs.Units.{unit_of}
 use Rattle.cm_history.specs.Tokens.{tokens, is_populate}
 use Rattle.cm_history.specs.Redeeming.{redeemed, named_token}
@@ -31,20 +31,20 @@ put_at lba items = paired (row lba (length items)) items
 -- Up to `answer_status`, `now` is what the blocks hold.
 abbrev pub answer_read : UnitConfig → (ℕ → Held) → ℕ → ℕ → Answer
 answer_read unit now lba count =
-    if nat_le (lba + count) unit.blocks then Answer.Blocks (cut unit now (row lba count)) else Answer.Refused out_of_range
+    if nat_le (lba + count) unit.blocks then Answer.Blocks (cut unit now (row lba count)) else Answer.Refused lba_out_of_range
 
 abbrev pub answer_write : UnitConfig → (ℕ → Held) → ℕ → List Held → Answer
 answer_write unit now lba items =
-    if nat_lt unit.blocks (lba + length items) then Answer.Refused out_of_range else
-    if nat_lt unit.quota (mapped_with unit now (put_at lba items)) then Answer.Refused over_quota else
+    if nat_lt unit.blocks (lba + length items) then Answer.Refused lba_out_of_range else
+    if nat_lt unit.quota (mapped_with unit now (put_at lba items)) then Answer.Refused space_allocation_failed else
     Answer.Done
 
 abbrev pub answer_unmap : UnitConfig → List Range → Answer
-answer_unmap unit ranges = if is_within unit.blocks ranges then Answer.Done else Answer.Refused out_of_range
+answer_unmap unit ranges = if is_within unit.blocks ranges then Answer.Done else Answer.Refused lba_out_of_range
 
 abbrev pub answer_status : UnitConfig → (ℕ → Held) → ℕ → Answer
 answer_status unit now lba =
-    if nat_lt lba unit.blocks then Answer.Status (runs now told_runs lba (unit.blocks - lba)) else Answer.Refused out_of_range
+    if nat_lt lba unit.blocks then Answer.Status (map_runs now told_runs lba (unit.blocks - lba)) else Answer.Refused lba_out_of_range
 
 -- an operation of the key runs
 abbrev pub is_busy : List Deed → Actor → Form → ℕ → Bool
@@ -56,22 +56,22 @@ is_crowded past = nat_le running_operations (length (running past))
 
 abbrev pub answer_populate : UnitConfig → List Deed → Actor → ℕ → List Range → Answer
 answer_populate unit past actor id ranges =
-    if is_busy past actor OfToken id then Answer.Refused in_use else
-    if not (is_within unit.blocks ranges) then Answer.Refused out_of_range else
-    if nat_le (2 ^ 48) (length (tokens past)) then Answer.Refused too_many else
+    if is_busy past actor OfToken id then Answer.Refused operation_in_progress else
+    if not (is_within unit.blocks ranges) then Answer.Refused lba_out_of_range else
+    if nat_le (2 ^ 48) (length (tokens past)) then Answer.Refused insufficient_resources else
     Answer.Made (length (tokens past))
 
 abbrev pub answer_start : UnitConfig → List Deed → Actor → ℕ → List Range → HeldBlocks → Answer
 answer_start unit past actor id ranges rod =
-    if is_busy past actor OfToken id then Answer.Refused in_use else
-    if not (is_within unit.blocks ranges) then Answer.Refused out_of_range else
-    if is_crowded past then Answer.Refused too_many else
+    if is_busy past actor OfToken id then Answer.Refused operation_in_progress else
+    if not (is_within unit.blocks ranges) then Answer.Refused lba_out_of_range else
+    if is_crowded past then Answer.Refused insufficient_resources else
     Answer.Progress (if length rod.items == 0 then OpState.Done else OpState.Running) 0
 
 abbrev pub answer_open : List Deed → Actor → ℕ → Answer
 answer_open past actor id =
-    if is_busy past actor OfCopy id then Answer.Refused in_use else
-    if is_crowded past then Answer.Refused too_many else
+    if is_busy past actor OfCopy id then Answer.Refused operation_in_progress else
+    if is_crowded past then Answer.Refused insufficient_resources else
     Answer.Done
 
 -- after a piece of this many blocks
@@ -83,15 +83,15 @@ progress_by o more =
 abbrev pub progress : UnitConfig → List Deed → Answer → Option Operation → Answer
 progress unit past otherwise None = otherwise
 progress unit past otherwise (Some o) =
-    if nat_lt unit.quota (mapped_with unit (held past) (next_piece o)) then Answer.Progress (OpState.Failed over_quota) (count o) else
+    if nat_lt unit.quota (mapped_with unit (held past) (next_piece o)) then Answer.Progress (OpState.Failed space_allocation_failed) (count o) else
     progress_by o (length (next_piece o))
 
 abbrev pub answer_end : Option Operation → Answer
-answer_end None = Answer.Refused no_such_operation
+answer_end None = Answer.Refused invalid_field_in_cdb
 answer_end (Some o) = Answer.Progress OpState.Terminated (count o)
 
 abbrev pub done_if : Option Operation → Answer
-done_if None = Answer.Refused no_such_operation
+done_if None = Answer.Refused invalid_field_in_cdb
 done_if (Some o) = Answer.Done
 
 -- the serial of a Populate
@@ -109,11 +109,11 @@ report_of o = record {
 }
 
 abbrev pub answer_report : Option Operation → Answer
-answer_report None = Answer.Refused no_such_operation
+answer_report None = Answer.Refused invalid_field_in_cdb
 answer_report (Some o) = Answer.Report (report_of o)
 
 abbrev pub answer_recall : Option Operation → Answer
-answer_recall None = Answer.Refused no_such_operation
+answer_recall None = Answer.Refused invalid_field_in_cdb
 answer_recall (Some o) = Answer.Copy (result_of o.servers)
 
 -- the answer to an act at a moment, after the unit's past
@@ -128,7 +128,7 @@ answer_after config unit past actor now (Act.Redeem text target) =
 answer_after config unit past actor now (Act.Delete serial) = Answer.Done
 answer_after config unit past actor now (Act.Start id background ranges rod) = answer_start (unit_of config unit) past actor id ranges rod
 answer_after config unit past actor now (Act.Advance id) =
-    progress (unit_of config unit) past (Answer.Refused no_such_operation) (would_serve past actor (Act.Advance id))
+    progress (unit_of config unit) past (Answer.Refused invalid_field_in_cdb) (would_serve past actor (Act.Advance id))
 answer_after config unit past actor now Act.Pump = progress (unit_of config unit) past Answer.Idle (would_serve past actor Act.Pump)
 answer_after config unit past actor now (Act.End id) = answer_end (would_serve past actor (Act.End id))
 answer_after config unit past actor now (Act.Abort id) = done_if (would_serve past actor (Act.Abort id))

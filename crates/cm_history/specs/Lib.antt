@@ -1,6 +1,5 @@
 pub mod Record
 pub mod Bounds
-pub mod Senses
 pub mod Deeds
 pub mod Blocks
 pub mod Tokens

@@ -1,7 +1,7 @@
 -- The operations of a unit
 use Rattle.std.specs.Prelude.{ℕ, List, [], ◌∷◌, ◌++◌, map, length, filter, find, take, drop, Option, Some, None, Bool, true, false, ◌==◌, ◌&&◌, ◌||◌, not, if◌then◌else◌}
 use Rattle.lba_ranges.specs.Denoted.{blocks_of, total}
-use Rattle.cm_history.specs.Bounds.{piece_blocks, kept_records}
+use Rattle.cm_history.specs.Bounds.{piece_blocks, kept_operations}
 use Rattle.cm_history.specs.declared.act.Act.{Act}
 use Rattle.cm_history.specs.declared.act.Actor.{Actor}
 use Rattle.cm_history.specs.declared.act.CopyEnd.{CopyEnd}
@@ -9,7 +9,7 @@ use Rattle.cm_history.specs.declared.act.CopyState.{CopyState}
 use Rattle.cm_history.specs.declared.answer.Answer.{Answer}
 use Rattle.cm_history.specs.declared.answer.OpState.{OpState}
 use Rattle.lba_ranges.specs.Writings.{Writing, paired}
-use Rattle.cm_history.specs.Senses.{over_quota}
+use Rattle.scsi_sense.specs.Codes.{space_allocation_failed}
 use Rattle.cm_history.specs.Deeds.{Deed, is_answered, same_actor}
 
 -- an operation: the deed that made it, and those that served it so far, the latest first
@@ -105,7 +105,7 @@ result_of (d ∷ servers) = result_or (result_of servers) d.entry.act
 
 abbrev pub state_of : Operation → Act → OpState
 state_of o (Act.Start id background ranges rod) =
-    if was_stopped o.servers then OpState.Failed over_quota else
+    if was_stopped o.servers then OpState.Failed space_allocation_failed else
     if was_ended o.servers then OpState.Terminated else
     if length (written o) == length (list_of o.made.entry.act) then OpState.Done else OpState.Running
 state_of o _ = OpState.Done
@@ -189,7 +189,7 @@ without_first_ended (o ∷ os) = if has_ended o then os else o ∷ without_first
 
 -- where 256 are kept, the first that has ended makes room
 abbrev pub with_room : List Operation → List Operation
-with_room records = if length records == kept_records then without_first_ended records else records
+with_room records = if length records == kept_operations then without_first_ended records else records
 
 -- the records with a new one, which replaces the one of its key
 abbrev pub keep : List Operation → Operation → List Operation

@@ -5,7 +5,7 @@ use Rattle.lba_ranges.specs.Denoted.{total}
 use Rattle.cm_base.specs.Configuration.{Configuration}
 use Rattle.cm_base.specs.declared.config.UnitConfig.{UnitConfig}
 use Rattle.cm_history.specs.declared.answer.Answer.{Answer}
-use Rattle.cm_history.specs.Senses.{not_made, wrong_unit, altered, deleted, evicted, expired}
+use Rattle.scsi_sense.specs.Codes.{token_unknown, remote_token_usage_not_supported, token_corrupt, token_deleted, token_cancelled, token_expired}
 use Rattle.cm_base.specs.Units.{unit_of}
 use Rattle.rod_token.specs.TokenText.{token_text, serial_of}
 use Rattle.cm_history.specs.Deeds.{Deed}
@@ -21,17 +21,17 @@ fate_at now t Live = if is_over now t then Expired else Live
 fate_at now t fate = fate
 
 abbrev pub answer_by_fate : UnitConfig → Token → Fate → Answer
-answer_by_fate unit t Deleted = Answer.Refused deleted
-answer_by_fate unit t Evicted = Answer.Refused evicted
-answer_by_fate unit t Expired = Answer.Refused expired
+answer_by_fate unit t Deleted = Answer.Refused token_deleted
+answer_by_fate unit t Evicted = Answer.Refused token_cancelled
+answer_by_fate unit t Expired = Answer.Refused token_expired
 answer_by_fate unit t Live = Answer.Rod (rod unit t)
 
 -- the first that holds is the answer
 abbrev pub redeemed : Configuration → ℕ → ℕ → List ℕ → ℕ → Option Token → Answer
-redeemed config unit now text target None = Answer.Refused not_made
+redeemed config unit now text target None = Answer.Refused token_unknown
 redeemed config unit now text target (Some t) =
-    if not (are_alike (unit_of config unit) (unit_of config target)) then Answer.Refused wrong_unit else
-    if not (bytes_eq text (token_text config unit t.serial (total t.ranges))) then Answer.Refused altered else
+    if not (are_alike (unit_of config unit) (unit_of config target)) then Answer.Refused remote_token_usage_not_supported else
+    if not (bytes_eq text (token_text config unit t.serial (total t.ranges))) then Answer.Refused token_corrupt else
     answer_by_fate (unit_of config unit) t (fate_at now t t.fate)
 
 -- the token that a text names, if the unit made it

@@ -11,12 +11,12 @@ run_length held kind block zero = 0
 run_length held kind block (suc room) = if beq (is_some (held block)) kind then suc (run_length held kind (suc block) room) else 0
 
 -- the first `n` runs of the `left` blocks from `block` on, none longer than 4,294,967,295 blocks
-abbrev pub runs : (ℕ → Held) → ℕ → ℕ → ℕ → List MapRun
-runs held zero block left = []
-runs held (suc n) block zero = []
-runs held (suc n) block (suc left) =
+abbrev pub map_runs : (ℕ → Held) → ℕ → ℕ → ℕ → List MapRun
+map_runs held zero block left = []
+map_runs held (suc n) block zero = []
+map_runs held (suc n) block (suc left) =
     let count = run_length held (is_some (held block)) block (min (suc left) run_blocks) in
-    record { lba = block; count = count; mapped = is_some (held block) } ∷ runs held n (block + count) (suc left - count)
+    record { lba = block; count = count; mapped = is_some (held block) } ∷ map_runs held n (block + count) (suc left - count)
 
 -- the run of so many blocks from `block` on is the longest of one kind that the `left` blocks and the limit allow
 pub record IsRun (held : ℕ → Held) (block left : ℕ) (run : MapRun) : Type 0 where

@@ -47,8 +47,8 @@ abbrev pub is_older : Token → Token → Bool
 is_older t other = nat_lt t.last_use other.last_use || (t.last_use == other.last_use && nat_le t.serial other.serial)
 
 -- 64 tokens are live at this moment, and this one was used least lately
-abbrev pub makes_room : ℕ → List Token → Token → Bool
-makes_room now tokens t =
+abbrev pub gives_way : ℕ → List Token → Token → Bool
+gives_way now tokens t =
     let live = filter (is_live_at now) tokens in
     (length live == live_tokens) && list_all (is_older t) live
 
@@ -70,7 +70,7 @@ token_after d tokens t =
     if not (is_live t.fate) then t else
     if is_over d.moment t then record t { fate = Expired } else
     if is_delete_of t.serial d.entry.act then record t { fate = Deleted } else
-    if is_populate d.entry.act && is_answered d && makes_room d.moment tokens t then record t { fate = Evicted } else
+    if is_populate d.entry.act && is_answered d && gives_way d.moment tokens t then record t { fate = Evicted } else
     if is_redeem_of t.serial d.entry.act && is_answered d then record t { last_use = d.moment } else t
 
 -- the token that the deed made, if it made one

@@ -1,7 +1,7 @@
 -- A command that gave up for want of memory ends BUSY
 use Rattle.std.proofs.Common.{◌≡◌, List, [], ◌∷◌, ◌++◌, refl, subst, sym, false, true}
 use Rattle.std.specs.Prelude.{fold, cond, Bool, Option, Some, None, Result, Ok, Err}
-use Rattle.scsi_sense.specs.Codes.{no_such_unit}
+use Rattle.scsi_sense.specs.Codes.{logical_unit_not_supported}
 use Rattle.block_params.specs.ListsRead.{unmap_read, populate_read, write_token_read}
 use Rattle.seg_parse.specs.ListRead.{lid1_read}
 use Rattle.cm_base.specs.Configuration.{Configuration}
@@ -104,7 +104,7 @@ cdb-open config r (Ok (Cdb.CopyStatus1 id room)) = out-open config r (Cdb.CopySt
 pub program-open : (config : Configuration) (r : Request) → IsOpen (program config r)
 program-open config r = go (is_configured config r.unit)
   where
-    go : (b : Bool) → IsOpen (cond b (judged_cdb config r (decoded r.cdb)) (refused no_such_unit))
+    go : (b : Bool) → IsOpen (cond b (judged_cdb config r (decoded r.cdb)) (refused logical_unit_not_supported))
     go true = cdb-open config r (decoded r.cdb)
     go false = tt
 

@@ -4,7 +4,7 @@ use Rattle.std.specs.Prelude.{cond, fold, take, ◌==◌, Option, Some, None, Re
 use Rattle.cm_base.specs.Configuration.{Configuration}
 use Rattle.cm_base.specs.Units.{is_configured}
 use Rattle.scsi_sense.specs.SenseCode.{SenseCode}
-use Rattle.scsi_sense.specs.Codes.{bad_cdb, bad_list, unknown_token, no_such_unit}
+use Rattle.scsi_sense.specs.Codes.{invalid_field_in_cdb, invalid_field_in_parameter_list, token_unknown, logical_unit_not_supported}
 use Rattle.lba_ranges.specs.declared.ranges.Range.{Range}
 use Rattle.lba_ranges.specs.HeldBlocks.{HeldBlocks}
 use Rattle.scsi_inquiry.specs.UnitData.{vpd, standard}
@@ -62,7 +62,7 @@ inquiry-honest : (unit : ℕ) (evpd : Bool) (page room : ℕ) → IsHonest (inqu
 inquiry-honest unit true page room = page-honest room (vpd unit page)
 inquiry-honest unit false page room = go (page == 0)
   where
-    go : (b : Bool) → IsHonest (cond b (good (take room standard)) (refused bad_cdb))
+    go : (b : Bool) → IsHonest (cond b (good (take room standard)) (refused invalid_field_in_cdb))
     go true = tt
     go false = tt
 
@@ -134,7 +134,7 @@ starting-honest w rod = λ a k. started-honest w w.list.immed a (start-progress 
 redeemed-honest : (w : TokenWrite) (a : Answer) → HasKind (Act.Redeem w.list.token w.unit) a → IsHonest (redeemed w a)
 redeemed-honest w (Answer.Rod rod) k = go (nat_lt (length rod.items) (w.list.offset + wanted w))
   where
-    go : (short : Bool) → IsHonest (cond short (refused bad_list) (starting w (rod_part w rod)))
+    go : (short : Bool) → IsHonest (cond short (refused invalid_field_in_parameter_list) (starting w (rod_part w rod)))
     go true = tt
     go false = starting-honest w (rod_part w rod)
 redeemed-honest w (Answer.Refused sense) k = tt
@@ -146,7 +146,7 @@ kind-honest config w TokenKind.BadType = tt
 kind-honest config w TokenKind.Zero = starting-honest w (zero_rod config w)
 kind-honest config w (TokenKind.Names creator serial) = go (is_configured config creator)
   where
-    go : (there : Bool) → IsHonest (cond there (ask_then creator (Act.Redeem w.list.token w.unit) (redeemed w)) (refused unknown_token))
+    go : (there : Bool) → IsHonest (cond there (ask_then creator (Act.Redeem w.list.token w.unit) (redeemed w)) (refused token_unknown))
     go true = redeemed-honest w
     go false = tt
 
@@ -244,7 +244,7 @@ cdb-honest config r (Ok (Cdb.CopyStatus1 id room)) = out-honest config r (Cdb.Co
 pub program-honest : (config : Configuration) (r : Request) → IsHonest (program config r)
 program-honest config r = go (is_configured config r.unit)
   where
-    go : (b : Bool) → IsHonest (cond b (judged_cdb config r (decoded r.cdb)) (refused no_such_unit))
+    go : (b : Bool) → IsHonest (cond b (judged_cdb config r (decoded r.cdb)) (refused logical_unit_not_supported))
     go true = cdb-honest config r (decoded r.cdb)
     go false = tt
 

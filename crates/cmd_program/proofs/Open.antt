@@ -2,7 +2,7 @@
 use Rattle.std.proofs.Common.{List, false, true}
 use Rattle.std.specs.Prelude.{ℕ, ◌==◌, take, cond, Bool, Option, Some, None, Result, Ok, Err}
 use Rattle.scsi_sense.specs.SenseCode.{SenseCode}
-use Rattle.scsi_sense.specs.Codes.{bad_cdb}
+use Rattle.scsi_sense.specs.Codes.{invalid_field_in_cdb}
 use Rattle.lba_ranges.specs.declared.ranges.Range.{Range}
 use Rattle.scsi_inquiry.specs.UnitData.{vpd, standard}
 use Rattle.cm_history.specs.declared.answer.Answer.{Answer}
@@ -37,7 +37,7 @@ pub inquiry-open : (unit : ℕ) (evpd : Bool) (page room : ℕ) → IsOpen (inqu
 inquiry-open unit true page room = page-open room (vpd unit page)
 inquiry-open unit false page room = go (page == 0)
   where
-    go : (b : Bool) → IsOpen (cond b (good (take room standard)) (refused bad_cdb))
+    go : (b : Bool) → IsOpen (cond b (good (take room standard)) (refused invalid_field_in_cdb))
     go true = tt
     go false = tt
 

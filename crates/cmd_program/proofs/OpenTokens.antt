@@ -4,7 +4,7 @@ use Rattle.std.specs.Prelude.{cond, Result, Ok, Err}
 use Rattle.cm_base.specs.Configuration.{Configuration}
 use Rattle.cm_base.specs.Units.{is_configured}
 use Rattle.scsi_sense.specs.SenseCode.{SenseCode}
-use Rattle.scsi_sense.specs.Codes.{bad_list, unknown_token}
+use Rattle.scsi_sense.specs.Codes.{invalid_field_in_parameter_list, token_unknown}
 use Rattle.block_params.specs.declared.lists.PopulateList.{PopulateList}
 use Rattle.block_params.specs.declared.lists.WriteList.{WriteList}
 use Rattle.lba_ranges.specs.HeldBlocks.{HeldBlocks}
@@ -64,7 +64,7 @@ starting-open w rod = started-open w w.list.immed
 redeemed-open : (w : TokenWrite) (a : Answer) → IsOpen (redeemed w a)
 redeemed-open w (Answer.Rod rod) = go (nat_lt (length rod.items) (w.list.offset + wanted w))
   where
-    go : (short : Bool) → IsOpen (cond short (refused bad_list) (starting w (rod_part w rod)))
+    go : (short : Bool) → IsOpen (cond short (refused invalid_field_in_parameter_list) (starting w (rod_part w rod)))
     go true = tt
     go false = starting-open w (rod_part w rod)
 redeemed-open w (Answer.Refused sense) = tt
@@ -76,7 +76,7 @@ by-open config w TokenKind.BadType = tt
 by-open config w TokenKind.Zero = starting-open w (zero_rod config w)
 by-open config w (TokenKind.Names creator serial) = go (is_configured config creator)
   where
-    go : (there : Bool) → IsOpen (cond there (ask_then creator (Act.Redeem w.list.token w.unit) (redeemed w)) (refused unknown_token))
+    go : (there : Bool) → IsOpen (cond there (ask_then creator (Act.Redeem w.list.token w.unit) (redeemed w)) (refused token_unknown))
     go true = redeemed-open w
     go false = tt
 

@@ -13,7 +13,7 @@ use Rattle.lba_ranges.specs.HeldBlocks.{HeldBlocks}
 use Rattle.lba_ranges.specs.Writings.{Held, paired}
 use Rattle.lba_ranges.proofs.Rows.{length-blocks_of}
 use Rattle.scsi_sense.specs.SenseCode.{SenseCode}
-use Rattle.scsi_sense.specs.Codes.{no_such_unit, bad_list, unknown_token}
+use Rattle.scsi_sense.specs.Codes.{logical_unit_not_supported, invalid_field_in_parameter_list, token_unknown, space_allocation_failed, operation_in_progress, lba_out_of_range, insufficient_resources}
 use Rattle.scsi_cdb.specs.declared.cdb.Cdb.{Cdb}
 use Rattle.scsi_cdb.specs.Decoded.{decoded}
 use Rattle.block_params.specs.ListsRead.{write_token_read}
@@ -21,7 +21,6 @@ use Rattle.rod_token.specs.declared.kind.TokenKind.{TokenKind}
 use Rattle.rod_token.specs.TokenText.{classify}
 use Rattle.cm_frame.specs.declared.frame.Reply.{Reply}
 use Rattle.cm_history.specs.Bounds.{piece_blocks}
-use Rattle.cm_history.specs.Senses.{over_quota, in_use, out_of_range, too_many}
 use Rattle.cm_history.specs.declared.act.Act.{Act}
 use Rattle.cm_history.specs.declared.act.Actor.{Actor}
 use Rattle.cm_history.specs.declared.act.Entry.{Entry}
@@ -131,8 +130,8 @@ ends-more told os (Step.Done reply) free ends = go ends
     same : was_stopped (Outcome.Answered told ∷ os) ≡ was_stopped os
     same = ap (λ t. t || was_stopped os) free
 
-    go : ((was_stopped os ≡ false) × (reply ≡ Reply.Good [])) ⊎ ((was_stopped os ≡ true) × (reply ≡ Reply.Check over_quota))
-        → ((was_stopped (Outcome.Answered told ∷ os) ≡ false) × (reply ≡ Reply.Good [])) ⊎ ((was_stopped (Outcome.Answered told ∷ os) ≡ true) × (reply ≡ Reply.Check over_quota))
+    go : ((was_stopped os ≡ false) × (reply ≡ Reply.Good [])) ⊎ ((was_stopped os ≡ true) × (reply ≡ Reply.Check space_allocation_failed))
+        → ((was_stopped (Outcome.Answered told ∷ os) ≡ false) × (reply ≡ Reply.Good [])) ⊎ ((was_stopped (Outcome.Answered told ∷ os) ≡ true) × (reply ≡ Reply.Check space_allocation_failed))
     go (inl good) = inl (same ∙ good.0, good.1)
     go (inr stop) = inr (same ∙ stop.0, stop.1)
 
@@ -170,11 +169,11 @@ not-stop false n = refl
 
 -- a piece was stopped
 stop-ends : (config : Configuration) (nexus : ℕ) (w : TokenWrite) (left n : ℕ) (h : List Entry) (os : List Outcome)
-    → RunsIn config nexus (advancing w left (Answer.Progress (OpState.Failed over_quota) n)) h os → gave_up os ≡ false
-    → EndsWell (Outcome.Answered (Answer.Progress (OpState.Failed over_quota) n) ∷ os) (next (fold moved (advancing w left (Answer.Progress (OpState.Failed over_quota) n)) os))
+    → RunsIn config nexus (advancing w left (Answer.Progress (OpState.Failed space_allocation_failed) n)) h os → gave_up os ≡ false
+    → EndsWell (Outcome.Answered (Answer.Progress (OpState.Failed space_allocation_failed) n) ∷ os) (next (fold moved (advancing w left (Answer.Progress (OpState.Failed space_allocation_failed) n)) os))
 stop-ends config nexus w left n h os run none =
-    subst (λ l. EndsWell (Outcome.Answered (Answer.Progress (OpState.Failed over_quota) n) ∷ l) (next (fold moved (refused over_quota) l)))
-    (sym (nothing-more config nexus (Reply.Check over_quota) h os run none)) (inr (refl, refl))
+    subst (λ l. EndsWell (Outcome.Answered (Answer.Progress (OpState.Failed space_allocation_failed) n) ∷ l) (next (fold moved (refused space_allocation_failed) l)))
+    (sym (nothing-more config nexus (Reply.Check space_allocation_failed) h os run none)) (inr (refl, refl))
 
 module _ (config : Configuration) (nexus : ℕ) (w : TokenWrite) (m : Deed) (rod : HeldBlocks)
     (starts : m.entry.act ≡ Act.Start w.id false w.list.ranges rod) (who : m.entry.actor ≡ Actor.Nexus nexus) where
@@ -201,12 +200,12 @@ module _ (config : Configuration) (nexus : ℕ) (w : TokenWrite) (m : Deed) (rod
       low_on : length (list_of m.entry.act) ≤ piece_blocks * (k + 1 + left)
       low_on = omega (arith, low)
 
-      go : ((n : ℕ) × (answer_after config w.unit (past_of config w.unit (h ++ run.0)) m.entry.actor run.1.moment (Act.Advance w.id) ≡ Answer.Progress (OpState.Failed over_quota) n))
+      go : ((n : ℕ) × (answer_after config w.unit (past_of config w.unit (h ++ run.0)) m.entry.actor run.1.moment (Act.Advance w.id) ≡ Answer.Progress (OpState.Failed space_allocation_failed) n))
           ⊎ ((n : ℕ) × (answer_after config w.unit (past_of config w.unit (h ++ run.0)) m.entry.actor run.1.moment (Act.Advance w.id)
           ≡ Answer.Progress (state_after (k + 1) (length (list_of m.entry.act))) n))
           → EndsWell (Outcome.Answered told ∷ os) (next (fold moved (advancing w left told) os))
       go (inl stop) =
-          let is : told ≡ Answer.Progress (OpState.Failed over_quota) stop.0 = told_is ∙ stop.1 in
+          let is : told ≡ Answer.Progress (OpState.Failed space_allocation_failed) stop.0 = told_is ∙ stop.1 in
           subst (λ a. EndsWell (Outcome.Answered a ∷ os) (next (fold moved (advancing w left a) os))) (sym is)
           (stop-ends config nexus w left stop.0 (h ++ run.0 ++ run.1 ∷ []) os (subst (λ a. RunsIn config nexus (advancing w left a) (h ++ run.0 ++ run.1 ∷ []) os) is run.3) none)
       go (inr on) =
@@ -246,12 +245,12 @@ start-cases config unit h actor now id ranges rod =
     last = Answer.Progress (if length rod.items == 0 then OpState.Done else OpState.Running) 0
 
     go : (a b c : Bool)
-        → ((sense : SenseCode) × ((if a then Answer.Refused in_use else if b then Answer.Refused out_of_range else if c then Answer.Refused too_many else Answer.Progress (if length rod.items == 0 then OpState.Done else OpState.Running) 0) ≡ Answer.Refused sense))
-        ⊎ ((if a then Answer.Refused in_use else if b then Answer.Refused out_of_range else if c then Answer.Refused too_many else Answer.Progress (if length rod.items == 0 then OpState.Done else OpState.Running) 0)
+        → ((sense : SenseCode) × ((if a then Answer.Refused operation_in_progress else if b then Answer.Refused lba_out_of_range else if c then Answer.Refused insufficient_resources else Answer.Progress (if length rod.items == 0 then OpState.Done else OpState.Running) 0) ≡ Answer.Refused sense))
+        ⊎ ((if a then Answer.Refused operation_in_progress else if b then Answer.Refused lba_out_of_range else if c then Answer.Refused insufficient_resources else Answer.Progress (if length rod.items == 0 then OpState.Done else OpState.Running) 0)
         ≡ Answer.Progress (if length rod.items == 0 then OpState.Done else OpState.Running) 0)
-    go true b c = inl (in_use, refl)
-    go false true c = inl (out_of_range, refl)
-    go false false true = inl (too_many, refl)
+    go true b c = inl (operation_in_progress, refl)
+    go false true c = inl (lba_out_of_range, refl)
+    go false false true = inl (insufficient_resources, refl)
     go false false false = inr refl
 
 -- behind this history the program ends well, if its Start is answered
@@ -361,9 +360,9 @@ part-whole w rod enough = part (length rod.items) w.list.offset (wanted w) rod.i
 
 rod-ends : (config : Configuration) (nexus : ℕ) (w : TokenWrite) (rod : HeldBlocks) (h : List Entry) → w.list.immed ≡ false
     → (t : Bool) → nat_lt (length rod.items) (w.list.offset + wanted w) ≡ t → (os : List Outcome)
-    → RunsIn config nexus (if t then refused bad_list else starting w (rod_part w rod)) h os → gave_up os ≡ false → has_started os ≡ true
-    → EndsWell os (next (fold moved (if t then refused bad_list else starting w (rod_part w rod)) os))
-rod-ends config nexus w rod h now true short os run none some = ended-starts config nexus (Reply.Check bad_list) h os run none some
+    → RunsIn config nexus (if t then refused invalid_field_in_parameter_list else starting w (rod_part w rod)) h os → gave_up os ≡ false → has_started os ≡ true
+    → EndsWell os (next (fold moved (if t then refused invalid_field_in_parameter_list else starting w (rod_part w rod)) os))
+rod-ends config nexus w rod h now true short os run none some = ended-starts config nexus (Reply.Check invalid_field_in_parameter_list) h os run none some
 rod-ends config nexus w rod h now false enough os run none some =
     starting-ends config nexus w (rod_part w rod) (part-whole w rod enough) w.list.immed now h os run none some
 
@@ -393,9 +392,9 @@ kind-ends config nexus w TokenKind.BadType h now = ended-starts config nexus _ h
 kind-ends config nexus w TokenKind.Zero h now = starting-ends config nexus w (zero_rod config w) (length-replicate (wanted w) None) w.list.immed now h
 kind-ends config nexus w (TokenKind.Names creator serial) h now = go (is_configured config creator)
   where
-    go : (there : Bool) → StartsAt config nexus (cond there (ask_then creator (Act.Redeem w.list.token w.unit) (redeemed w)) (refused unknown_token)) h
+    go : (there : Bool) → StartsAt config nexus (cond there (ask_then creator (Act.Redeem w.list.token w.unit) (redeemed w)) (refused token_unknown)) h
     go true = redeem-ends config nexus w creator h now
-    go false = ended-starts config nexus (Reply.Check unknown_token) h
+    go false = ended-starts config nexus (Reply.Check token_unknown) h
 
 -- ---- the whole command
 
@@ -419,6 +418,6 @@ writes-end-well config nexus r before os is run none some = whole (is_configured
     command = subst (λ c. StartsAt config nexus (judged_cdb config r c) before) (sym is.command)
         (out (out_fault (unit_of config r.unit) r.out (Cdb.WriteUsingToken is.id is.length)))
 
-    whole : (b : Bool) → StartsAt config nexus (cond b (judged_cdb config r (decoded r.cdb)) (refused no_such_unit)) before
+    whole : (b : Bool) → StartsAt config nexus (cond b (judged_cdb config r (decoded r.cdb)) (refused logical_unit_not_supported)) before
     whole true = command
-    whole false = ended-starts config nexus (Reply.Check no_such_unit) before
+    whole false = ended-starts config nexus (Reply.Check logical_unit_not_supported) before

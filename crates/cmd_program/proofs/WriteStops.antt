@@ -8,7 +8,7 @@ use Rattle.lba_ranges.specs.declared.ranges.Range.{Range}
 use Rattle.lba_ranges.specs.Denoted.{total, is_within}
 use Rattle.lba_ranges.specs.HeldBlocks.{HeldBlocks}
 use Rattle.scsi_sense.specs.SenseCode.{SenseCode}
-use Rattle.scsi_sense.specs.Codes.{no_such_unit, bad_list, bad_list_length, bad_token_length, bad_token_type, unknown_token, stopped}
+use Rattle.scsi_sense.specs.Codes.{logical_unit_not_supported, invalid_field_in_parameter_list, parameter_list_length_error, invalid_token_length, unsupported_token_type, token_unknown, copy_aborted, space_allocation_failed, operation_in_progress, lba_out_of_range, insufficient_resources, remote_token_usage_not_supported, token_corrupt}
 use Rattle.scsi_cdb.specs.declared.cdb.Cdb.{Cdb}
 use Rattle.scsi_cdb.specs.Decoded.{decoded}
 use Rattle.block_params.specs.ListsRead.{write_token_read}
@@ -16,7 +16,6 @@ use Rattle.rod_token.specs.declared.kind.TokenKind.{TokenKind}
 use Rattle.rod_token.specs.TokenText.{classify, token_text}
 use Rattle.cm_frame.specs.declared.frame.Request.{Request}
 use Rattle.cm_frame.specs.declared.frame.Reply.{Reply}
-use Rattle.cm_history.specs.Senses.{over_quota, in_use, out_of_range, too_many, wrong_unit, altered}
 use Rattle.cm_history.specs.declared.act.Act.{Act}
 use Rattle.cm_history.specs.declared.act.Actor.{Actor}
 use Rattle.cm_history.specs.declared.act.Entry.{Entry}
@@ -54,13 +53,13 @@ apart-keys a b (inl e) f same = absurd (omega (arith, e, f, same))
 apart-keys a b (inr (inl e)) f same = absurd (omega (arith, e, f, same))
 apart-keys a b (inr (inr e)) f same = absurd (omega (arith, e, f, same))
 
-other-key : (sense : SenseCode) → sense.key ≡ 5 → Reply.Check sense ≢ Reply.Check stopped
+other-key : (sense : SenseCode) → sense.key ≡ 5 → Reply.Check sense ≢ Reply.Check copy_aborted
 other-key sense five = λ same. apart-keys sense.key 10 (inl five) refl (ap key_of same)
 
-over-key : Reply.Check over_quota ≢ Reply.Check stopped
+over-key : Reply.Check space_allocation_failed ≢ Reply.Check copy_aborted
 over-key = λ same. apart-keys 7 10 (inr (inl refl)) refl (ap key_of same)
 
-not-check : (reply : Reply) → key_of reply ≡ 0 → reply ≢ Reply.Check stopped
+not-check : (reply : Reply) → key_of reply ≡ 0 → reply ≢ Reply.Check copy_aborted
 not-check reply zero_key = λ same. apart-keys (key_of reply) 10 (inr (inr zero_key)) refl (ap key_of same)
 
 -- where it is a refusal, its key is 5
@@ -73,7 +72,7 @@ start-plain : (config : Configuration) (unit : ℕ) (h : List Entry) (actor : Ac
 start-plain config unit h actor now id background ranges rod =
     go (is_busy (past_of config unit h) actor OfToken id) (not (is_within (unit_of config unit).blocks ranges)) (is_crowded (past_of config unit h))
   where
-    go : (a b c : Bool) → IsPlain (if a then Answer.Refused in_use else if b then Answer.Refused out_of_range else if c then Answer.Refused too_many else Answer.Progress (if length rod.items == 0 then OpState.Done else OpState.Running) 0)
+    go : (a b c : Bool) → IsPlain (if a then Answer.Refused operation_in_progress else if b then Answer.Refused lba_out_of_range else if c then Answer.Refused insufficient_resources else Answer.Progress (if length rod.items == 0 then OpState.Done else OpState.Running) 0)
     go true b c = refl
     go false true c = refl
     go false false true = refl
@@ -89,7 +88,7 @@ redeem-plain config unit h actor now text target = by (named_token (past_of conf
     fate t Evicted = refl
     fate t Deleted = refl
 
-    go : (t : Token) (a b : Bool) → IsPlain (if a then Answer.Refused wrong_unit else if b then Answer.Refused altered else
+    go : (t : Token) (a b : Bool) → IsPlain (if a then Answer.Refused remote_token_usage_not_supported else if b then Answer.Refused token_corrupt else
         answer_by_fate (unit_of config unit) t (fate_at (max now (moment (past_of config unit h))) t t.fate))
     go t true b = refl
     go t false true = refl
@@ -101,7 +100,7 @@ redeem-plain config unit h actor now text target = by (named_token (past_of conf
 
 -- ---- where it gave up
 
-gone-fine : (last : Option Ask) (reply : Reply) (os : List Outcome) → reply ≢ Reply.Check stopped → IsNotStopped (next (fold moved (GivesUp last reply) os))
+gone-fine : (last : Option Ask) (reply : Reply) (os : List Outcome) → reply ≢ Reply.Check copy_aborted → IsNotStopped (next (fold moved (GivesUp last reply) os))
 gone-fine (Some ask) reply [] fine = tt
 gone-fine None reply [] fine = fine
 gone-fine last reply (Outcome.Answered a ∷ os) fine = gone-fine None reply os fine
@@ -125,7 +124,7 @@ gave-up-fine (GivesUp last reply) (Outcome.NoMemory ∷ os) open_so_far some = a
 abbrev FineAt : Configuration → ℕ → Program → List Entry → Type 0
 FineAt config nexus p h = (os : List Outcome) → RunsIn config nexus p h os → gave_up os ≡ false → has_started os ≡ false → IsNotStopped (next (fold moved p os))
 
-ended-fine : (config : Configuration) (nexus : ℕ) (reply : Reply) (h : List Entry) → reply ≢ Reply.Check stopped → FineAt config nexus (Ends reply) h
+ended-fine : (config : Configuration) (nexus : ℕ) (reply : Reply) (h : List Entry) → reply ≢ Reply.Check copy_aborted → FineAt config nexus (Ends reply) h
 ended-fine config nexus reply h fine os run none no_start =
     subst (λ l. IsNotStopped (next (fold moved (Ends reply) l))) (sym (nothing-more config nexus reply h os run none)) fine
 
@@ -155,9 +154,9 @@ redeemed-fine : (config : Configuration) (nexus : ℕ) (w : TokenWrite) (told : 
     → has_started (Outcome.Answered told ∷ os) ≡ false → IsNotStopped (next (fold moved (redeemed w told) os))
 redeemed-fine config nexus w (Answer.Rod rod) h kind plain = go (nat_lt (length rod.items) (w.list.offset + wanted w))
   where
-    go : (short : Bool) → (os : List Outcome) → RunsIn config nexus (cond short (refused bad_list) (starting w (rod_part w rod))) h os → gave_up os ≡ false
-        → has_started os ≡ false → IsNotStopped (next (fold moved (cond short (refused bad_list) (starting w (rod_part w rod))) os))
-    go true = refused-fine config nexus bad_list h refl
+    go : (short : Bool) → (os : List Outcome) → RunsIn config nexus (cond short (refused invalid_field_in_parameter_list) (starting w (rod_part w rod))) h os → gave_up os ≡ false
+        → has_started os ≡ false → IsNotStopped (next (fold moved (cond short (refused invalid_field_in_parameter_list) (starting w (rod_part w rod))) os))
+    go true = refused-fine config nexus invalid_field_in_parameter_list h refl
     go false = starting-fine config nexus w (rod_part w rod) h
 redeemed-fine config nexus w (Answer.Refused sense) h kind plain = refused-fine config nexus sense h plain
 redeemed-fine config nexus w _ h kind plain = absurd kind
@@ -174,14 +173,14 @@ redeem-fine config nexus w creator h (Outcome.Answered told ∷ os) run none no_
     (subst IsPlain (sym run.2.answered) (redeem-plain config creator (h ++ run.0) (Actor.Nexus nexus) run.1.moment w.list.token w.unit)) os run.3 none no_start
 
 kind-fine : (config : Configuration) (nexus : ℕ) (w : TokenWrite) (kind : TokenKind) (h : List Entry) → FineAt config nexus (write_by config w kind) h
-kind-fine config nexus w TokenKind.BadLength h = refused-fine config nexus bad_token_length h refl
-kind-fine config nexus w TokenKind.BadType h = refused-fine config nexus bad_token_type h refl
+kind-fine config nexus w TokenKind.BadLength h = refused-fine config nexus invalid_token_length h refl
+kind-fine config nexus w TokenKind.BadType h = refused-fine config nexus unsupported_token_type h refl
 kind-fine config nexus w TokenKind.Zero h = starting-fine config nexus w (zero_rod config w) h
 kind-fine config nexus w (TokenKind.Names creator serial) h = go (is_configured config creator)
   where
-    go : (there : Bool) → FineAt config nexus (cond there (ask_then creator (Act.Redeem w.list.token w.unit) (redeemed w)) (refused unknown_token)) h
+    go : (there : Bool) → FineAt config nexus (cond there (ask_then creator (Act.Redeem w.list.token w.unit) (redeemed w)) (refused token_unknown)) h
     go true = redeem-fine config nexus w creator h
-    go false = refused-fine config nexus unknown_token h refl
+    go false = refused-fine config nexus token_unknown h refl
 
 command-fine : (config : Configuration) (nexus : ℕ) (r : Request) (h : List Entry) → IsWriteNow r → FineAt config nexus (program config r) h
 command-fine config nexus r h is = whole (is_configured config r.unit)
@@ -190,16 +189,16 @@ command-fine config nexus r h is = whole (is_configured config r.unit)
     read = subst (λ l. FineAt config nexus (write_using_token config r.unit is.id l) h) (sym is.read)
         (kind-fine config nexus (record { unit = r.unit; id = is.id; list = is.list }) (classify is.list.token) h)
 
-    out : (right : Bool) → FineAt config nexus (judged_out config r (Cdb.WriteUsingToken is.id is.length) (if right then None else Some bad_list_length)) h
+    out : (right : Bool) → FineAt config nexus (judged_out config r (Cdb.WriteUsingToken is.id is.length) (if right then None else Some parameter_list_length_error)) h
     out true = read
-    out false = refused-fine config nexus bad_list_length h refl
+    out false = refused-fine config nexus parameter_list_length_error h refl
 
     command : FineAt config nexus (judged_cdb config r (decoded r.cdb)) h
     command = subst (λ c. FineAt config nexus (judged_cdb config r c) h) (sym is.command) (out (length r.out == is.length))
 
-    whole : (b : Bool) → FineAt config nexus (cond b (judged_cdb config r (decoded r.cdb)) (refused no_such_unit)) h
+    whole : (b : Bool) → FineAt config nexus (cond b (judged_cdb config r (decoded r.cdb)) (refused logical_unit_not_supported)) h
     whole true = command
-    whole false = refused-fine config nexus no_such_unit h refl
+    whole false = refused-fine config nexus logical_unit_not_supported h refl
 
 -- ---- all
 
@@ -207,7 +206,7 @@ well-fine : (os : List Outcome) (s : Step) → EndsWell os s → IsNotStopped s
 well-fine os (Step.Do unit act) well = tt
 well-fine os (Step.Done reply) well = go well
   where
-    go : ((was_stopped os ≡ false) × (reply ≡ Reply.Good [])) ⊎ ((was_stopped os ≡ true) × (reply ≡ Reply.Check over_quota)) → reply ≢ Reply.Check stopped
+    go : ((was_stopped os ≡ false) × (reply ≡ Reply.Good [])) ⊎ ((was_stopped os ≡ true) × (reply ≡ Reply.Check space_allocation_failed)) → reply ≢ Reply.Check copy_aborted
     go (inl good) = not-check reply (ap key_of good.1)
     go (inr stop) = λ same. over-key (sym stop.1 ∙ same)
 

@@ -6,7 +6,7 @@ use Rattle.cm_base.specs.Fields.{field}
 use Rattle.cm_base.specs.Units.{unit_of, unit_name, is_configured}
 use Rattle.lba_ranges.specs.HeldBlocks.{HeldBlocks}
 use Rattle.scsi_sense.specs.SenseCode.{SenseCode}
-use Rattle.scsi_sense.specs.Codes.{bad_list, wrong_device, not_reachable, past_the_end, copy_aborted}
+use Rattle.scsi_sense.specs.Codes.{invalid_field_in_parameter_list, incorrect_copy_target_device_type, copy_target_device_not_reachable, copy_lba_out_of_range, aborted_by}
 use Rattle.scsi_sense.specs.Faults.{first_fault}
 use Rattle.seg_parse.specs.declared.list.Cscd.{Cscd}
 use Rattle.seg_parse.specs.declared.list.Segment.{Segment}
@@ -59,25 +59,25 @@ moves_of config list = map (move_of (places config list.units)) list.segments
 -- ---- what is wrong before the first act
 
 abbrev pub place_fault : Configuration → Cscd → Option ℕ → Option SenseCode
-place_fault config c None = Some not_reachable
-place_fault config c (Some unit) = if c.block_length == (unit_of config unit).block_length then None else Some bad_list
+place_fault config c None = Some copy_target_device_not_reachable
+place_fault config c (Some unit) = if c.block_length == (unit_of config unit).block_length then None else Some invalid_field_in_parameter_list
 
 abbrev pub cscd_fault : Configuration → Cscd → Option SenseCode
-cscd_fault config c = if c.device == 0 then place_fault config c (named_unit config c.name) else Some wrong_device
+cscd_fault config c = if c.device == 0 then place_fault config c (named_unit config c.name) else Some incorrect_copy_target_device_type
 
 abbrev pub move_fault : Configuration → Move → Option SenseCode
 move_fault config m =
     let source = unit_of config m.source in
     let destination = unit_of config m.destination in
-    if not (source.block_length == destination.block_length) then Some bad_list else
-    if nat_lt source.blocks (m.from + m.count) then Some past_the_end else
-    if nat_lt destination.blocks (m.to + m.count) then Some past_the_end else
+    if not (source.block_length == destination.block_length) then Some invalid_field_in_parameter_list else
+    if nat_lt source.blocks (m.from + m.count) then Some copy_lba_out_of_range else
+    if nat_lt destination.blocks (m.to + m.count) then Some copy_lba_out_of_range else
     None
 
 -- more than 536,870,912 bytes
 abbrev pub size_fault : Configuration → List Move → Option SenseCode
 size_fault config moves =
-    if nat_lt 536_870_912 (sum_by (λ (m : Move). m.count * (unit_of config m.source).block_length) moves) then Some bad_list else None
+    if nat_lt 536_870_912 (sum_by (λ (m : Move). m.count * (unit_of config m.source).block_length) moves) then Some invalid_field_in_parameter_list else None
 
 abbrev pub copy_fault : Configuration → CopyList → Option SenseCode
 copy_fault config list =
@@ -115,7 +115,7 @@ end_state (Some sense) = CopyState.Failed
 -- the reply to the whole copy
 abbrev pub copy_reply : Option SenseCode → Program
 copy_reply None = done
-copy_reply (Some sense) = refused (copy_aborted sense.asc sense.ascq)
+copy_reply (Some sense) = refused (aborted_by sense.asc sense.ascq)
 
 -- after the segments: the record is closed, if it was opened
 abbrev pub closing : Copying → Tally → Option SenseCode → Program

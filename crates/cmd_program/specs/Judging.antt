@@ -5,7 +5,7 @@ use Rattle.cm_base.specs.declared.config.UnitConfig.{UnitConfig}
 use Rattle.cm_base.specs.Units.{unit_of, is_configured}
 use Rattle.scsi_sense.specs.SenseCode.{SenseCode}
 use Rattle.scsi_sense.specs.SenseBytes.{sense_bytes}
-use Rattle.scsi_sense.specs.Codes.{no_sense, no_such_unit, bad_cdb, bad_list_length}
+use Rattle.scsi_sense.specs.Codes.{no_additional_sense, logical_unit_not_supported, invalid_field_in_cdb, parameter_list_length_error}
 use Rattle.scsi_cdb.specs.declared.cdb.Cdb.{Cdb}
 use Rattle.scsi_cdb.specs.Decoded.{decoded}
 use Rattle.cm_frame.specs.declared.frame.Request.{Request}
@@ -26,17 +26,17 @@ length_is out wanted sense = if length out == wanted then None else Some sense
 
 -- what is wrong with the data that went out
 abbrev pub out_fault : UnitConfig → List ℕ → Cdb → Option SenseCode
-out_fault unit out (Cdb.Write lba count) = length_is out (count * unit.block_length) bad_cdb
-out_fault unit out (Cdb.Unmap length) = length_is out length bad_list_length
-out_fault unit out (Cdb.ExtendedCopy length) = length_is out length bad_list_length
-out_fault unit out (Cdb.PopulateToken id length) = length_is out length bad_list_length
-out_fault unit out (Cdb.WriteUsingToken id length) = length_is out length bad_list_length
-out_fault unit out _ = length_is out 0 bad_cdb
+out_fault unit out (Cdb.Write lba count) = length_is out (count * unit.block_length) invalid_field_in_cdb
+out_fault unit out (Cdb.Unmap length) = length_is out length parameter_list_length_error
+out_fault unit out (Cdb.ExtendedCopy length) = length_is out length parameter_list_length_error
+out_fault unit out (Cdb.PopulateToken id length) = length_is out length parameter_list_length_error
+out_fault unit out (Cdb.WriteUsingToken id length) = length_is out length parameter_list_length_error
+out_fault unit out _ = length_is out 0 invalid_field_in_cdb
 
 -- the program of each command; `room` is the allocation length
 abbrev pub program_of : Configuration → ℕ → List ℕ → Cdb → Program
 program_of config unit out Cdb.TestUnitReady = done
-program_of config unit out (Cdb.RequestSense room) = good (take room (sense_bytes no_sense))
+program_of config unit out (Cdb.RequestSense room) = good (take room (sense_bytes no_additional_sense))
 program_of config unit out (Cdb.Inquiry evpd page room) = inquiry unit evpd page room
 program_of config unit out (Cdb.Read lba count) = ask_then unit (Act.Read lba count) told_read
 program_of config unit out (Cdb.Write lba count) = write config unit lba out
@@ -66,7 +66,7 @@ judged_cdb config r (Ok cdb) = judged_out config r cdb (out_fault (unit_of confi
 
 -- the program of a request: the first refusal is its reply
 abbrev pub program : Configuration → Request → Program
-program config r = if is_configured config r.unit then judged_cdb config r (decoded r.cdb) else refused no_such_unit
+program config r = if is_configured config r.unit then judged_cdb config r (decoded r.cdb) else refused logical_unit_not_supported
 
 -- the program after the outcomes so far, the oldest first
 abbrev pub program_after : Configuration → Request → List Outcome → Program

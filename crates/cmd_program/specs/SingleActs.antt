@@ -5,7 +5,7 @@ use Rattle.cm_base.specs.Units.{unit_of}
 use Rattle.lba_ranges.specs.HeldBlocks.{HeldBlocks, cut}
 use Rattle.lba_ranges.specs.declared.ranges.Range.{Range}
 use Rattle.scsi_sense.specs.SenseCode.{SenseCode}
-use Rattle.scsi_sense.specs.Codes.{bad_cdb}
+use Rattle.scsi_sense.specs.Codes.{invalid_field_in_cdb}
 use Rattle.block_params.specs.declared.lists.PopulateList.{PopulateList}
 use Rattle.scsi_inquiry.specs.UnitData.{standard, vpd}
 use Rattle.cm_history.specs.declared.act.Act.{Act}
@@ -47,12 +47,12 @@ act_alone unit act = ask_then unit act (unless_refused done)
 
 -- a page, if there is one
 abbrev pub page_told : ℕ → Option (List ℕ) → Program
-page_told room None = refused bad_cdb
+page_told room None = refused invalid_field_in_cdb
 page_told room (Some page) = good (take room page)
 
 abbrev pub inquiry : ℕ → Bool → ℕ → ℕ → Program
 inquiry unit true page room = page_told room (vpd unit page)
-inquiry unit false page room = if page == 0 then good (take room standard) else refused bad_cdb
+inquiry unit false page room = if page == 0 then good (take room standard) else refused invalid_field_in_cdb
 
 abbrev pub write : Configuration → ℕ → ℕ → List ℕ → Program
 write config unit lba out = act_alone unit (Act.Write lba (blocks_in (unit_of config unit).block_length out))

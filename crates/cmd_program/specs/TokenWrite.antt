@@ -5,7 +5,7 @@ use Rattle.cm_base.specs.Units.{unit_of, is_configured}
 use Rattle.lba_ranges.specs.HeldBlocks.{HeldBlocks}
 use Rattle.lba_ranges.specs.Denoted.{total}
 use Rattle.scsi_sense.specs.SenseCode.{SenseCode}
-use Rattle.scsi_sense.specs.Codes.{bad_list, bad_token_length, bad_token_type, unknown_token, stopped}
+use Rattle.scsi_sense.specs.Codes.{invalid_field_in_parameter_list, invalid_token_length, unsupported_token_type, token_unknown, copy_aborted}
 use Rattle.block_params.specs.declared.lists.WriteList.{WriteList}
 use Rattle.rod_token.specs.declared.kind.TokenKind.{TokenKind}
 use Rattle.rod_token.specs.TokenText.{classify}
@@ -43,8 +43,8 @@ end_of w = record { unit = w.unit; act = Act.End w.id }
 abbrev pub advancing : TokenWrite → ℕ → Answer → Program
 advancing w left (Answer.Progress OpState.Done count) = deleting w
 advancing w left (Answer.Progress (OpState.Failed sense) count) = refused sense
-advancing w left (Answer.Progress OpState.Terminated count) = refused stopped
-advancing w zero (Answer.Progress OpState.Running count) = refused stopped
+advancing w left (Answer.Progress OpState.Terminated count) = refused copy_aborted
+advancing w zero (Answer.Progress OpState.Running count) = refused copy_aborted
 advancing w (suc left) (Answer.Progress OpState.Running count) =
     Asks (record { unit = w.unit; act = Act.Advance w.id }) (Some (end_of w)) (advancing w left)
 advancing w left (Answer.Refused sense) = refused sense
@@ -65,7 +65,7 @@ rod_part w rod = record rod { items = slice_range rod.items w.list.offset (w.lis
 
 -- after the Redeem
 abbrev pub redeemed : TokenWrite → Answer → Program
-redeemed w (Answer.Rod rod) = if nat_lt (length rod.items) (w.list.offset + wanted w) then refused bad_list else starting w (rod_part w rod)
+redeemed w (Answer.Rod rod) = if nat_lt (length rod.items) (w.list.offset + wanted w) then refused invalid_field_in_parameter_list else starting w (rod_part w rod)
 redeemed w (Answer.Refused sense) = refused sense
 redeemed w _ = never
 
@@ -75,11 +75,11 @@ zero_rod config w = record { block_length = (unit_of config w.unit).block_length
 
 -- the command by the kind of its token
 abbrev pub write_by : Configuration → TokenWrite → TokenKind → Program
-write_by config w TokenKind.BadLength = refused bad_token_length
-write_by config w TokenKind.BadType = refused bad_token_type
+write_by config w TokenKind.BadLength = refused invalid_token_length
+write_by config w TokenKind.BadType = refused unsupported_token_type
 write_by config w TokenKind.Zero = starting w (zero_rod config w)
 write_by config w (TokenKind.Names creator serial) =
-    if is_configured config creator then ask_then creator (Act.Redeem w.list.token w.unit) (redeemed w) else refused unknown_token
+    if is_configured config creator then ask_then creator (Act.Redeem w.list.token w.unit) (redeemed w) else refused token_unknown
 
 -- the whole command, as its list was read
 abbrev pub write_using_token : Configuration → ℕ → ℕ → Result WriteList SenseCode → Program

@@ -5,7 +5,7 @@ use Rattle.std.specs.List.{list_any}
 use Rattle.std.proofs.lemmas.Bool.Decides.{nat_tests}
 use Rattle.std.proofs.lemmas.List.Elements.{filter-append}
 use Rattle.std.proofs.lemmas.List.Sums.{sum_by-append}
-use Rattle.cm_history.specs.Bounds.{kept_records, running_operations}
+use Rattle.cm_history.specs.Bounds.{kept_operations, running_operations}
 use Rattle.copy_jobs.specs.declared.key.Key.{Key}
 use Rattle.copy_jobs.specs.declared.job.Job.{Job}
 use Rattle.copy_jobs.specs.Jobs.{has_key, is_running, has_ended, runs_as, is_busy, is_crowded, running, reserved, reserved_for}
@@ -27,10 +27,10 @@ without-length (job ∷ jobs) h = go (is_running job) (running-more job jobs) (w
     go true counted later = let e = later (omega arith) in omega arith
     go false counted later = omega arith
 
-room-length : (jobs : List Job) → length jobs ≤ kept_records → length (running jobs) ≤ running_operations → length (with_room jobs) + 1 ≤ kept_records
-room-length jobs few runs = go (length jobs == kept_records) refl
+room-length : (jobs : List Job) → length jobs ≤ kept_operations → length (running jobs) ≤ running_operations → length (with_room jobs) + 1 ≤ kept_operations
+room-length jobs few runs = go (length jobs == kept_operations) refl
   where
-    go : (t : Bool) → (length jobs == kept_records) ≡ t → length (if t then without_first has_ended jobs else jobs) + 1 ≤ kept_records
+    go : (t : Bool) → (length jobs == kept_operations) ≡ t → length (if t then without_first has_ended jobs else jobs) + 1 ≤ kept_operations
     go true e =
         let full : length jobs ≡ 256 = grind (arith, nat_tests) in
         let less = without-length jobs (omega arith) in

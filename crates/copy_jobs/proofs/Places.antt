@@ -3,7 +3,7 @@ use Rattle.std.proofs.Common.{◌≡◌, ℕ, ◌+◌, ◌<◌, ◌≤◌, List,
 use Rattle.std.specs.Prelude.{Option, Some, None, cond, nat_lt, remove, ◌==◌, if◌then◌else◌}
 use Rattle.std.specs.List.{position_or_len}
 use Rattle.std.proofs.lemmas.Bool.Decides.{nat_tests}
-use Rattle.cm_history.specs.Bounds.{kept_records}
+use Rattle.cm_history.specs.Bounds.{kept_operations}
 use Rattle.copy_jobs.specs.declared.job.Job.{Job}
 use Rattle.copy_jobs.specs.Jobs.{has_ended}
 use Rattle.copy_jobs.specs.Keeping.{without_first, with_room}
@@ -59,4 +59,4 @@ without-none test (x ∷ xs) h = go (test x) refl (without-none test xs)
 
 -- where 256 are kept
 pub full-room : (jobs : List Job) → length jobs ≡ 256 → with_room jobs ≡ without_first has_ended jobs
-full-room jobs e = let full : (length jobs == kept_records) ≡ true = grind (arith, nat_tests) in rw full refl
+full-room jobs e = let full : (length jobs == kept_operations) ≡ true = grind (arith, nat_tests) in rw full refl

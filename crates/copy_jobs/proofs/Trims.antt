@@ -2,7 +2,7 @@
 use Rattle.std.proofs.Common.{◌≡◌, suc, ◌+◌, ◌≤◌, List, [], ◌∷◌, length, refl, ap, sym, ◌∙◌, arith, subst, true, false, Bool, inl, inr}
 use Rattle.std.specs.Prelude.{◌&&◌, ◌⊎◌, ◌==◌, not, filter, cond, if◌then◌else◌}
 use Rattle.std.specs.List.{list_any}
-use Rattle.cm_history.specs.Bounds.{kept_records}
+use Rattle.cm_history.specs.Bounds.{kept_operations}
 use Rattle.copy_jobs.specs.declared.key.Key.{Key}
 use Rattle.copy_jobs.specs.declared.job.Job.{Job}
 use Rattle.copy_jobs.specs.declared.job.Work.{Work}
@@ -42,7 +42,7 @@ trims-without (x ∷ xs) = go (is_running x) refl (trims-without xs)
     go false e rest = inl (e, trims-same xs)
 
 pub trims-room : (xs : List Job) → Trims xs (with_room xs)
-trims-room xs = go (length xs == kept_records)
+trims-room xs = go (length xs == kept_operations)
   where
     go : (t : Bool) → Trims xs (if t then without_first has_ended xs else xs)
     go true = trims-without xs

@@ -1,6 +1,6 @@
 -- How a new job is kept beside the earlier ones
 use Rattle.std.specs.Prelude.{List, [], ◌∷◌, ◌++◌, length, filter, Bool, ◌==◌, ◌&&◌, not, if◌then◌else◌}
-use Rattle.cm_history.specs.Bounds.{kept_records}
+use Rattle.cm_history.specs.Bounds.{kept_operations}
 use Rattle.copy_jobs.specs.declared.key.Key.{Key}
 use Rattle.copy_jobs.specs.declared.job.Job.{Job}
 use Rattle.copy_jobs.specs.Jobs.{has_key, has_ended}
@@ -12,7 +12,7 @@ without_first test (job ∷ jobs) = if test job then jobs else job ∷ without_f
 
 -- where 256 are kept, the first that has ended makes room
 abbrev pub with_room : List Job → List Job
-with_room jobs = if length jobs == kept_records then without_first has_ended jobs else jobs
+with_room jobs = if length jobs == kept_operations then without_first has_ended jobs else jobs
 
 -- the job has not ended, or has another key
 abbrev pub is_other : Key → Job → Bool

@@ -2,7 +2,7 @@
 use Rattle.std.specs.Prelude.{◌≡◌, ℕ, ◌^◌, ◌<◌, ◌≤◌, List, [], ◌∷◌, length, true, false, ⊤}
 use Rattle.std.specs.List.{list_any}
 use Rattle.lba_ranges.specs.Denoted.{total, is_within, is_overlapping}
-use Rattle.cm_history.specs.Bounds.{kept_records, running_operations}
+use Rattle.cm_history.specs.Bounds.{kept_operations, running_operations}
 use Rattle.cm_history.specs.Operations.{is_running_state}
 use Rattle.copy_jobs.specs.declared.job.Job.{Job}
 use Rattle.copy_jobs.specs.declared.job.WriteJob.{WriteJob}
@@ -43,6 +43,6 @@ pub record IsTable (kept : List Job) (own_running own_reserved : ℕ) : Type 0 w
   pub counts_running : own_running ≡ length (running kept)
   pub counts_reserved : own_reserved ≡ reserved kept
   pub few_running : length (running kept) ≤ running_operations
-  pub few : length kept ≤ kept_records
+  pub few : length kept ≤ kept_operations
   pub apart : KeysApart kept
   pub jobs : AllJobs kept

@@ -1,6 +1,6 @@
 ghost use Rattle.std.specs.Prelude.{◌≡◌, ◌<◌, ◌≤◌, length, take, min, IfOk};
 ghost use Rattle.cm_base.specs.Configuration.{Configuration};
-ghost use Rattle.scsi_sense.specs.Codes.{no_sense};
+ghost use Rattle.scsi_sense.specs.Codes.{no_additional_sense};
 ghost use Rattle.scsi_sense.specs.SenseBytes.{sense_bytes};
 ghost use Rattle.scsi_inquiry.specs.UnitData.{capacity10, report_luns};
 ghost use Rattle.cmd_program.specs.Program.{good};
@@ -28,7 +28,7 @@ pub(crate) fn told(alloc: Global, room: u32, bytes: &[u8]) -> Result<Command, Ou
 
 /// A REQUEST SENSE: no sense is kept for it, as each reply has its own.
 pub(crate) fn request_sense(alloc: Global, room: u8) -> Result<Command, OutOfMemory>
-    ensures program { (config : Configuration) → IfOk result (λ c. standing by_phase config c ≡ good (take room (sense_bytes no_sense))) }
+    ensures program { (config : Configuration) → IfOk result (λ c. standing by_phase config c ≡ good (take room (sense_bytes no_additional_sense))) }
     ensures sound { (config : Configuration) → IfOk result (λ c. IsSoundAt IsSoundPhase config c) }
 {
     let sense = Sense::no_additional_sense();

@@ -6,7 +6,6 @@ ghost use Rattle.rod_token.specs.TokenText.{is_named, serial_of};
 ghost use Rattle.rod_store.specs.Judging.{judged_standing, judged_token};
 
 use crate::kept::{Kept, Standing};
-use crate::refusals;
 use cm_base::Config;
 use rod_token::TokenKind;
 use scsi_sense::Sense;
@@ -40,13 +39,13 @@ fn judge_standing<K>(standing: &Standing<K>, moment: u64) -> Result<&K, Sense>
     ensures err { IfErr result (λ sense. judged_standing moment standing.now ≡ Err sense) }
 {
     if standing.is_over(moment) {
-        return Err(refusals::token_expired());
+        return Err(Sense::token_expired());
     }
     match standing {
         Standing::Live { value, .. } => Ok(value),
-        Standing::Expired => Err(refusals::token_expired()),
-        Standing::Evicted => Err(refusals::token_cancelled()),
-        Standing::Deleted => Err(refusals::token_deleted()),
+        Standing::Expired => Err(Sense::token_expired()),
+        Standing::Evicted => Err(Sense::token_cancelled()),
+        Standing::Deleted => Err(Sense::token_deleted()),
     }
 }
 
@@ -66,10 +65,10 @@ pub(crate) fn judge<'a, K>(
     ensures err { IfErr result (λ sense. judged_token config.now unit moment text.now target (Some token.now) ≡ Err sense) }
 {
     if !are_alike(config, unit, target) {
-        return Err(refusals::remote_token_usage_not_supported());
+        return Err(Sense::remote_token_usage_not_supported());
     }
     if *text != rod_token::text(config, unit, token.serial, token.blocks) {
-        return Err(refusals::token_corrupt());
+        return Err(Sense::token_corrupt());
     }
     judge_standing(&token.standing, moment)
 }

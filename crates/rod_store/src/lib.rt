@@ -3,7 +3,6 @@
 
 mod judge;
 mod kept;
-mod refusals;
 mod store;
 mod walks;
 

@@ -6,7 +6,7 @@ ghost use Rattle.rod_store.specs.Judging.{judged};
 ghost use Rattle.rod_store.specs.declared.kept.Standing.TheVariants.{Live};
 
 use crate::kept::{Kept, Standing};
-use crate::{judge, refusals, walks};
+use crate::{judge, walks};
 use cm_base::{Config, OutOfMemory};
 use scsi_sense::Sense;
 use std::alloc::Global;
@@ -185,7 +185,7 @@ impl<K: Drop> RodStore<K> {
     {
         match self.token(judge::serial_of(self.unit, text)) {
             Some(token) => judge::judge(config, self.unit, moment, text, target, token),
-            None => Err(refusals::token_unknown()),
+            None => Err(Sense::token_unknown()),
         }
     }
 

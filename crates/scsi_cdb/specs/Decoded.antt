@@ -2,7 +2,7 @@
 use Rattle.std.specs.Prelude.{ℕ, ◌-◌, ◌==◌, List, [], ◌∷◌, find, Option, Some, None, Result, Ok, Err, Bool, true, false, not, ◌&&◌, ◌||◌, nat_lt, if◌then◌else◌}
 use Rattle.cm_base.specs.Fields.{byte, field, bits, bit}
 use Rattle.scsi_sense.specs.SenseCode.{SenseCode}
-use Rattle.scsi_sense.specs.Codes.{unknown_operation, bad_cdb}
+use Rattle.scsi_sense.specs.Codes.{invalid_operation_code, invalid_field_in_cdb}
 use Rattle.scsi_cdb.specs.declared.cdb.Cdb.{Cdb}
 
 -- A row: operation code, service action where there is one, bytes of the CDB, and what the bytes ask for
@@ -79,8 +79,8 @@ abbrev pub has_fault : List ℕ → Row → Bool
 has_fault b r = bit b (r.size - 1) 2 || has_bad_field b (r.command b)
 
 abbrev pub decoded_by : List ℕ → Option Row → Result Cdb SenseCode
-decoded_by b None = Err unknown_operation
-decoded_by b (Some r) = if has_fault b r then Err bad_cdb else Ok (r.command b)
+decoded_by b None = Err invalid_operation_code
+decoded_by b (Some r) = if has_fault b r then Err invalid_field_in_cdb else Ok (r.command b)
 
 -- what the 16 bytes ask for
 abbrev pub decoded : List ℕ → Result Cdb SenseCode

@@ -1,6 +1,6 @@
 ghost use Rattle.std.specs.Prelude.{◌≡◌, ◌≤◌, ◌↔◌, slice_index, IsTrue, IsNone, IsSomeAnd, IfOk};
 ghost use Rattle.std.specs.Option.{option_map};
-ghost use Rattle.scsi_sense.specs.Codes.{unknown_operation, bad_cdb};
+ghost use Rattle.scsi_sense.specs.Codes.{invalid_operation_code, invalid_field_in_cdb};
 ghost use Rattle.cm_base.specs.Fields.{byte, field, bit};
 ghost use Rattle.scsi_cdb.specs.declared.cdb.Cdb.{Cdb};
 ghost use Rattle.scsi_cdb.specs.Encoded.{moved};
@@ -186,8 +186,8 @@ fn has_bad_field(bytes: &[u8; 16], cdb: &Cdb) -> bool
 /// are ignored.
 pub fn decode(bytes: &[u8; 16]) -> Result<Cdb, Sense>
     ensures table { result ≡ decoded bytes.now }
-    ensures unknown { (result ≡ Err unknown_operation) ↔ IsNone (row_of bytes.now) }
-    ensures fault { (result ≡ Err bad_cdb)
+    ensures unknown { (result ≡ Err invalid_operation_code) ↔ IsNone (row_of bytes.now) }
+    ensures fault { (result ≡ Err invalid_field_in_cdb)
         ↔ IsSomeAnd (row_of bytes.now) (λ r. IsTrue (has_fault bytes.now r)) }
     ensures few_blocks { IfOk result (λ cdb. moved cdb ≤ 2048) }
 {

@@ -3,7 +3,7 @@ use Rattle.std.proofs.Common.{◌≡◌, ◌≢◌, ℕ, suc, ◌<◌, List, [],
 use Rattle.std.proofs.lemmas.Bool.{eq-eqb, ne_eqb}
 use Rattle.cm_base.specs.Fields.{byte}
 use Rattle.scsi_sense.specs.SenseCode.{SenseCode}
-use Rattle.scsi_sense.specs.Codes.{unknown_cscd}
+use Rattle.scsi_sense.specs.Codes.{unsupported_target_descriptor_type}
 use Rattle.scsi_sense.specs.Faults.{unless}
 use Rattle.seg_parse.specs.declared.list.Cscd.{Cscd}
 use Rattle.seg_parse.specs.declared.list.Segment.{Segment}
@@ -27,12 +27,12 @@ preceded-followed items item (Err sense) = refl
 pub cscds-step : (n m : ℕ) (bytes : List ℕ) → n ≡ suc m → byte bytes 0 ≡ 0xe4 → cscds_read n bytes ≡ followed (cscd bytes) (cscds_read m (drop 32 bytes))
 cscds-step n m bytes is known =
     ap (λ k. cscds_read k bytes) is
-    ∙ ap (λ t. if t then followed (cscd bytes) (cscds_read m (drop 32 bytes)) else Err unknown_cscd) (eq-eqb (byte bytes 0) 0xe4 known)
+    ∙ ap (λ t. if t then followed (cscd bytes) (cscds_read m (drop 32 bytes)) else Err unsupported_target_descriptor_type) (eq-eqb (byte bytes 0) 0xe4 known)
 
-pub cscds-fault : (n m : ℕ) (bytes : List ℕ) → n ≡ suc m → byte bytes 0 ≢ 0xe4 → cscds_read n bytes ≡ Err unknown_cscd
+pub cscds-fault : (n m : ℕ) (bytes : List ℕ) → n ≡ suc m → byte bytes 0 ≢ 0xe4 → cscds_read n bytes ≡ Err unsupported_target_descriptor_type
 cscds-fault n m bytes is other =
     ap (λ k. cscds_read k bytes) is
-    ∙ ap (λ t. if t then followed (cscd bytes) (cscds_read m (drop 32 bytes)) else Err unknown_cscd) (ne_eqb (byte bytes 0) 0xe4 other)
+    ∙ ap (λ t. if t then followed (cscd bytes) (cscds_read m (drop 32 bytes)) else Err unsupported_target_descriptor_type) (ne_eqb (byte bytes 0) 0xe4 other)
 
 -- ---- segments
 
@@ -66,7 +66,7 @@ cscds-more all units more unit n m rest after so_far is known read behind pushed
 
 -- a CSCD is refused
 pub cscds-refused : (all : Result (List Cscd) SenseCode) (units : List Cscd) (n m : ℕ) (rest : List ℕ) → all ≡ preceded units (cscds_read n rest)
-    → n ≡ suc m → byte rest 0 ≢ 0xe4 → all ≡ Err unknown_cscd
+    → n ≡ suc m → byte rest 0 ≢ 0xe4 → all ≡ Err unsupported_target_descriptor_type
 cscds-refused all units n m rest so_far is other = so_far ∙ ap (preceded units) (cscds-fault n m rest is other)
 
 -- one more segment was read

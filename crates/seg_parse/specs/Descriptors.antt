@@ -2,7 +2,7 @@
 use Rattle.std.specs.Prelude.{ℕ, zero, suc, ◌==◌, List, [], ◌∷◌, length, drop, slice_range, Option, Some, None, Result, Ok, Err, Bool, not, ◌&&◌, ◌||◌, nat_lt, nat_le, if◌then◌else◌}
 use Rattle.cm_base.specs.Fields.{byte, field, bits}
 use Rattle.scsi_sense.specs.SenseCode.{SenseCode}
-use Rattle.scsi_sense.specs.Codes.{bad_list_length, bad_list, unknown_cscd, unknown_segment}
+use Rattle.scsi_sense.specs.Codes.{parameter_list_length_error, invalid_field_in_parameter_list, unsupported_target_descriptor_type, unsupported_segment_descriptor_type}
 use Rattle.scsi_sense.specs.Faults.{unless}
 use Rattle.seg_parse.specs.declared.list.Cscd.{Cscd}
 use Rattle.seg_parse.specs.declared.list.Segment.{Segment}
@@ -26,7 +26,7 @@ cscd d = record {
 -- `n` CSCD descriptors of 32 bytes
 abbrev pub cscds_read : ℕ → List ℕ → Result (List Cscd) SenseCode
 cscds_read zero bytes = Ok []
-cscds_read (suc n) bytes = if byte bytes 0 == 0xe4 then followed (cscd bytes) (cscds_read n (drop 32 bytes)) else Err unknown_cscd
+cscds_read (suc n) bytes = if byte bytes 0 == 0xe4 then followed (cscd bytes) (cscds_read n (drop 32 bytes)) else Err unsupported_target_descriptor_type
 
 abbrev pub segment : List ℕ → Segment
 segment d = record {
@@ -40,10 +40,10 @@ segment d = record {
 -- what is wrong with the descriptor at the head of the bytes, where there are so many CSCDs
 abbrev pub segment_fault : ℕ → List ℕ → Option SenseCode
 segment_fault cscds bytes =
-    if not (byte bytes 0 == 0x02) then Some unknown_segment else
-    if nat_lt (length bytes) 28 then Some bad_list_length else
-    if not (field bytes 2 3 == 0x0018) then Some bad_list else
-    if nat_le cscds (field bytes 4 5) || nat_le cscds (field bytes 6 7) then Some bad_list else
+    if not (byte bytes 0 == 0x02) then Some unsupported_segment_descriptor_type else
+    if nat_lt (length bytes) 28 then Some parameter_list_length_error else
+    if not (field bytes 2 3 == 0x0018) then Some invalid_field_in_parameter_list else
+    if nat_le cscds (field bytes 4 5) || nat_le cscds (field bytes 6 7) then Some invalid_field_in_parameter_list else
     None
 
 -- the segment descriptors of 28 bytes, at most `n`, that the bytes are

@@ -2,7 +2,7 @@
 use Rattle.std.specs.Prelude.{ℕ, ◌+◌, ◌/◌, ◌%◌, ◌==◌, List, length, drop, slice_range, Option, Some, None, Result, Ok, Err, not, nat_lt, if◌then◌else◌}
 use Rattle.cm_base.specs.Fields.{byte, field, bits}
 use Rattle.scsi_sense.specs.SenseCode.{SenseCode}
-use Rattle.scsi_sense.specs.Codes.{bad_list_length, bad_list, too_many_cscds, too_many_segments, inline_data}
+use Rattle.scsi_sense.specs.Codes.{parameter_list_length_error, invalid_field_in_parameter_list, too_many_target_descriptors, too_many_segment_descriptors, inline_data_length_exceeded}
 use Rattle.scsi_sense.specs.Faults.{unless}
 use Rattle.seg_parse.specs.declared.list.Cscd.{Cscd}
 use Rattle.seg_parse.specs.declared.list.Segment.{Segment}
@@ -24,13 +24,13 @@ segment_length bytes = field bytes 8 11
 -- what is wrong with the head of the list
 abbrev pub head_fault : List ℕ → Option SenseCode
 head_fault bytes =
-    if nat_lt (length bytes) 16 then Some bad_list_length else
-    if usage bytes == 1 then Some bad_list else
-    if not (field bytes 12 15 == 0) then Some inline_data else
-    if not (cscd_length bytes % 32 == 0) then Some bad_list else
-    if nat_lt 512 (cscd_length bytes) then Some too_many_cscds else
-    if nat_lt 1792 (segment_length bytes) then Some too_many_segments else
-    if nat_lt (length bytes) (16 + cscd_length bytes + segment_length bytes) then Some bad_list_length else
+    if nat_lt (length bytes) 16 then Some parameter_list_length_error else
+    if usage bytes == 1 then Some invalid_field_in_parameter_list else
+    if not (field bytes 12 15 == 0) then Some inline_data_length_exceeded else
+    if not (cscd_length bytes % 32 == 0) then Some invalid_field_in_parameter_list else
+    if nat_lt 512 (cscd_length bytes) then Some too_many_target_descriptors else
+    if nat_lt 1792 (segment_length bytes) then Some too_many_segment_descriptors else
+    if nat_lt (length bytes) (16 + cscd_length bytes + segment_length bytes) then Some parameter_list_length_error else
     None
 
 -- the CSCD descriptors

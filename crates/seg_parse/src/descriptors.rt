@@ -1,6 +1,6 @@
 ghost use Rattle.std.specs.Prelude.{◌≡◌, ◌≢◌, ◌<◌, ◌≤◌, length, IfOk, IfErr, Some, None};
 ghost use Rattle.cm_base.specs.Fields.{byte};
-ghost use Rattle.scsi_sense.specs.Codes.{unknown_cscd};
+ghost use Rattle.scsi_sense.specs.Codes.{unsupported_target_descriptor_type};
 ghost use Rattle.seg_parse.specs.CopyLists.{IsCscd, IsSegment};
 ghost use Rattle.seg_parse.specs.Descriptors.{is_named, cscd, segment, segment_fault};
 
@@ -49,7 +49,7 @@ pub fn read_cscd(bytes: &[u8]) -> Result<Cscd, Sense>
     ensures known { IfOk result (λ _. byte bytes.now 0 ≡ 0xe4) }
     ensures read { IfOk result (λ unit. unit ≡ cscd bytes.now) }
     ensures fits { IfOk result IsCscd }
-    ensures unknown { IfErr result (λ sense. sense ≡ unknown_cscd) }
+    ensures unknown { IfErr result (λ sense. sense ≡ unsupported_target_descriptor_type) }
     ensures other { IfErr result (λ _. byte bytes.now 0 ≢ 0xe4) }
 {
     if bytes[0] != IDENTIFICATION {

@@ -1,7 +1,7 @@
 ghost use Rattle.std.specs.Prelude.{◌≡◌, ◌+◌, ◌<◌, ◌==◌, ℕ, length, nat_lt, IfOk, IfSome, None, if◌then◌else◌};
 ghost use Rattle.cm_base.specs.Configuration.{Configuration};
 ghost use Rattle.cm_base.specs.Units.{is_configured};
-ghost use Rattle.scsi_sense.specs.Codes.{unknown_token};
+ghost use Rattle.scsi_sense.specs.Codes.{token_unknown};
 ghost use Rattle.block_params.specs.ListsRead.{write_token_read};
 ghost use Rattle.block_params.specs.RangesRead.{range_fault};
 ghost use Rattle.lba_ranges.specs.HeldBlocks.{HeldBlocks};

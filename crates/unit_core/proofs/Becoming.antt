@@ -13,7 +13,7 @@ use Rattle.lba_ranges.proofs.Rows.{length-blocks_of}
 use Rattle.cm_history.specs.declared.act.Act.{Act}
 use Rattle.cm_history.specs.declared.answer.Answer.{Answer}
 use Rattle.cm_history.specs.declared.answer.OpState.{OpState}
-use Rattle.cm_history.specs.Senses.{over_quota}
+use Rattle.scsi_sense.specs.Codes.{space_allocation_failed}
 use Rattle.cm_history.specs.Deeds.{Deed}
 use Rattle.cm_history.specs.Limits.{within_limits, fits_unit}
 use Rattle.cm_history.specs.Operations.{Operation, OfToken, OfCopy, form_of, id_of, is_running, is_foreground, is_background, made_operation, written, list_of, next_piece, state_of, was_stopped, was_ended, is_failure, is_ending, result_of, result_or, count}
@@ -84,7 +84,7 @@ goes-on o n = go (count o + n == length (list_of o.made.entry.act))
 
 -- the state of a Start
 abbrev started_state : Bool → Bool → Bool → OpState
-started_state a b c = if a then OpState.Failed over_quota else if b then OpState.Terminated else if c then OpState.Done else OpState.Running
+started_state a b c = if a then OpState.Failed space_allocation_failed else if b then OpState.Terminated else if c then OpState.Done else OpState.Running
 
 pub moves-work : (config : Configuration) (unit : ℕ) (limits : UnitConfig) (past : List Deed) (d : Deed) (o : Operation) → Moves limits past o d.answer d.wrote d.entry.act
     → is_running o ≡ true → (act : Act) → o.made.entry.act ≡ act → within_limits config unit act ≡ true → (is_foreground act || is_background act) ≡ true
@@ -108,11 +108,11 @@ moves-work config unit limits past d o moves runs _ is within start = refl
 
 pub stops-work : (limits : UnitConfig) (past : List Deed) (d : Deed) (o : Operation) → Stops limits past o d.answer d.wrote d.entry.act
     → (act : Act) → o.made.entry.act ≡ act → (is_foreground act || is_background act) ≡ true
-    → work_of (record o { servers = d ∷ o.servers }) act ≡ stopped_by over_quota (work_of o act)
+    → work_of (record o { servers = d ∷ o.servers }) act ≡ stopped_by space_allocation_failed (work_of o act)
 stops-work limits past d o stops (Act.Start id background ranges rod) is start =
     let same : length (written o ++ d.wrote) ≡ length (written o) = ap (λ l. length (written o ++ l)) stops.wrote ∙ ap length (append-nil (written o)) in
     let stopped : (is_failure d.answer || was_stopped o.servers) ≡ true = rw stops.answer refl in
-    let state : state_of (record o { servers = d ∷ o.servers }) o.made.entry.act ≡ OpState.Failed over_quota =
+    let state : state_of (record o { servers = d ∷ o.servers }) o.made.entry.act ≡ OpState.Failed space_allocation_failed =
     ap (state_of (record o { servers = d ∷ o.servers })) is
     ∙ ap (λ t. started_state t (is_ending d.entry.act || was_ended o.servers) (length (written o ++ d.wrote) == length (list_of o.made.entry.act))) stopped in
     ap (λ n. Writing (record { background = background; ranges = ranges; rod = rod; written = n; state = state_of (record o { servers = d ∷ o.servers }) o.made.entry.act })) same

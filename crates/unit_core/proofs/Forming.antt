@@ -18,10 +18,10 @@ use Rattle.cm_history.specs.declared.act.Entry.{Entry}
 use Rattle.cm_history.specs.declared.answer.Answer.{Answer}
 use Rattle.cm_history.specs.declared.answer.OpState.{OpState}
 use Rattle.cm_history.specs.Bounds.{told_runs, run_blocks}
-use Rattle.cm_history.specs.Senses.{out_of_range, in_use, too_many, wrong_unit, altered}
+use Rattle.scsi_sense.specs.Codes.{lba_out_of_range, operation_in_progress, insufficient_resources, remote_token_usage_not_supported, token_corrupt}
 use Rattle.cm_history.specs.Deeds.{Deed}
 use Rattle.cm_history.specs.Blocks.{held, cut}
-use Rattle.cm_history.specs.Status.{runs, run_length}
+use Rattle.cm_history.specs.Status.{map_runs, run_length}
 use Rattle.cm_history.specs.Limits.{within_limits}
 use Rattle.cm_history.specs.Tokens.{Token, Fate, Live, Expired, Evicted, Deleted, tokens, is_populate}
 use Rattle.cm_history.specs.Redeeming.{are_alike, redeemed, answer_by_fate, fate_at, named_token}
@@ -47,16 +47,16 @@ use Rattle.unit_core.proofs.Wording.{form-is}
 -- ---- blocks, and runs of them
 
 read-formed : (config : Configuration) (unit : ℕ) (now : ℕ → Held) (lba count : ℕ) (t : Bool)
-    → HasForm config unit (Act.Read lba count) (if t then Answer.Blocks (cut (unit_of config unit) now (row lba count)) else Answer.Refused out_of_range)
+    → HasForm config unit (Act.Read lba count) (if t then Answer.Blocks (cut (unit_of config unit) now (row lba count)) else Answer.Refused lba_out_of_range)
 read-formed config unit now lba count true = record { size = refl; whole = length-map (row lba count) now ∙ length-row lba count }
 read-formed config unit now lba count false = tt
 
 capture-formed : (config : Configuration) (unit : ℕ) (now : ℕ → Held) (lba count : ℕ) (t : Bool)
-    → HasForm config unit (Act.Capture lba count) (if t then Answer.Blocks (cut (unit_of config unit) now (row lba count)) else Answer.Refused out_of_range)
+    → HasForm config unit (Act.Capture lba count) (if t then Answer.Blocks (cut (unit_of config unit) now (row lba count)) else Answer.Refused lba_out_of_range)
 capture-formed config unit now lba count true = record { size = refl; whole = length-map (row lba count) now ∙ length-row lba count }
 capture-formed config unit now lba count false = tt
 
-runs-few : (now : ℕ → Held) (n block left : ℕ) → length (runs now n block left) ≤ n
+runs-few : (now : ℕ → Held) (n block left : ℕ) → length (map_runs now n block left) ≤ n
 runs-few now zero block left = omega arith
 runs-few now (suc n) block zero = omega arith
 runs-few now (suc n) block (suc left) =
@@ -65,7 +65,7 @@ runs-few now (suc n) block (suc left) =
     omega arith
 
 status-formed : (config : Configuration) (unit : ℕ) (now : ℕ → Held) (lba left : ℕ) (t : Bool)
-    → HasForm config unit (Act.MapStatus lba) (if t then Answer.Status (runs now told_runs lba left) else Answer.Refused out_of_range)
+    → HasForm config unit (Act.MapStatus lba) (if t then Answer.Status (map_runs now told_runs lba left) else Answer.Refused lba_out_of_range)
 status-formed config unit now lba left true = runs-few now told_runs lba left
 status-formed config unit now lba left false = tt
 
@@ -107,7 +107,7 @@ redeem-formed config unit past now text target asked = go (named_token past text
         omega (arith, few, all)
 
     by_fate : (t : Token) → In t (tokens past) → (a b : Bool) → are_alike (unit_of config unit) (unit_of config target) ≡ a → (f : Fate)
-        → HasForm config unit (Act.Redeem text target) (if not a then Answer.Refused wrong_unit else if not b then Answer.Refused altered else answer_by_fate (unit_of config unit) t f)
+        → HasForm config unit (Act.Redeem text target) (if not a then Answer.Refused remote_token_usage_not_supported else if not b then Answer.Refused token_corrupt else answer_by_fate (unit_of config unit) t f)
     by_fate t there false b e f = tt
     by_fate t there true false e f = tt
     by_fate t there true true e Live = record { size = size t e; count = shown t there }
@@ -132,7 +132,7 @@ serial-low config unit past actor now (Act.Populate id timeout ranges) e =
     go (is_busy past actor OfToken id) (not (is_within (unit_of config unit).blocks ranges)) (nat_le (2 ^ 48) (length (tokens past))) refl
   where
     go : (a b c : Bool) → nat_le (2 ^ 48) (length (tokens past)) ≡ c
-        → HasSerial (if a then Answer.Refused in_use else if b then Answer.Refused out_of_range else if c then Answer.Refused too_many else Answer.Made (length (tokens past)))
+        → HasSerial (if a then Answer.Refused operation_in_progress else if b then Answer.Refused lba_out_of_range else if c then Answer.Refused insufficient_resources else Answer.Made (length (tokens past)))
     go true b c e = tt
     go false true c e = tt
     go false false true e = tt
@@ -141,14 +141,14 @@ serial-low config unit past actor now (Act.Start id background ranges rod) e =
     go (is_busy past actor OfToken id) (not (is_within (unit_of config unit).blocks ranges)) (is_crowded past) (length rod.items == 0)
   where
     go : (a b c d : Bool)
-        → HasSerial (if a then Answer.Refused in_use else if b then Answer.Refused out_of_range else if c then Answer.Refused too_many else Answer.Progress (if d then OpState.Done else OpState.Running) 0)
+        → HasSerial (if a then Answer.Refused operation_in_progress else if b then Answer.Refused lba_out_of_range else if c then Answer.Refused insufficient_resources else Answer.Progress (if d then OpState.Done else OpState.Running) 0)
     go true b c d = tt
     go false true c d = tt
     go false false true d = tt
     go false false false d = tt
 serial-low config unit past actor now (Act.Open id) e = go (is_busy past actor OfCopy id) (is_crowded past)
   where
-    go : (a b : Bool) → HasSerial (if a then Answer.Refused in_use else if b then Answer.Refused too_many else Answer.Done)
+    go : (a b : Bool) → HasSerial (if a then Answer.Refused operation_in_progress else if b then Answer.Refused insufficient_resources else Answer.Done)
     go true b = tt
     go false true = tt
     go false false = tt

@@ -8,7 +8,7 @@ use Rattle.cm_base.specs.Configuration.{Configuration}
 use Rattle.cm_history.specs.declared.act.Act.{Act}
 use Rattle.cm_history.specs.declared.act.Actor.{Actor}
 use Rattle.cm_history.specs.declared.act.Actor.TheVariants.{Nexus, Pump}
-use Rattle.cm_history.specs.Bounds.{kept_records}
+use Rattle.cm_history.specs.Bounds.{kept_operations}
 use Rattle.cm_history.specs.Deeds.{Deed, same_actor}
 use Rattle.cm_history.specs.Operations.{Operation, Form, OfToken, OfCopy, same_form, serves, form_of, id_of, has_key, operation_after, made_operation, makes_operation, would_serve, running, is_running, fits, kept, keep, has_ended, same_key, with_room, without_first_ended}
 use Rattle.cm_history.specs.Answers.{deed}
@@ -42,8 +42,8 @@ without-first (o ∷ os) =
 
 with-room : (os : List Operation) → keeping.with_room (map job_of os) ≡ map job_of (with_room os)
 with-room os =
-    ap (λ n. if n == kept_records then keeping.without_first jobs.has_ended (map job_of os) else map job_of os) (length-map os job_of)
-    ∙ go (length os == kept_records)
+    ap (λ n. if n == kept_operations then keeping.without_first jobs.has_ended (map job_of os) else map job_of os) (length-map os job_of)
+    ∙ go (length os == kept_operations)
   where
     go : (t : Bool) → (if t then keeping.without_first jobs.has_ended (map job_of os) else map job_of os) ≡ map job_of (if t then without_first_ended os else os)
     go true = without-first os

@@ -12,7 +12,7 @@ use Rattle.cm_history.specs.declared.act.Act.{Act}
 use Rattle.cm_history.specs.declared.act.Actor.{Actor}
 use Rattle.cm_history.specs.declared.answer.Answer.{Answer}
 use Rattle.cm_history.specs.declared.answer.OpState.{OpState}
-use Rattle.cm_history.specs.Senses.{in_use, out_of_range, too_many}
+use Rattle.scsi_sense.specs.Codes.{operation_in_progress, lba_out_of_range, insufficient_resources}
 use Rattle.cm_history.specs.Deeds.{Deed}
 use Rattle.cm_history.specs.Blocks.{held, cut}
 use Rattle.cm_history.specs.Limits.{within_limits, fits_unit}
@@ -32,20 +32,20 @@ use Rattle.unit_core.proofs.Planned.{IsKnown, refused-plan, populate-plan, start
 -- ---- Populate
 
 pub populate-busy : (config : Configuration) (unit : ℕ) (past : List Deed) (actor : Actor) (at id timeout : ℕ) (ranges : List Range) → is_busy past actor OfToken id ≡ true
-    → IsPlan config unit past actor at (Act.Populate id timeout ranges) (quiet (Answer.Refused in_use))
+    → IsPlan config unit past actor at (Act.Populate id timeout ranges) (quiet (Answer.Refused operation_in_progress))
 populate-busy config unit past actor at id timeout ranges busy =
-    refused-plan config unit past actor at (Act.Populate id timeout ranges) in_use (rw busy refl) (λ s. refl) (find-none (running past))
+    refused-plan config unit past actor at (Act.Populate id timeout ranges) operation_in_progress (rw busy refl) (λ s. refl) (find-none (running past))
 
 pub populate-out : (config : Configuration) (unit : ℕ) (past : List Deed) (actor : Actor) (at id timeout : ℕ) (ranges : List Range) → is_busy past actor OfToken id ≡ false
-    → is_within (unit_of config unit).blocks ranges ≡ false → IsPlan config unit past actor at (Act.Populate id timeout ranges) (quiet (Answer.Refused out_of_range))
+    → is_within (unit_of config unit).blocks ranges ≡ false → IsPlan config unit past actor at (Act.Populate id timeout ranges) (quiet (Answer.Refused lba_out_of_range))
 populate-out config unit past actor at id timeout ranges idle out =
-    refused-plan config unit past actor at (Act.Populate id timeout ranges) out_of_range (rw (idle, out) refl) (λ s. refl) (find-none (running past))
+    refused-plan config unit past actor at (Act.Populate id timeout ranges) lba_out_of_range (rw (idle, out) refl) (λ s. refl) (find-none (running past))
 
 pub populate-many : (config : Configuration) (unit : ℕ) (past : List Deed) (actor : Actor) (at id timeout : ℕ) (ranges : List Range) → is_busy past actor OfToken id ≡ false
-    → is_within (unit_of config unit).blocks ranges ≡ true → 2 ^ 48 ≤ length (tokens past) → IsPlan config unit past actor at (Act.Populate id timeout ranges) (quiet (Answer.Refused too_many))
+    → is_within (unit_of config unit).blocks ranges ≡ true → 2 ^ 48 ≤ length (tokens past) → IsPlan config unit past actor at (Act.Populate id timeout ranges) (quiet (Answer.Refused insufficient_resources))
 populate-many config unit past actor at id timeout ranges idle inside many =
     let test : nat_le (2 ^ 48) (length (tokens past)) ≡ true = grind (arith, nat_tests) in
-    refused-plan config unit past actor at (Act.Populate id timeout ranges) too_many (rw (idle, inside, test) refl) (λ s. refl) (find-none (running past))
+    refused-plan config unit past actor at (Act.Populate id timeout ranges) insufficient_resources (rw (idle, inside, test) refl) (λ s. refl) (find-none (running past))
 
 pub populate-made : (config : Configuration) (unit : ℕ) (past : List Deed) (actor : Actor) (at id timeout : ℕ) (ranges : List Range) → IsKnown config unit past → IsNexus actor
     → is_busy past actor OfToken id ≡ false → is_within (unit_of config unit).blocks ranges ≡ true → length (tokens past) < 2 ^ 48
@@ -62,19 +62,19 @@ populate-made config unit past actor at id timeout ranges known nexus idle insid
 -- ---- Start
 
 pub start-busy : (config : Configuration) (unit : ℕ) (past : List Deed) (actor : Actor) (at id : ℕ) (background : Bool) (ranges : List Range) (rod : HeldBlocks) → is_busy past actor OfToken id ≡ true
-    → IsPlan config unit past actor at (Act.Start id background ranges rod) (quiet (Answer.Refused in_use))
+    → IsPlan config unit past actor at (Act.Start id background ranges rod) (quiet (Answer.Refused operation_in_progress))
 start-busy config unit past actor at id background ranges rod busy =
-    refused-plan config unit past actor at (Act.Start id background ranges rod) in_use (rw busy refl) (λ s. refl) (find-none (running past))
+    refused-plan config unit past actor at (Act.Start id background ranges rod) operation_in_progress (rw busy refl) (λ s. refl) (find-none (running past))
 
 pub start-out : (config : Configuration) (unit : ℕ) (past : List Deed) (actor : Actor) (at id : ℕ) (background : Bool) (ranges : List Range) (rod : HeldBlocks) → is_busy past actor OfToken id ≡ false
-    → is_within (unit_of config unit).blocks ranges ≡ false → IsPlan config unit past actor at (Act.Start id background ranges rod) (quiet (Answer.Refused out_of_range))
+    → is_within (unit_of config unit).blocks ranges ≡ false → IsPlan config unit past actor at (Act.Start id background ranges rod) (quiet (Answer.Refused lba_out_of_range))
 start-out config unit past actor at id background ranges rod idle out =
-    refused-plan config unit past actor at (Act.Start id background ranges rod) out_of_range (rw (idle, out) refl) (λ s. refl) (find-none (running past))
+    refused-plan config unit past actor at (Act.Start id background ranges rod) lba_out_of_range (rw (idle, out) refl) (λ s. refl) (find-none (running past))
 
 pub start-many : (config : Configuration) (unit : ℕ) (past : List Deed) (actor : Actor) (at id : ℕ) (background : Bool) (ranges : List Range) (rod : HeldBlocks) → is_busy past actor OfToken id ≡ false
-    → is_within (unit_of config unit).blocks ranges ≡ true → is_crowded past ≡ true → IsPlan config unit past actor at (Act.Start id background ranges rod) (quiet (Answer.Refused too_many))
+    → is_within (unit_of config unit).blocks ranges ≡ true → is_crowded past ≡ true → IsPlan config unit past actor at (Act.Start id background ranges rod) (quiet (Answer.Refused insufficient_resources))
 start-many config unit past actor at id background ranges rod idle inside many =
-    refused-plan config unit past actor at (Act.Start id background ranges rod) too_many (rw (idle, inside, many) refl) (λ s. refl) (find-none (running past))
+    refused-plan config unit past actor at (Act.Start id background ranges rod) insufficient_resources (rw (idle, inside, many) refl) (λ s. refl) (find-none (running past))
 
 pub start-made : (config : Configuration) (unit : ℕ) (past : List Deed) (actor : Actor) (at id : ℕ) (background : Bool) (ranges : List Range) (rod : HeldBlocks) (empty : Bool) → IsKnown config unit past → IsNexus actor
     → within_limits config unit (Act.Start id background ranges rod) ≡ true → is_busy past actor OfToken id ≡ false → is_within (unit_of config unit).blocks ranges ≡ true → is_crowded past ≡ false
@@ -91,12 +91,12 @@ start-made config unit past actor at id background ranges rod empty known nexus 
 -- ---- Open
 
 pub open-busy : (config : Configuration) (unit : ℕ) (past : List Deed) (actor : Actor) (at id : ℕ) → is_busy past actor OfCopy id ≡ true
-    → IsPlan config unit past actor at (Act.Open id) (quiet (Answer.Refused in_use))
-open-busy config unit past actor at id busy = refused-plan config unit past actor at (Act.Open id) in_use (rw busy refl) (λ s. refl) (find-none (running past))
+    → IsPlan config unit past actor at (Act.Open id) (quiet (Answer.Refused operation_in_progress))
+open-busy config unit past actor at id busy = refused-plan config unit past actor at (Act.Open id) operation_in_progress (rw busy refl) (λ s. refl) (find-none (running past))
 
 pub open-many : (config : Configuration) (unit : ℕ) (past : List Deed) (actor : Actor) (at id : ℕ) → is_busy past actor OfCopy id ≡ false → is_crowded past ≡ true
-    → IsPlan config unit past actor at (Act.Open id) (quiet (Answer.Refused too_many))
-open-many config unit past actor at id idle many = refused-plan config unit past actor at (Act.Open id) too_many (rw (idle, many) refl) (λ s. refl) (find-none (running past))
+    → IsPlan config unit past actor at (Act.Open id) (quiet (Answer.Refused insufficient_resources))
+open-many config unit past actor at id idle many = refused-plan config unit past actor at (Act.Open id) insufficient_resources (rw (idle, many) refl) (λ s. refl) (find-none (running past))
 
 pub open-made : (config : Configuration) (unit : ℕ) (past : List Deed) (actor : Actor) (at id : ℕ) → IsKnown config unit past → IsNexus actor → is_busy past actor OfCopy id ≡ false → is_crowded past ≡ false
     → IsPlan config unit past actor at (Act.Open id) (record (quiet Answer.Done) { jobs = JobChange.Open (key_of actor OfCopy id) })

@@ -10,7 +10,7 @@ use Rattle.cm_history.specs.declared.answer.OpState.{OpState}
 use Rattle.cm_history.specs.Deeds.{Deed, is_refusal, is_answered}
 use Rattle.unit_core.specs.Agreeing.{IsAsked, AllAsked}
 use Rattle.lba_ranges.specs.Denoted.{is_within}
-use Rattle.cm_history.specs.Senses.{in_use, out_of_range, too_many}
+use Rattle.scsi_sense.specs.Codes.{operation_in_progress, lba_out_of_range, insufficient_resources}
 use Rattle.cm_history.specs.Tokens.{is_populate, tokens}
 use Rattle.cm_history.specs.Operations.{Operation, OfToken, OfCopy, operations, operation_after, made_operation, makes_operation, is_making}
 use Rattle.cm_history.specs.Answers.{answer_after, serial_made, is_busy, is_crowded}
@@ -37,8 +37,8 @@ serial-made config unit past actor now (Act.Populate id timeout ranges) e answer
     go (is_busy past actor OfToken id) (not (is_within (unit_of config unit).blocks ranges)) (nat_le (2 ^ 48) (length (tokens past))) answered
   where
     go : (a b c : Bool)
-        → not (is_refusal (if a then Answer.Refused in_use else if b then Answer.Refused out_of_range else if c then Answer.Refused too_many else Answer.Made (length (tokens past)))) ≡ true
-        → is_some (serial_made (if a then Answer.Refused in_use else if b then Answer.Refused out_of_range else if c then Answer.Refused too_many else Answer.Made (length (tokens past)))) ≡ true
+        → not (is_refusal (if a then Answer.Refused operation_in_progress else if b then Answer.Refused lba_out_of_range else if c then Answer.Refused insufficient_resources else Answer.Made (length (tokens past)))) ≡ true
+        → is_some (serial_made (if a then Answer.Refused operation_in_progress else if b then Answer.Refused lba_out_of_range else if c then Answer.Refused insufficient_resources else Answer.Made (length (tokens past)))) ≡ true
     go true b c h = cc
     go false true c h = cc
     go false false true h = cc
@@ -47,14 +47,14 @@ serial-made config unit past actor now (Act.Start id background ranges rod) e an
     go (is_busy past actor OfToken id) (not (is_within (unit_of config unit).blocks ranges)) (is_crowded past) (length rod.items == 0)
   where
     go : (a b c d : Bool)
-        → is_some (serial_made (if a then Answer.Refused in_use else if b then Answer.Refused out_of_range else if c then Answer.Refused too_many else Answer.Progress (if d then OpState.Done else OpState.Running) 0)) ≡ false
+        → is_some (serial_made (if a then Answer.Refused operation_in_progress else if b then Answer.Refused lba_out_of_range else if c then Answer.Refused insufficient_resources else Answer.Progress (if d then OpState.Done else OpState.Running) 0)) ≡ false
     go true b c d = refl
     go false true c d = refl
     go false false true d = refl
     go false false false d = refl
 serial-made config unit past actor now (Act.Open id) e answered = go (is_busy past actor OfCopy id) (is_crowded past)
   where
-    go : (a b : Bool) → is_some (serial_made (if a then Answer.Refused in_use else if b then Answer.Refused too_many else Answer.Done)) ≡ false
+    go : (a b : Bool) → is_some (serial_made (if a then Answer.Refused operation_in_progress else if b then Answer.Refused insufficient_resources else Answer.Done)) ≡ false
     go true b = refl
     go false true = refl
     go false false = refl
@@ -66,9 +66,9 @@ start-within config unit past actor now (Act.Start id background ranges rod) ans
     go (is_busy past actor OfToken id) (is_within (unit_of config unit).blocks ranges) answered
   where
     last : Answer
-    last = if is_crowded past then Answer.Refused too_many else Answer.Progress (if length rod.items == 0 then OpState.Done else OpState.Running) 0
+    last = if is_crowded past then Answer.Refused insufficient_resources else Answer.Progress (if length rod.items == 0 then OpState.Done else OpState.Running) 0
 
-    go : (a b : Bool) → not (is_refusal (if a then Answer.Refused in_use else if not b then Answer.Refused out_of_range else last)) ≡ true → b ≡ true
+    go : (a b : Bool) → not (is_refusal (if a then Answer.Refused operation_in_progress else if not b then Answer.Refused lba_out_of_range else last)) ≡ true → b ≡ true
     go true b h = cc
     go false true h = refl
     go false false h = cc

@@ -13,7 +13,7 @@ use Rattle.cm_history.specs.declared.act.Act.{Act}
 use Rattle.cm_history.specs.declared.act.Actor.{Actor}
 use Rattle.cm_history.specs.declared.act.Entry.{Entry}
 use Rattle.cm_history.specs.declared.answer.Answer.{Answer}
-use Rattle.cm_history.specs.Senses.{out_of_range, over_quota}
+use Rattle.scsi_sense.specs.Codes.{lba_out_of_range, space_allocation_failed}
 use Rattle.cm_history.specs.Deeds.{Deed, is_refusal}
 use Rattle.cm_history.specs.Operations.{Operation, is_failure, would_serve, next_piece}
 use Rattle.cm_history.specs.Blocks.{held, mapped, mapped_with}
@@ -29,7 +29,7 @@ write_within : (unit : UnitConfig) (now : ℕ → Held) (lba : ℕ) (items : Lis
 write_within unit now lba items low = go (nat_lt unit.blocks (lba + length items)) (nat_lt unit.quota (mapped_with unit now (put_at lba items))) refl
   where
     go : (t u : Bool) → nat_lt unit.quota (mapped_with unit now (put_at lba items)) ≡ u
-        → Within unit now (wrote_of (if t then Answer.Refused out_of_range else if u then Answer.Refused over_quota else Answer.Done) (put_at lba items))
+        → Within unit now (wrote_of (if t then Answer.Refused lba_out_of_range else if u then Answer.Refused space_allocation_failed else Answer.Done) (put_at lba items))
     go true u e = low
     go false true e = low
     go false false e = ltb-false unit.quota (mapped_with unit now (put_at lba items)) e
@@ -41,7 +41,7 @@ unmap_within unit now ranges low = go (is_within unit.blocks ranges)
     fewer : mapped_below unit.blocks (λ b. after (unmapped (blocks_of ranges)) b (now b)) ≤ mapped_below unit.blocks now
     fewer = mapped-fewer unit.blocks now (λ b. after (unmapped (blocks_of ranges)) b (now b)) (λ b e. mapped-left (blocks_of ranges) b (now b) e)
 
-    go : (t : Bool) → Within unit now (wrote_of (if t then Answer.Done else Answer.Refused out_of_range) (unmapped (blocks_of ranges)))
+    go : (t : Bool) → Within unit now (wrote_of (if t then Answer.Done else Answer.Refused lba_out_of_range) (unmapped (blocks_of ranges)))
     go true = let f = fewer in omega arith
     go false = low
 

@@ -7,7 +7,7 @@ use Rattle.cm_base.specs.declared.config.UnitConfig.{UnitConfig}
 use Rattle.lba_ranges.specs.declared.ranges.Range.{Range}
 use Rattle.lba_ranges.specs.HeldBlocks.{HeldBlocks}
 use Rattle.cm_history.specs.declared.act.Act.{Act}
-use Rattle.cm_history.specs.Bounds.{piece_blocks, kept_records}
+use Rattle.cm_history.specs.Bounds.{piece_blocks, kept_operations}
 use Rattle.cm_history.specs.Deeds.{Deed}
 use Rattle.cm_history.specs.Limits.{within_limits}
 use Rattle.cm_history.specs.Operations.{Operation, OfToken, form_of, operations, is_making, is_running, is_running_as, is_running_state, is_running_copy, is_foreground, is_background, kept, written, list_of, state, state_of, result_of, result_or}
@@ -103,7 +103,7 @@ fewer-without p (j ∷ js) = rw (sum_by-cons of_job j js) (go (p j) (fewer-witho
     go false ih = rw (sum_by-cons of_job j (keeping.without_first p js)) (omega (arith, ih))
 
 fewer-room : (js : List Job) → sum_by of_job (keeping.with_room js) ≤ sum_by of_job js
-fewer-room js = go (length js == kept_records)
+fewer-room js = go (length js == kept_operations)
   where
     go : (t : Bool) → sum_by of_job (if t then keeping.without_first jobs.has_ended js else js) ≤ sum_by of_job js
     go true = fewer-without jobs.has_ended js

@@ -11,7 +11,7 @@ use Rattle.cm_history.specs.declared.act.Actor.{Actor}
 use Rattle.cm_history.specs.declared.act.CopyEnd.{CopyEnd}
 use Rattle.cm_history.specs.declared.answer.Answer.{Answer}
 use Rattle.cm_history.specs.declared.answer.OpState.{OpState}
-use Rattle.cm_history.specs.Senses.{over_quota}
+use Rattle.scsi_sense.specs.Codes.{space_allocation_failed}
 use Rattle.cm_history.specs.Deeds.{Deed, is_refusal}
 use Rattle.cm_history.specs.Blocks.{held, mapped_with}
 use Rattle.cm_history.specs.Limits.{within_limits}
@@ -214,7 +214,7 @@ pub record IsForPiece (config : Configuration) (unit : ℕ) (past : List Deed) (
   pub found : would_serve past actor asked ≡ Some o
   pub answer : answer_after config unit past actor at asked
       ≡ (if nat_lt (unit_of config unit).quota (mapped_with (unit_of config unit) (held past) (next_piece o))
-      then Answer.Progress (OpState.Failed over_quota) (count o) else progress_by o (length (next_piece o)))
+      then Answer.Progress (OpState.Failed space_allocation_failed) (count o) else progress_by o (length (next_piece o)))
   pub writes : writings past actor asked ≡ next_piece o
   pub start : (is_foreground o.made.entry.act || is_background o.made.entry.act) ≡ true
   pub on : is_ending asked ≡ false
@@ -251,7 +251,7 @@ piece-plan config unit past actor at act o p known is of = go (nat_lt u.quota (m
     busy = subst (λ k. jobs.is_busy k (jobs_of past) ≡ true) (sym of.key) (busy-own config unit past actor act o known is.found)
 
     stop : Plan
-    stop = record { answer = Answer.Progress (OpState.Failed over_quota) p.written; blocks = BlockChange.Nothing; jobs = JobChange.Stop p.key; tokens = TokenChange.Nothing }
+    stop = record { answer = Answer.Progress (OpState.Failed space_allocation_failed) p.written; blocks = BlockChange.Nothing; jobs = JobChange.Stop p.key; tokens = TokenChange.Nothing }
 
     move : Plan
     move = record {
@@ -266,10 +266,10 @@ piece-plan config unit past actor at act o p known is of = go (nat_lt u.quota (m
 
     stopped : nat_lt u.quota (mapped_with u (held past) (next_piece o)) ≡ true → IsPlan config unit past actor at act stop
     stopped over =
-        let says : answer_after config unit past actor at act ≡ Answer.Progress (OpState.Failed over_quota) (count o) = is.answer ∙ ap (λ t. if t then Answer.Progress (OpState.Failed over_quota) (count o) else progress_by o (length (next_piece o))) over in
-        let told : Answer.Progress (OpState.Failed over_quota) p.written ≡ answer_after config unit past actor at act = ap (Answer.Progress (OpState.Failed over_quota)) (sym count-is) ∙ sym says in
-        served-plan config unit past actor at act o (Answer.Progress (OpState.Failed over_quota) p.written) BlockChange.Nothing (JobChange.Stop p.key) (with_work (stopped_by over_quota))
-        known is.found told refl tt (of.token, busy) (ap (λ k. change (jobs.runs_as k) (with_work (stopped_by over_quota)) (jobs_of past)) of.key) refl
+        let says : answer_after config unit past actor at act ≡ Answer.Progress (OpState.Failed space_allocation_failed) (count o) = is.answer ∙ ap (λ t. if t then Answer.Progress (OpState.Failed space_allocation_failed) (count o) else progress_by o (length (next_piece o))) over in
+        let told : Answer.Progress (OpState.Failed space_allocation_failed) p.written ≡ answer_after config unit past actor at act = ap (Answer.Progress (OpState.Failed space_allocation_failed)) (sym count-is) ∙ sym says in
+        served-plan config unit past actor at act o (Answer.Progress (OpState.Failed space_allocation_failed) p.written) BlockChange.Nothing (JobChange.Stop p.key) (with_work (stopped_by space_allocation_failed))
+        known is.found told refl tt (of.token, busy) (ap (λ k. change (jobs.runs_as k) (with_work (stopped_by space_allocation_failed)) (jobs_of past)) of.key) refl
         (λ d deeds. let stops : Stops u past o d.answer d.wrote d.entry.act = record {
           over = over;
           answer = deed-answer config unit past actor at act d deeds ∙ says;
@@ -281,7 +281,7 @@ piece-plan config unit past actor at act o p known is of = go (nat_lt u.quota (m
 
     moved : nat_lt u.quota (mapped_with u (held past) (next_piece o)) ≡ false → IsPlan config unit past actor at act move
     moved within =
-        let says : answer_after config unit past actor at act ≡ progress_by o (length (next_piece o)) = is.answer ∙ ap (λ t. if t then Answer.Progress (OpState.Failed over_quota) (count o) else progress_by o (length (next_piece o))) within in
+        let says : answer_after config unit past actor at act ≡ progress_by o (length (next_piece o)) = is.answer ∙ ap (λ t. if t then Answer.Progress (OpState.Failed space_allocation_failed) (count o) else progress_by o (length (next_piece o))) within in
         let told : Answer.Progress (if p.is_last then OpState.Done else OpState.Running) (p.written + length p.list.items) ≡ progress_by o (length (next_piece o)) =
         ap (λ t. Answer.Progress (if t then OpState.Done else OpState.Running) (p.written + length p.list.items)) of.last
         ∙ ap (λ n. Answer.Progress (if n + length p.list.items == length (list_of o.made.entry.act) then OpState.Done else OpState.Running) (p.written + length p.list.items)) (sym of.before ∙ sym count-is)

@@ -14,7 +14,7 @@ use Rattle.cm_history.specs.declared.act.CopyEnd.{CopyEnd}
 use Rattle.cm_history.specs.declared.answer.Answer.{Answer}
 use Rattle.cm_history.specs.declared.answer.OpState.{OpState}
 use Rattle.cm_history.specs.Bounds.{piece_blocks}
-use Rattle.cm_history.specs.Senses.{over_quota}
+use Rattle.scsi_sense.specs.Codes.{space_allocation_failed}
 use Rattle.cm_history.specs.Deeds.{Deed, same_actor}
 use Rattle.cm_history.specs.Blocks.{held, mapped_with}
 use Rattle.cm_history.specs.Operations.{Operation, Form, OfToken, OfCopy, same_form, form_of, id_of, has_key, operations, operation_after, makes_operation, made_operation, serves, would_serve, running, is_running, is_running_as, is_running_state, is_foreground, is_background, fits, written, list_of, next_piece, state, state_of, was_stopped, was_ended, is_failure, is_ending, count}
@@ -36,7 +36,7 @@ pub record Moves (unit : UnitConfig) (past : List Deed) (o : Operation) (told : 
 -- the next piece was stopped by the quota
 pub record Stops (unit : UnitConfig) (past : List Deed) (o : Operation) (told : Answer) (ws : List Writing) (asked : Act) : Type 0 where
   pub over : nat_lt unit.quota (mapped_with unit (held past) (next_piece o)) ≡ true
-  pub answer : told ≡ Answer.Progress (OpState.Failed over_quota) (count o)
+  pub answer : told ≡ Answer.Progress (OpState.Failed space_allocation_failed) (count o)
   pub wrote : ws ≡ []
   pub start : (is_foreground o.made.entry.act || is_background o.made.entry.act) ≡ true
 
@@ -68,7 +68,7 @@ piece-serves unit past o act on start otherwise w e =
     (go (nat_lt unit.quota (mapped_with unit (held past) (next_piece o))) refl (count o + length (next_piece o) == length (list_of o.made.entry.act)) refl)
   where
     stopped : Answer
-    stopped = Answer.Progress (OpState.Failed over_quota) (count o)
+    stopped = Answer.Progress (OpState.Failed space_allocation_failed) (count o)
 
     go : (t : Bool) → nat_lt unit.quota (mapped_with unit (held past) (next_piece o)) ≡ t
         → (u : Bool) → (count o + length (next_piece o) == length (list_of o.made.entry.act)) ≡ u
@@ -156,7 +156,7 @@ pub left-running : (o : Operation) (act : Act) → is_running_state (state_of o 
     → (was_stopped o.servers ≡ false) × (was_ended o.servers ≡ false) × ((length (written o) == length (list_of o.made.entry.act)) ≡ false)
 left-running o (Act.Start id background ranges rod) e = go (was_stopped o.servers) (was_ended o.servers) (length (written o) == length (list_of o.made.entry.act)) e
   where
-    go : (a b c : Bool) → is_running_state (if a then OpState.Failed over_quota else if b then OpState.Terminated else if c then OpState.Done else OpState.Running) ≡ true
+    go : (a b c : Bool) → is_running_state (if a then OpState.Failed space_allocation_failed else if b then OpState.Terminated else if c then OpState.Done else OpState.Running) ≡ true
         → (a ≡ false) × (b ≡ false) × (c ≡ false)
     go true b c e = cc
     go false true c e = cc

@@ -12,7 +12,7 @@ use Rattle.cm_history.specs.Bounds.{live_tokens}
 use Rattle.cm_history.specs.declared.act.Act.{Act}
 use Rattle.cm_history.specs.Deeds.{Deed, is_answered}
 use Rattle.cm_history.specs.Blocks.{held, cut}
-use Rattle.cm_history.specs.Tokens.{Token, Fate, Live, Expired, Evicted, Deleted, tokens, token_after, made_token, rod, is_live, is_over, is_live_at, is_older, makes_room, is_populate, is_delete_of, is_redeem_of}
+use Rattle.cm_history.specs.Tokens.{Token, Fate, Live, Expired, Evicted, Deleted, tokens, token_after, made_token, rod, is_live, is_over, is_live_at, is_older, gives_way, is_populate, is_delete_of, is_redeem_of}
 use Rattle.cm_history.proofs.Lists.{filter-passes}
 use Rattle.rod_store.specs.declared.kept.Kept.{Kept}
 use Rattle.rod_store.specs.declared.kept.Standing.{Standing}
@@ -107,7 +107,7 @@ older-kept unit a b x y =
 
 -- a live token makes room in the store exactly where it does in the past
 room-kept : (unit : UnitConfig) (now : ℕ) (ts : List Token) (t : Token) → is_live_at now t ≡ true
-    → store.makes_room (store.expired now (map (kept_of unit) ts)) (kept_of unit t) ≡ makes_room now ts t
+    → store.makes_room (store.expired now (map (kept_of unit) ts)) (kept_of unit t) ≡ gives_way now ts t
 room-kept unit now ts t e =
     let lives : is_live t.fate ≡ true = and_first (is_live t.fate) (not (is_over now t)) e in
     let all = live-kept unit now ts in
@@ -130,7 +130,7 @@ after-dead d ts t e = go (is_live t.fate) (is_over d.moment t) e
   where
     rest : Token
     rest = if is_delete_of t.serial d.entry.act then record t { fate = Deleted } else
-        if is_populate d.entry.act && is_answered d && makes_room d.moment ts t then record t { fate = Evicted } else
+        if is_populate d.entry.act && is_answered d && gives_way d.moment ts t then record t { fate = Evicted } else
         if is_redeem_of t.serial d.entry.act && is_answered d then record t { last_use = d.moment } else t
 
     go : (a b : Bool) → (a && not b) ≡ false → (if not a then t else if b then record t { fate = Expired } else rest) ≡ (if a && b then record t { fate = Expired } else t)
@@ -141,13 +141,13 @@ after-dead d ts t e = go (is_live t.fate) (is_over d.moment t) e
 after-live : (d : Deed) (ts : List Token) (t : Token) → is_live_at d.moment t ≡ true
     → token_after d ts t
     ≡ (if is_delete_of t.serial d.entry.act then record t { fate = Deleted } else
-    if is_populate d.entry.act && is_answered d && makes_room d.moment ts t then record t { fate = Evicted } else
+    if is_populate d.entry.act && is_answered d && gives_way d.moment ts t then record t { fate = Evicted } else
     if is_redeem_of t.serial d.entry.act && is_answered d then record t { last_use = d.moment } else t)
 after-live d ts t e = go (is_live t.fate) (is_over d.moment t) e
   where
     rest : Token
     rest = if is_delete_of t.serial d.entry.act then record t { fate = Deleted } else
-        if is_populate d.entry.act && is_answered d && makes_room d.moment ts t then record t { fate = Evicted } else
+        if is_populate d.entry.act && is_answered d && gives_way d.moment ts t then record t { fate = Evicted } else
         if is_redeem_of t.serial d.entry.act && is_answered d then record t { last_use = d.moment } else t
 
     go : (a b : Bool) → (a && not b) ≡ true → (if not a then t else if b then record t { fate = Expired } else rest) ≡ rest
@@ -209,9 +209,9 @@ idle-tokens unit d past none undeleted unused =
     lives t e =
         ap (kept_of unit)
         (after-live d (tokens past) t e
-        ∙ ap (λ b. if b then record t { fate = Deleted } else if is_populate d.entry.act && is_answered d && makes_room d.moment (tokens past) t then record t { fate = Evicted } else
+        ∙ ap (λ b. if b then record t { fate = Deleted } else if is_populate d.entry.act && is_answered d && gives_way d.moment (tokens past) t then record t { fate = Evicted } else
         if is_redeem_of t.serial d.entry.act && is_answered d then record t { last_use = d.moment } else t) (undeleted t.serial)
-        ∙ go (is_populate d.entry.act) (is_answered d) (makes_room d.moment (tokens past) t) none
+        ∙ go (is_populate d.entry.act) (is_answered d) (gives_way d.moment (tokens past) t) none
         ∙ ap (λ b. if b then record t { last_use = d.moment } else t) (unused t.serial))
       where
         go : (a b c : Bool) → (a && b) ≡ false → (if a && b && c then record t { fate = Evicted } else if is_redeem_of t.serial d.entry.act && is_answered d then record t { last_use = d.moment } else t)
@@ -233,7 +233,7 @@ deleted-tokens unit d past serial is =
         let live : store.is_live (kept_of unit t).standing ≡ true = live-standing (rod unit t) t t.fate ∙ and_first (is_live t.fate) (not (is_over d.moment t)) e in
         ap (kept_of unit)
         (after-live d (tokens past) t e
-        ∙ ap (λ a. if is_delete_of t.serial a then record t { fate = Deleted } else if is_populate a && is_answered d && makes_room d.moment (tokens past) t then record t { fate = Evicted } else
+        ∙ ap (λ a. if is_delete_of t.serial a then record t { fate = Deleted } else if is_populate a && is_answered d && gives_way d.moment (tokens past) t then record t { fate = Evicted } else
         if is_redeem_of t.serial a && is_answered d then record t { last_use = d.moment } else t) is
         ∙ ap (λ b. if b then record t { fate = Deleted } else t) (eqb-turned serial t.serial))
         ∙ go (t.serial == serial)
@@ -257,7 +257,7 @@ used-tokens unit d past text target is answered =
         let live : store.is_live (kept_of unit t).standing ≡ true = live-standing (rod unit t) t t.fate ∙ lives in
         ap (kept_of unit)
         (after-live d (tokens past) t e
-        ∙ ap (λ a. if is_delete_of t.serial a then record t { fate = Deleted } else if is_populate a && is_answered d && makes_room d.moment (tokens past) t then record t { fate = Evicted } else
+        ∙ ap (λ a. if is_delete_of t.serial a then record t { fate = Deleted } else if is_populate a && is_answered d && gives_way d.moment (tokens past) t then record t { fate = Evicted } else
         if is_redeem_of t.serial a && is_answered d then record t { last_use = d.moment } else t) is
         ∙ ap (λ b. if (serial_of text == t.serial) && b then record t { last_use = d.moment } else t) answered
         ∙ go-and (serial_of text == t.serial)
@@ -298,10 +298,10 @@ made-tokens unit d past id timeout ranges is answered =
     lives t e =
         ap (kept_of unit)
         (after-live d (tokens past) t e
-        ∙ ap (λ a. if is_delete_of t.serial a then record t { fate = Deleted } else if is_populate a && is_answered d && makes_room d.moment (tokens past) t then record t { fate = Evicted } else
+        ∙ ap (λ a. if is_delete_of t.serial a then record t { fate = Deleted } else if is_populate a && is_answered d && gives_way d.moment (tokens past) t then record t { fate = Evicted } else
         if is_redeem_of t.serial a && is_answered d then record t { last_use = d.moment } else t) is
-        ∙ ap (λ b. if b && makes_room d.moment (tokens past) t then record t { fate = Evicted } else t) answered)
-        ∙ go (makes_room d.moment (tokens past) t)
+        ∙ ap (λ b. if b && gives_way d.moment (tokens past) t then record t { fate = Evicted } else t) answered)
+        ∙ go (gives_way d.moment (tokens past) t)
         ∙ sym (ap (λ b. if b then record (kept_of unit t) { standing = Standing.Evicted } else kept_of unit t) (room-kept unit d.moment (tokens past) t e))
       where
         go : (b : Bool) → kept_of unit (if b then record t { fate = Evicted } else t) ≡ (if b then record (kept_of unit t) { standing = Standing.Evicted } else kept_of unit t)

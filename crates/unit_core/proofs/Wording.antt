@@ -17,7 +17,7 @@ use Rattle.cm_history.specs.declared.act.CopyEnd.{CopyEnd}
 use Rattle.cm_history.specs.declared.answer.Answer.{Answer}
 use Rattle.cm_history.specs.declared.answer.OpReport.{OpReport}
 use Rattle.cm_history.specs.Bounds.{piece_blocks}
-use Rattle.cm_history.specs.Senses.{no_such_operation, wrong_unit, altered, expired}
+use Rattle.scsi_sense.specs.Codes.{invalid_field_in_cdb, remote_token_usage_not_supported, token_corrupt, token_expired}
 use Rattle.cm_history.specs.Deeds.{Deed, moment, same_actor}
 use Rattle.cm_history.specs.Limits.{within_limits}
 use Rattle.cm_history.specs.Legal.{may_ask}
@@ -72,7 +72,7 @@ answer_of (Err sense) = Answer.Refused sense
 fate-is : (unit : UnitConfig) (now : ℕ) (t : Token) (f : Fate) → answer_by_fate unit t (fate_at now t f) ≡ answer_of (judged_standing now (standing_of (rod unit t) t f))
 fate-is unit now t Live = go (is_over now t)
   where
-    go : (b : Bool) → answer_by_fate unit t (if b then Expired else Live) ≡ answer_of (if b then Err expired else Ok (rod unit t))
+    go : (b : Bool) → answer_by_fate unit t (if b then Expired else Live) ≡ answer_of (if b then Err token_expired else Ok (rod unit t))
     go true = refl
     go false = refl
 fate-is unit now t Expired = refl
@@ -89,8 +89,8 @@ token-is config unit now text target (Some t) =
     last = judged_standing now (standing_of (rod (unit_of config unit) t) t t.fate)
 
     go : (a b : Bool)
-        → (if not a then Answer.Refused wrong_unit else if not b then Answer.Refused altered else answer_by_fate (unit_of config unit) t (fate_at now t t.fate))
-        ≡ answer_of (if not a then Err wrong_unit else if not b then Err altered else last)
+        → (if not a then Answer.Refused remote_token_usage_not_supported else if not b then Answer.Refused token_corrupt else answer_by_fate (unit_of config unit) t (fate_at now t t.fate))
+        ≡ answer_of (if not a then Err remote_token_usage_not_supported else if not b then Err token_corrupt else last)
     go false b = refl
     go true false = refl
     go true true = fate-is (unit_of config unit) now t t.fate
@@ -107,8 +107,8 @@ pub redeem-given : (s : Standing) (actor : Actor) (at : ℕ) (text : List ℕ) (
     → answer_after s.config s.unit (past_of s.config s.unit s.entries) actor at (Act.Redeem text target) ≡ Answer.Rod (rod (unit_of s.config s.unit) t)
 redeem-given s actor at text target t may =
     ap (redeemed s.config s.unit (max at (moment (past_of s.config s.unit s.entries))) text target) may.named
-    ∙ ap (λ b. if not b then Answer.Refused wrong_unit else if not (bytes_eq text (token_text s.config s.unit t.serial (total t.ranges))) then Answer.Refused altered else by_fate t.fate) may.alike
-    ∙ ap (λ b. if not b then Answer.Refused altered else by_fate t.fate) may.unaltered
+    ∙ ap (λ b. if not b then Answer.Refused remote_token_usage_not_supported else if not (bytes_eq text (token_text s.config s.unit t.serial (total t.ranges))) then Answer.Refused token_corrupt else by_fate t.fate) may.alike
+    ∙ ap (λ b. if not b then Answer.Refused token_corrupt else by_fate t.fate) may.unaltered
     ∙ ap by_fate may.live
     ∙ ap (λ b. answer_by_fate (unit_of s.config s.unit) t (if b then Expired else Live)) may.in_time
   where
@@ -275,7 +275,7 @@ for-piece config unit past actor at act key otherwise o (asked, inl adv) found =
     go : (id : ℕ) → would_serve past actor (Act.Advance id) ≡ Some o → IsForPiece config unit past actor at (Act.Advance id) o
     go id e = record {
       found = e;
-      answer = ap (progress (unit_of config unit) past (Answer.Refused no_such_operation)) e;
+      answer = ap (progress (unit_of config unit) past (Answer.Refused invalid_field_in_cdb)) e;
       writes = ap piece_of e;
       start = or_left (is_foreground o.made.entry.act) (is_background o.made.entry.act) (and_second (has_key actor OfToken id o) (is_foreground o.made.entry.act) (find-passes (fits actor (Act.Advance id)) (running past) o e));
       on = refl;
@@ -300,8 +300,8 @@ pub no-piece : (config : Configuration) (unit : ℕ) (past : List Deed) (actor :
 no-piece config unit past actor at act key otherwise (asked, inl adv) none =
     rw (adv.act, adv.none) (go adv.id (sym (ap (would_serve past actor) adv.act) ∙ none))
   where
-    go : (id : ℕ) → would_serve past actor (Act.Advance id) ≡ None → IsPlan config unit past actor at (Act.Advance id) (quiet (Answer.Refused no_such_operation))
-    go id e = refused-plan config unit past actor at (Act.Advance id) no_such_operation (sym (ap (progress (unit_of config unit) past (Answer.Refused no_such_operation)) e)) (λ s. refl) e
+    go : (id : ℕ) → would_serve past actor (Act.Advance id) ≡ None → IsPlan config unit past actor at (Act.Advance id) (quiet (Answer.Refused invalid_field_in_cdb))
+    go id e = refused-plan config unit past actor at (Act.Advance id) invalid_field_in_cdb (sym (ap (progress (unit_of config unit) past (Answer.Refused invalid_field_in_cdb)) e)) (λ s. refl) e
 no-piece config unit past actor at act key otherwise (asked, inr pump) none =
     rw (pump.act, pump.none) (go (sym (ap (would_serve past actor) pump.act) ∙ none))
   where
@@ -326,16 +326,16 @@ some-there None e = cc
 some-there (Some x) e = record { item = x; is = refl }
 
 pub end-none : (config : Configuration) (unit : ℕ) (past : List Deed) (actor : Actor) (at id : ℕ) → would_serve past actor (Act.End id) ≡ None
-    → IsPlan config unit past actor at (Act.End id) (quiet (Answer.Refused no_such_operation))
-end-none config unit past actor at id e = refused-plan config unit past actor at (Act.End id) no_such_operation (sym (ap answer_end e)) (λ s. refl) e
+    → IsPlan config unit past actor at (Act.End id) (quiet (Answer.Refused invalid_field_in_cdb))
+end-none config unit past actor at id e = refused-plan config unit past actor at (Act.End id) invalid_field_in_cdb (sym (ap answer_end e)) (λ s. refl) e
 
 pub abort-none : (config : Configuration) (unit : ℕ) (past : List Deed) (actor : Actor) (at id : ℕ) → would_serve past actor (Act.Abort id) ≡ None
-    → IsPlan config unit past actor at (Act.Abort id) (quiet (Answer.Refused no_such_operation))
-abort-none config unit past actor at id e = refused-plan config unit past actor at (Act.Abort id) no_such_operation (sym (ap done_if e)) (λ s. refl) e
+    → IsPlan config unit past actor at (Act.Abort id) (quiet (Answer.Refused invalid_field_in_cdb))
+abort-none config unit past actor at id e = refused-plan config unit past actor at (Act.Abort id) invalid_field_in_cdb (sym (ap done_if e)) (λ s. refl) e
 
 pub close-none : (config : Configuration) (unit : ℕ) (past : List Deed) (actor : Actor) (at id : ℕ) (result : CopyEnd) → would_serve past actor (Act.Close id result) ≡ None
-    → IsPlan config unit past actor at (Act.Close id result) (quiet (Answer.Refused no_such_operation))
-close-none config unit past actor at id result e = refused-plan config unit past actor at (Act.Close id result) no_such_operation (sym (ap done_if e)) (λ s. refl) e
+    → IsPlan config unit past actor at (Act.Close id result) (quiet (Answer.Refused invalid_field_in_cdb))
+close-none config unit past actor at id result e = refused-plan config unit past actor at (Act.Close id result) invalid_field_in_cdb (sym (ap done_if e)) (λ s. refl) e
 
 -- the report of an operation that an End would serve tells its count
 pub end-count : (config : Configuration) (unit : ℕ) (past : List Deed) (actor : Actor) (id : ℕ) (o : Operation) (report : OpReport) → IsKnown config unit past → IsNexus actor
@@ -385,14 +385,14 @@ report-plan config unit past actor at id report known mine told =
 
 pub report-none : (config : Configuration) (unit : ℕ) (past : List Deed) (actor : Actor) (at id : ℕ) → IsKnown config unit past → IsNexus actor
     → None ≡ option_map (λ (j : Job). reports.report_of j.work) (find (jobs.has_key (key_of actor OfToken id)) (jobs_of past))
-    → IsPlan config unit past actor at (Act.Report id) (quiet (Answer.Refused no_such_operation))
+    → IsPlan config unit past actor at (Act.Report id) (quiet (Answer.Refused invalid_field_in_cdb))
 report-none config unit past actor at id known mine told =
-    refused-plan config unit past actor at (Act.Report id) no_such_operation (go (find (jobs.has_key (key_of actor OfToken id)) (jobs_of past)) (find (has_key actor OfToken id) (kept past)) told
+    refused-plan config unit past actor at (Act.Report id) invalid_field_in_cdb (go (find (jobs.has_key (key_of actor OfToken id)) (jobs_of past)) (find (has_key actor OfToken id) (kept past)) told
     (report-is config unit past actor id known mine)) (λ s. refl) (find-none (running past))
   where
     go : (j : Option Job) (w : Option Operation) → None ≡ option_map (λ (j : Job). reports.report_of j.work) j
         → option_map (λ (j : Job). Answer.Report (reports.report_of j.work)) j ≡ option_map (λ (o : Operation). Answer.Report (report_of o)) w
-        → Answer.Refused no_such_operation ≡ answer_report w
+        → Answer.Refused invalid_field_in_cdb ≡ answer_report w
     go None None e same = refl
     go None (Some o) e same = cc
     go (Some j) w e same = cc
@@ -414,14 +414,14 @@ recall-plan config unit past actor at id end known mine told =
 
 pub recall-none : (config : Configuration) (unit : ℕ) (past : List Deed) (actor : Actor) (at id : ℕ) → IsKnown config unit past → IsNexus actor
     → None ≡ option_map (λ (j : Job). reports.result_of j.work) (find (jobs.has_key (key_of actor OfCopy id)) (jobs_of past))
-    → IsPlan config unit past actor at (Act.Recall id) (quiet (Answer.Refused no_such_operation))
+    → IsPlan config unit past actor at (Act.Recall id) (quiet (Answer.Refused invalid_field_in_cdb))
 recall-none config unit past actor at id known mine told =
-    refused-plan config unit past actor at (Act.Recall id) no_such_operation (go (find (jobs.has_key (key_of actor OfCopy id)) (jobs_of past)) (find (has_key actor OfCopy id) (kept past)) told
+    refused-plan config unit past actor at (Act.Recall id) invalid_field_in_cdb (go (find (jobs.has_key (key_of actor OfCopy id)) (jobs_of past)) (find (has_key actor OfCopy id) (kept past)) told
     (recall-is config unit past actor id known mine)) (λ s. refl) (find-none (running past))
   where
     go : (j : Option Job) (w : Option Operation) → None ≡ option_map (λ (j : Job). reports.result_of j.work) j
         → option_map (λ (j : Job). Answer.Copy (reports.result_of j.work)) j ≡ option_map (λ (o : Operation). Answer.Copy (result_of o.servers)) w
-        → Answer.Refused no_such_operation ≡ answer_recall w
+        → Answer.Refused invalid_field_in_cdb ≡ answer_recall w
     go None None e same = refl
     go None (Some o) e same = cc
     go (Some j) w e same = cc

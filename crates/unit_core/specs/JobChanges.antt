@@ -1,7 +1,7 @@
 -- What is to be changed in the operations
 use Rattle.std.specs.Prelude.{◌≡◌, ◌≤◌, ◌^◌, List, length, Some, Bool, true, false, ⊤}
 use Rattle.lba_ranges.specs.Denoted.{total, is_within, is_overlapping}
-use Rattle.cm_history.specs.Senses.{over_quota}
+use Rattle.scsi_sense.specs.Codes.{space_allocation_failed}
 use Rattle.cm_history.specs.Operations.{is_running_copy}
 use Rattle.copy_jobs.specs.declared.job.Job.{Job}
 use Rattle.copy_jobs.specs.Jobs.{runs_as, is_busy, started, opened, made}
@@ -17,7 +17,7 @@ jobs_after (Make key serial blocks) jobs = keep jobs (made key serial blocks)
 jobs_after (Start key background ranges rod) jobs = keep jobs (started key background ranges rod)
 jobs_after (Open key) jobs = keep jobs (opened key)
 jobs_after (Move key blocks) jobs = change (runs_as key) (with_work (moved_by blocks)) jobs
-jobs_after (Stop key) jobs = change (runs_as key) (with_work (stopped_by over_quota)) jobs
+jobs_after (Stop key) jobs = change (runs_as key) (with_work (stopped_by space_allocation_failed)) jobs
 jobs_after (End key) jobs = change (runs_as key) (with_work terminated) jobs
 jobs_after (Close key result) jobs = change (runs_as key) (with_work (closed_by result)) jobs
 

@@ -5,7 +5,7 @@ use Rattle.lba_ranges.specs.Denoted.{blocks_of}
 use Rattle.lba_ranges.specs.HeldBlocks.{HeldBlocks}
 use Rattle.lba_ranges.specs.Writings.{Held, paired}
 use Rattle.cm_history.specs.declared.answer.OpState.{OpState}
-use Rattle.cm_history.specs.Senses.{over_quota, no_such_operation}
+use Rattle.scsi_sense.specs.Codes.{space_allocation_failed, invalid_field_in_cdb}
 use Rattle.cm_history.specs.Blocks.{mapped_with}
 use Rattle.cm_history.specs.Legal.{may_ask}
 use Rattle.cm_history.specs.Operations.{OfToken}
@@ -76,7 +76,7 @@ pub record Advances (actor : Actor) (asked : Act) (key : Option Key) (otherwise 
   pub id : ℕ
   pub act : asked ≡ Act.Advance id
   pub key_is : key ≡ Some (key_of actor OfToken id)
-  pub none : otherwise ≡ Answer.Refused no_such_operation
+  pub none : otherwise ≡ Answer.Refused invalid_field_in_cdb
 
 pub record Pumps (asked : Act) (key : Option Key) (otherwise : Answer) : Type 0 where
   pub act : asked ≡ Act.Pump
@@ -92,7 +92,7 @@ abbrev pub piece_plan : UnitConfig → (ℕ → Held) → NextPiece → Plan
 piece_plan unit now piece =
     if nat_lt unit.quota (mapped_with unit now (paired (blocks_of piece.ranges) piece.list.items))
     then record {
-      answer = Answer.Progress (OpState.Failed over_quota) piece.written;
+      answer = Answer.Progress (OpState.Failed space_allocation_failed) piece.written;
       blocks = BlockChange.Nothing;
       jobs = JobChange.Stop piece.key;
       tokens = TokenChange.Nothing;

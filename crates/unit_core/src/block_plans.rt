@@ -54,7 +54,7 @@ pub(crate) fn read<B: Blocks>(
     ensures change { IfOk result (λ p. p.change ≡ BlockChange.Nothing) }
 {
     if lba > unit.blocks || u64::from(count) > unit.blocks - lba {
-        return Ok(answered(refusals::address_out_of_range()));
+        return Ok(answered(refusals::lba_out_of_range()));
     }
     let ranges = row_of(alloc, lba, count)?;
     let list = blocks.cut(alloc, &ranges)?;
@@ -78,7 +78,7 @@ pub(crate) fn write<B: Blocks>(
 {
     let count = list.blocks();
     if lba > unit.blocks || count > unit.blocks - lba {
-        return Ok(answered(refusals::address_out_of_range()));
+        return Ok(answered(refusals::lba_out_of_range()));
     }
     let ranges = row_of(alloc, lba, count as u32)?;
     if mapped_after(blocks, &ranges, list) > unit.quota {
@@ -102,7 +102,7 @@ pub(crate) fn unmap(
     ensures may { IfOk result (λ p. MayChange unit.blocks unit.block_length p.change) }
 {
     if !ranges.within(unit.blocks) {
-        return Ok(answered(refusals::address_out_of_range()));
+        return Ok(answered(refusals::lba_out_of_range()));
     }
     let ranges = ranges.copy(alloc)?;
     Ok(BlockPlan {
@@ -123,7 +123,7 @@ pub(crate) fn status<B: Blocks>(
     ensures change { IfOk result (λ p. p.change ≡ BlockChange.Nothing) }
 {
     if lba >= unit.blocks {
-        return Ok(answered(refusals::address_out_of_range()));
+        return Ok(answered(refusals::lba_out_of_range()));
     }
     let list = runs(alloc, blocks, unit.blocks, lba)?;
     Ok(answered(Answer::Status(list)))

@@ -1,11 +1,11 @@
 ghost use Rattle.std.specs.Prelude.{◌≡◌, OnOk, OnErr, true};
 ghost use Rattle.unit_core.specs.JobChanges.{jobs_after, MayJob, grows};
 
-use crate::refusals;
 use cm_base::OutOfMemory;
 use cm_history::CopyEnd;
 use copy_jobs::{JobTable, Key};
 use lba_ranges::{BlockList, RangeList};
+use scsi_sense::Sense;
 
 /// What an act is to change in the operations.
 #[derive(Drop)]
@@ -73,7 +73,7 @@ impl JobChange {
             }
             JobChange::Open { key } => return jobs.open(key).map_err(|_| OutOfMemory),
             JobChange::Move { key, blocks } => jobs.moved(key, blocks),
-            JobChange::Stop { key } => jobs.fail(key, refusals::over_quota()),
+            JobChange::Stop { key } => jobs.fail(key, Sense::space_allocation_failed()),
             JobChange::End { key } => jobs.terminate(key),
             JobChange::Close { key, end } => jobs.close(key, end),
         }

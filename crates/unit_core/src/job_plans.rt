@@ -21,6 +21,7 @@ use cm_base::OutOfMemory;
 use cm_history::{Actor, Answer, CopyEnd, OpState};
 use copy_jobs::{Key, NextPiece};
 use lba_ranges::{BlockList, Blocks, RangeList};
+use scsi_sense::Sense;
 use unmap_thin::mapped_after;
 
 /// Operations that run at most.
@@ -57,7 +58,7 @@ impl<B: Blocks + Drop> UnitOver<B> {
             return Ok(Plan::answered(refusals::operation_in_progress()));
         }
         if !ranges.within(self.config.unit(self.unit).blocks) {
-            return Ok(Plan::answered(refusals::address_out_of_range()));
+            return Ok(Plan::answered(refusals::lba_out_of_range()));
         }
         if self.tables.jobs.running() >= RUNNING {
             return Ok(Plan::answered(refusals::insufficient_resources()));
@@ -113,7 +114,7 @@ impl<B: Blocks + Drop> UnitOver<B> {
         } = piece;
         if mapped_after(&self.tables.blocks, &ranges, &list) > quota {
             let answer = Answer::Progress {
-                state: OpState::Failed(refusals::over_quota()),
+                state: OpState::Failed(Sense::space_allocation_failed()),
                 count: written,
             };
             return Plan::of_jobs(answer, JobChange::Stop { key });

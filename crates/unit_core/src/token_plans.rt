@@ -40,7 +40,7 @@ impl<B: Blocks + Drop> UnitOver<B> {
             return Ok(Plan::answered(refusals::operation_in_progress()));
         }
         if !ranges.within(self.config.unit(self.unit).blocks) {
-            return Ok(Plan::answered(refusals::address_out_of_range()));
+            return Ok(Plan::answered(refusals::lba_out_of_range()));
         }
         let serial = self.tables.tokens.next_serial();
         if serial >= SERIALS {

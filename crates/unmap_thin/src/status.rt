@@ -1,6 +1,6 @@
 ghost use Rattle.std.specs.Prelude.{◌≡◌, ◌-◌, ◌<◌, IfOk};
 ghost use Rattle.cm_history.specs.Bounds.{told_runs};
-ghost use Rattle.cm_history.specs.Status.{runs, IsRun};
+ghost use Rattle.cm_history.specs.Status.{map_runs, IsRun};
 
 use cm_base::OutOfMemory;
 use cm_history::{MapRun, StatusList};
@@ -36,7 +36,7 @@ pub fn runs<B: Blocks>(
 ) -> Result<StatusList, OutOfMemory>
     requires count { B.blocks unit.now ≡ blocks }
     requires within { lba < blocks }
-    ensures { IfOk result (λ list. list ≡ runs (B.holds unit.now) told_runs lba (blocks - lba)) }
+    ensures { IfOk result (λ list. list ≡ map_runs (B.holds unit.now) told_runs lba (blocks - lba)) }
 {
     let mut list = StatusList::empty(alloc);
     let mut block = lba;

@@ -4,7 +4,7 @@ ghost use Rattle.lba_ranges.specs.Denoted.{total};
 ghost use Rattle.rod_token.specs.TokenText.{token_text};
 ghost use Rattle.cm_base.specs.Units.{unit_of};
 ghost use Rattle.cm_history.specs.Blocks.{held};
-ghost use Rattle.cm_history.specs.Tokens.{rod, is_live, is_over, is_live_at, is_older, makes_room, token_after, made_token};
+ghost use Rattle.cm_history.specs.Tokens.{rod, is_live, is_over, is_live_at, is_older, gives_way, token_after, made_token};
 ghost use Rattle.cm_history.specs.Redeeming.{are_alike, fate_at, answer_by_fate, redeemed};
 ghost use Rattle.cm_history.specs.PlainHolds.{AreSized, MadeSound, listed};
 ghost use Rattle.cm_history.specs.PlainFates.{fate_of};
@@ -93,7 +93,7 @@ impl PlainToken {
 
     /// 64 tokens are live at this moment, and this one was used least lately.
     fn makes_room(&self, now: u64, tokens: &[PlainToken]) -> bool
-        ensures { result ≡ makes_room now tokens.now self.now }
+        ensures { result ≡ gives_way now tokens.now self.now }
     {
         let mut live = 0;
         let mut oldest = true;

@@ -1,11 +1,11 @@
 use Rattle.std.proofs.Common.{◌≡◌, ◌-◌, ◌≤◌, ◌++◌, length}
-use Rattle.cm_history.specs.Status.{runs}
+use Rattle.cm_history.specs.Status.{map_runs}
 use Rattle.unmap_thin.proofs.status.runs.Given as goal
 
 abbrev pub invariant-loop-block : goal.invariant-loop-block
 invariant-loop-block g l =
     let held = g.B.Blocks.holds l.unit in
-    (l.list ++ runs held (64 - length l.list) l.block (l.blocks - l.block) ≡ runs held 64 l.lba (l.blocks - l.lba))
+    (l.list ++ map_runs held (64 - length l.list) l.block (l.blocks - l.block) ≡ map_runs held 64 l.lba (l.blocks - l.lba))
     × (l.block ≤ l.blocks) × (length l.list ≤ 64)
 
 abbrev pub decreases-loop-block : goal.decreases-loop-block
