@@ -29,9 +29,11 @@ class Tree:
     def read_specs(self, crate):
         folder = self.top / "crates" / crate / "specs"
         order = MODULE.findall(read(folder / "Lib.antt"))
-        paths = [path for path in sorted(folder.glob("*.antt")) if path.stem != "Lib"]
+        paths = [path for path in sorted(folder.glob("*.antt")) if path.stem not in ("Lib", "inner")]
         paths.sort(key=lambda path: order.index(path.stem) if path.stem in order else len(order))
-        return [read_specs(crate, self.short(path), (path.stem,), read(path)) for path in paths]
+        paths += sorted((folder / "inner").glob("*.antt"))
+        modules = [path.relative_to(folder).with_suffix("").parts for path in paths]
+        return [read_specs(crate, self.short(path), module, read(path)) for path, module in zip(paths, modules)]
 
     def read_code(self, crate):
         folder = self.top / "crates" / crate / "src"

@@ -1,10 +1,5 @@
 -- Which program a command of any kind stands for
-use Rattle.std.specs.Prelude.{ℕ, List}
 use Rattle.cm_base.specs.Configuration.{Configuration}
-use Rattle.cm_frame.specs.declared.frame.Request.{Request}
-use Rattle.cmd_program.specs.declared.step.Outcome.{Outcome}
-use Rattle.cmd_machine.specs.declared.command.CommandOf.{CommandOf}
-use Rattle.cmd_machine.specs.Standing.{StandsFor}
 use Rattle.cmd_program.specs.Program.{Program}
 use Rattle.plain_cmds.specs.Meaning as plain
 use Rattle.token_cmds.specs.Meaning as token
@@ -20,10 +15,3 @@ abbrev pub IsSoundAny : Configuration → AnyPhase → Type 0
 IsSoundAny config (AnyPhase.Plain p) = plain.IsSoundPhase config p
 IsSoundAny config (AnyPhase.Token p) = token.IsSoundPhase config p.value
 IsSoundAny config (AnyPhase.Copy p) = copy.IsSoundPhase config p.value
-
--- the command is that of some request after some outcomes
-pub record IsCommand (config : Configuration) (command : CommandOf AnyPhase) : Type 0 where
-  pub nexus : ℕ
-  pub request : Request
-  pub outcomes : List Outcome
-  pub stands : StandsFor by_any config command nexus request outcomes

@@ -13,7 +13,8 @@ use Rattle.scsi_sense.proofs.FaultLaws.{unless-no_faults}
 use Rattle.lba_ranges.specs.declared.ranges.Range.{Range}
 use Rattle.block_params.specs.declared.lists.PopulateList.{PopulateList}
 use Rattle.block_params.specs.declared.lists.WriteList.{WriteList}
-use Rattle.block_params.specs.Lists.{IsRange, AreRanges, IsPopulate, IsWrite}
+use Rattle.block_params.specs.inner.Lists.{IsRange, AreRanges}
+use Rattle.block_params.specs.Lists.{IsPopulate, IsWrite}
 use Rattle.block_params.specs.RangesRead.{ranges_in, ranges_length, ranges_from, length_fault, range_fault}
 use Rattle.block_params.specs.ListsRead.{unmap_count, unmap_read, populate_fault, timeout_of, populate_read, write_token_read}
 use Rattle.block_params.specs.ListsWritten.{descriptor, descriptors, measured, unmap_written, populate_written, write_token_written}

@@ -1,16 +1,8 @@
 -- What each list may ask for
-use Rattle.std.specs.Prelude.{◌≡◌, ◌<◌, ◌≤◌, ◌^◌, List, All, None}
-use Rattle.lba_ranges.specs.declared.ranges.Range.{Range}
+use Rattle.std.specs.Prelude.{◌≡◌, ◌≤◌, None}
 use Rattle.block_params.specs.declared.lists.PopulateList.{PopulateList}
 use Rattle.block_params.specs.declared.lists.WriteList.{WriteList}
 use Rattle.block_params.specs.RangesRead.{range_fault}
-
--- a range whose numbers fit their fields
-abbrev pub IsRange : Range → Type 0
-IsRange r = (r.lba < 2 ^ 64) × (r.count < 2 ^ 32)
-
-abbrev pub AreRanges : List Range → Type 0
-AreRanges ranges = All IsRange ranges
 
 -- a list that POPULATE TOKEN may bring
 pub record IsPopulate (list : PopulateList) : Type 0 where

@@ -1,11 +1,10 @@
 -- Range descriptors, and what may be wrong with them
-use Rattle.std.specs.Prelude.{ℕ, zero, suc, ◌+◌, ◌-◌, ◌%◌, ◌/◌, ◌==◌, List, [], ◌∷◌, length, drop, Option, Some, None, Result, Ok, not, nat_lt, ◌||◌, if◌then◌else◌}
+use Rattle.std.specs.Prelude.{ℕ, zero, suc, ◌+◌, ◌-◌, ◌%◌, ◌/◌, ◌==◌, List, [], ◌∷◌, length, drop, Option, Some, None, not, nat_lt, ◌||◌, if◌then◌else◌}
 use Rattle.cm_base.specs.Fields.{field}
 use Rattle.lba_ranges.specs.declared.ranges.Range.{Range}
 use Rattle.lba_ranges.specs.Denoted.{total, is_overlapping}
 use Rattle.scsi_sense.specs.SenseCode.{SenseCode}
 use Rattle.scsi_sense.specs.Codes.{parameter_list_length_error, invalid_field_in_parameter_list}
-use Rattle.scsi_sense.specs.Faults.{unless}
 
 -- `n` range descriptors of 16 bytes: eight bytes of LBA, four of count, four that are not used
 abbrev pub ranges_in : ℕ → List ℕ → List Range
@@ -33,7 +32,3 @@ length_fault start bytes =
 -- two ranges share a block, or there are more than 1,048,576 blocks
 abbrev pub range_fault : List Range → Option SenseCode
 range_fault ranges = if is_overlapping ranges || nat_lt 1_048_576 (total ranges) then Some invalid_field_in_parameter_list else None
-
--- the ranges of a token's list, or why they are refused
-abbrev pub checked : List Range → Result (List Range) SenseCode
-checked ranges = unless (range_fault ranges) (Ok ranges)

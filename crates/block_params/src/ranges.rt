@@ -1,6 +1,7 @@
 ghost use Rattle.std.specs.Prelude.{◌≡◌, ◌+◌, ◌*◌, ◌/◌, ◌≤◌, length, drop, IfOk, IfErr, Ok, Some, None};
 ghost use Rattle.scsi_sense.specs.Faults.{Refuses};
-ghost use Rattle.block_params.specs.RangesRead.{ranges_in, ranges_length, length_fault, checked};
+ghost use Rattle.block_params.specs.RangesRead.{ranges_in, ranges_length, length_fault};
+ghost use Rattle.block_params.specs.inner.RangesRead.{checked};
 
 use cm_base::{OutOfMemory, get_u16, get_u32, get_u64};
 use lba_ranges::{Range, RangeList};

@@ -1,7 +1,8 @@
 ghost use Rattle.std.specs.Prelude.{◌≡◌, ◌+◌, ◌*◌, ◌<◌, ◌≤◌, ◌^◌, ◌++◌, length, IfOk, OnOk, OnErr, Ok};
 ghost use Rattle.block_params.specs.ListsRead.{unmap_read, populate_read, write_token_read};
 ghost use Rattle.block_params.specs.ListsWritten.{descriptor, descriptors, unmap_written, populate_written, write_token_written};
-ghost use Rattle.block_params.specs.Lists.{IsRange, AreRanges, IsPopulate, IsWrite};
+ghost use Rattle.block_params.specs.inner.Lists.{IsRange, AreRanges};
+ghost use Rattle.block_params.specs.Lists.{IsPopulate, IsWrite};
 
 use crate::lists::{PopulateList, WriteList};
 use crate::ranges::DESCRIPTOR;

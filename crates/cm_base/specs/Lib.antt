@@ -5,6 +5,6 @@ pub mod Outside
 pub mod Sides
 pub mod Listening
 pub mod Memory
-pub mod Windows
 pub mod Roomy
 pub mod Lending
+pub mod inner

@@ -4,7 +4,7 @@ ghost use Rattle.cm_base.specs.Outside.{Faulted, StaysTold};
 
 use crate::out_of_memory::OutOfMemory;
 use crate::source::{ReadFailed, Source};
-use crate::window::{PIECE, Window};
+use crate::window::{CHUNK, Window};
 use std::alloc::Global;
 use std::error::Error;
 use std::fmt;
@@ -58,7 +58,7 @@ pub struct InputBuffer {
 
 impl Model for InputBuffer {
     ghost use Rattle.std.specs.Prelude.{List, ℕ};
-    ghost use Rattle.cm_base.specs.Windows.{held};
+    ghost use Rattle.cm_base.specs.inner.Windows.{held};
 
     ghost Value = { List ℕ };
 
@@ -114,7 +114,7 @@ impl InputBuffer {
         ensures told { StaysTold (S.left source.old) (S.left source.new) }
         ensures apart { S.unpulled source.new ≡ S.unpulled source.old }
     {
-        self.window.settle(PIECE)?;
+        self.window.settle(CHUNK)?;
         Ok(self.window.pull(source)?)
     }
 }

@@ -7,7 +7,7 @@ use crate::source::{ReadFailed, Source};
 use std::alloc::Global;
 
 /// Bytes of room that a pull has at least.
-pub(crate) const PIECE: usize = 65_536;
+pub(crate) const CHUNK: usize = 65_536;
 
 /// The bytes from `start` to `end` wait to be used, and there is room behind them.
 #[derive(Drop)]
@@ -20,7 +20,7 @@ pub(crate) struct Window {
 }
 
 impl Window {
-    ghost use Rattle.cm_base.specs.Windows.{held, room};
+    ghost use Rattle.cm_base.specs.inner.Windows.{held, room};
 
     pub(crate) fn new(alloc: Global) -> Window
         ensures { held result ≡ [] }
@@ -122,7 +122,7 @@ impl Window {
         ensures apart { S.unpulled source.new ≡ S.unpulled source.old }
     {
         let end = self.end;
-        let room = (self.bytes.len() - end).min(2 * PIECE);
+        let room = (self.bytes.len() - end).min(2 * CHUNK);
         let count = source.pull(&mut self.bytes[end..end + room])?;
         self.end = end + count;
         Ok(count)

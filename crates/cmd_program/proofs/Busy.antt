@@ -12,7 +12,8 @@ use Rattle.scsi_cdb.specs.Decoded.{decoded}
 use Rattle.cm_frame.specs.declared.frame.Request.{Request}
 use Rattle.cm_frame.specs.declared.frame.Reply.{Reply}
 use Rattle.cmd_program.specs.declared.step.Outcome.{Outcome}
-use Rattle.cmd_program.specs.Stepping.{gave_up, IsBusyAtEnd, EndsBusy}
+use Rattle.cmd_program.specs.Stepping.{gave_up}
+use Rattle.cmd_program.proofs.Stepping.{IsBusyAtEnd, EndsBusy}
 use Rattle.cmd_program.specs.Program.{Ask, Program, Ends, Asks, GivesUp, next, moved, give_up, go_on_by, refused, done}
 use Rattle.cmd_program.specs.Judging.{step, program, judged_cdb, judged_out}
 use Rattle.cmd_program.proofs.Open.{IsOpen, read-open, unless_refused-open, map-open, inquiry-open, unmap-open}

@@ -9,7 +9,7 @@ use Rattle.lba_ranges.proofs.Cells.{length-filled, held_at-cut, held_at-hole}
 use Rattle.lba_ranges.specs.Denoted.{row}
 use Rattle.lba_ranges.specs.Writings.{Held, paired, unmapped, after, mapped_below, mapped_among}
 use Rattle.lba_ranges.proofs.WritingLemmas.{mapped-same, after-unmapped_row}
-use Rattle.lun_extents.specs.Runs.{is_mapped}
+use Rattle.lun_extents.specs.inner.Runs.{is_mapped}
 use Rattle.lun_extents.proofs.Written.{row-outside, row-inside}
 
 pub row-append : (lba n m : ℕ) → row lba (n + m) ≡ row lba n ++ row (lba + n) m

@@ -1,6 +1,6 @@
 pub mod Nearest
 pub mod Places
 pub mod Written
-pub mod Borders
+pub mod Splits
 pub mod Counting
 pub mod Planned

@@ -15,23 +15,23 @@ use Rattle.lba_ranges.proofs.Rows.{blocks_of-push, take-get, length-row}
 use Rattle.lba_ranges.proofs.Overlaps.{overlapping-cons}
 use Rattle.lba_ranges.proofs.Cells.{length-filled}
 use Rattle.lba_ranges.proofs.WritingLemmas.{after-append}
-use Rattle.lun_extents.specs.declared.runs.Run.{Run}
+use Rattle.lun_extents.specs.declared.runs.Filling.{Filling}
 use Rattle.lun_extents.specs.Extents.{stored}
-use Rattle.lun_extents.specs.Runs.{ranges_of, items_of_runs, AreRuns, HasBorders}
+use Rattle.lun_extents.specs.inner.Runs.{ranges_of, items_of_runs, AreRuns, IsSplitAt}
 
-ranges-push : (rs : List Run) (r : Run) → ranges_of (rs ++ r ∷ []) ≡ ranges_of rs ++ r.range ∷ []
+ranges-push : (rs : List Filling) (r : Filling) → ranges_of (rs ++ r ∷ []) ≡ ranges_of rs ++ r.range ∷ []
 ranges-push [] r = refl
 ranges-push (q ∷ rs) r = ap (λ l. q.range ∷ l) (ranges-push rs r)
 
 -- one more run
-pub blocks-push : (rs : List Run) (r : Run) → blocks_of (ranges_of (rs ++ r ∷ [])) ≡ blocks_of (ranges_of rs) ++ row r.range.lba r.range.count
+pub blocks-push : (rs : List Filling) (r : Filling) → blocks_of (ranges_of (rs ++ r ∷ [])) ≡ blocks_of (ranges_of rs) ++ row r.range.lba r.range.count
 blocks-push rs r = ap blocks_of (ranges-push rs r) ∙ blocks_of-push (ranges_of rs) r.range
 
-pub items-push : (size : ℕ) (rs : List Run) (r : Run) → items_of_runs size (rs ++ r ∷ []) ≡ items_of_runs size rs ++ filled size r.range.count r.fill
+pub items-push : (size : ℕ) (rs : List Filling) (r : Filling) → items_of_runs size (rs ++ r ∷ []) ≡ items_of_runs size rs ++ filled size r.range.count r.fill
 items-push size [] r = append-nil (filled size r.range.count r.fill)
 items-push size (q ∷ rs) r = rw (items-push size rs r) (sym (append_assoc (filled size q.range.count q.fill) (items_of_runs size rs) (filled size r.range.count r.fill)))
 
-pub runs-push : (blocks size : ℕ) (rs : List Run) (r : Run) → AreRuns blocks size rs → 1 ≤ r.range.count → r.range.lba + r.range.count ≤ blocks → IsFull size r.range.count r.fill → AreRuns blocks size (rs ++ r ∷ [])
+pub runs-push : (blocks size : ℕ) (rs : List Filling) (r : Filling) → AreRuns blocks size rs → 1 ≤ r.range.count → r.range.lba + r.range.count ≤ blocks → IsFull size r.range.count r.fill → AreRuns blocks size (rs ++ r ∷ [])
 runs-push blocks size [] r all some within full = (some, within, full, tt)
 runs-push blocks size (q ∷ rs) r all some within full = (all.0, all.1, all.2, runs-push blocks size rs r all.3 some within full)
 
@@ -47,18 +47,18 @@ pub front-more : (xs : List Held) (n m : ℕ) → take (n + m) xs ≡ take n xs 
 front-more xs n m = let a : n + m - n ≡ m = omega arith in rw a (take-add n m xs)
 
 -- a run that was planned, by its place
-pub runs-at : (blocks size : ℕ) (rs : List Run) (k : ℕ) (r : Run) → AreRuns blocks size rs → k < length rs → r ≡ get_or rs k r
+pub runs-at : (blocks size : ℕ) (rs : List Filling) (k : ℕ) (r : Filling) → AreRuns blocks size rs → k < length rs → r ≡ get_or rs k r
     → (1 ≤ r.range.count) × (r.range.lba + r.range.count ≤ blocks)
 runs-at blocks size [] k r all low is = absurd (omega arith)
-runs-at blocks size (q ∷ rs) zero r all low is = subst (λ (x : Run). (1 ≤ x.range.count) × (x.range.lba + x.range.count ≤ blocks)) (sym is) (all.0, all.1)
+runs-at blocks size (q ∷ rs) zero r all low is = subst (λ (x : Filling). (1 ≤ x.range.count) × (x.range.lba + x.range.count ≤ blocks)) (sym is) (all.0, all.1)
 runs-at blocks size (q ∷ rs) (suc k) r all low is = runs-at blocks size rs k r all.3 (omega arith) is
 
-pub ranges-at : (rs : List Run) (k : ℕ) (r : Run) → k < length rs → r ≡ get_or rs k r → slice_get (ranges_of rs) k ≡ Some r.range
+pub ranges-at : (rs : List Filling) (k : ℕ) (r : Filling) → k < length rs → r ≡ get_or rs k r → slice_get (ranges_of rs) k ≡ Some r.range
 ranges-at [] k r low is = absurd (omega arith)
-ranges-at (q ∷ rs) zero r low is = ap (λ (x : Run). Some x.range) (sym is)
+ranges-at (q ∷ rs) zero r low is = ap (λ (x : Filling). Some x.range) (sym is)
 ranges-at (q ∷ rs) (suc k) r low is = ranges-at rs k r (omega arith) is
 
-pub length-ranges : (rs : List Run) → length (ranges_of rs) ≡ length rs
+pub length-ranges : (rs : List Filling) → length (ranges_of rs) ≡ length rs
 length-ranges [] = refl
 length-ranges (r ∷ rs) = ap suc (length-ranges rs)
 
@@ -71,9 +71,9 @@ get-push (x ∷ rs) r q zero is = inl is
 get-push (x ∷ rs) r q (suc j) is = get-push rs r q j is
 
 -- an extent begins at both ends of one range more
-pub borders-more : (was now : List (ℕ × Piece)) (rs : List Range) (k : ℕ) (r : Range) → HasBorders was (take k rs) → slice_get rs k ≡ Some r
-    → ((b : ℕ) → IsSome (stored was b) → IsSome (stored now b)) → IsSome (stored now r.lba) → IsSome (stored now (r.lba + r.count)) → HasBorders now (take (k + 1) rs)
-borders-more was now rs k r has is kept start end = record {
+pub splits-more : (was now : List (ℕ × Piece)) (rs : List Range) (k : ℕ) (r : Range) → IsSplitAt was (take k rs) → slice_get rs k ≡ Some r
+    → ((b : ℕ) → IsSome (stored was b) → IsSome (stored now b)) → IsSome (stored now r.lba) → IsSome (stored now (r.lba + r.count)) → IsSplitAt now (take (k + 1) rs)
+splits-more was now rs k r has is kept start end = record {
   start = λ j q found. first q j (get-push (take k rs) r q j (subst (λ l. slice_get l j ≡ Some q) (take-get rs k r is) found));
   end = λ j q found. last q j (get-push (take k rs) r q j (subst (λ l. slice_get l j ≡ Some q) (take-get rs k r is) found));
 }
@@ -86,11 +86,11 @@ borders-more was now rs k r has is kept start end = record {
     last q j (inl before) = kept (q.lba + q.count) (has.end j q before)
     last q j (inr same) = subst (λ (x : Range). IsSome (stored now (x.lba + x.count))) same end
 
-pub borders-none : (now : List (ℕ × Piece)) → HasBorders now []
-borders-none now = record { start = λ j q found. cc; end = λ j q found. cc }
+pub splits-none : (now : List (ℕ × Piece)) → IsSplitAt now []
+splits-none now = record { start = λ j q found. cc; end = λ j q found. cc }
 
-pub borders-kept : (was now : List (ℕ × Piece)) (rs : List Range) → HasBorders was rs → ((b : ℕ) → IsSome (stored was b) → IsSome (stored now b)) → HasBorders now rs
-borders-kept was now rs has kept = record {
+pub splits-kept : (was now : List (ℕ × Piece)) (rs : List Range) → IsSplitAt was rs → ((b : ℕ) → IsSome (stored was b) → IsSome (stored now b)) → IsSplitAt now rs
+splits-kept was now rs has kept = record {
   start = λ k r found. kept r.lba (has.start k r found);
   end = λ k r found. kept (r.lba + r.count) (has.end k r found);
 }
@@ -114,19 +114,19 @@ outside a n b m some more none = go (cases_lt b (a + n)) (cases_lt a (b + m))
     go _ (inr low) = inl low
     go (inl x) (inl y) = absurd (grind (arith, nat_tests))
 
-some-at : (blocks size : ℕ) (rs : List Run) (k : ℕ) (q : Range) → AreRuns blocks size rs → slice_get (ranges_of rs) k ≡ Some q → 1 ≤ q.count
+some-at : (blocks size : ℕ) (rs : List Filling) (k : ℕ) (q : Range) → AreRuns blocks size rs → slice_get (ranges_of rs) k ≡ Some q → 1 ≤ q.count
 some-at blocks size [] k q all found = cc
 some-at blocks size (r ∷ rs) zero q all found =
     let same : r.range ≡ q = cc in
     subst (λ (y : Range). 1 ≤ y.count) same all.0
 some-at blocks size (r ∷ rs) (suc k) q all found = some-at blocks size rs k q all.3 found
 
--- a run that is set leaves the borders of the later ones
-pub borders-later : (blocks size : ℕ) (was now : List (ℕ × Piece)) (r : Run) (rs : List Run) → HasBorders was (ranges_of (r ∷ rs)) → AreRuns blocks size (r ∷ rs)
+-- a run that is set leaves the extents split at the later ones
+pub splits-later : (blocks size : ℕ) (was now : List (ℕ × Piece)) (r : Filling) (rs : List Filling) → IsSplitAt was (ranges_of (r ∷ rs)) → AreRuns blocks size (r ∷ rs)
     → is_overlapping (ranges_of (r ∷ rs)) ≡ false
     → ((b : ℕ) → b ≤ r.range.lba → IsSome (stored was b) → IsSome (stored now b)) → ((b : ℕ) → r.range.lba + r.range.count ≤ b → IsSome (stored was b) → IsSome (stored now b))
-    → HasBorders now (ranges_of rs)
-borders-later blocks size was now r rs has all none below above = record {
+    → IsSplitAt now (ranges_of rs)
+splits-later blocks size was now r rs has all none below above = record {
   start = λ k q found. go q q.lba (side k q found) (λ low. omega arith) (λ high. high) (has.start (suc k) q found);
   end = λ k q found. go q (q.lba + q.count) (side k q found) (λ low. low) (λ high. omega arith) (has.end (suc k) q found);
 }
@@ -142,10 +142,10 @@ borders-later blocks size was now r rs has all none below above = record {
     go q b (inl low) first last some = below b (first low) some
     go q b (inr high) first last some = above b (last high) some
 
-pub apart-later : (r : Run) (rs : List Run) → is_overlapping (ranges_of (r ∷ rs)) ≡ false → is_overlapping (ranges_of rs) ≡ false
+pub apart-later : (r : Filling) (rs : List Filling) → is_overlapping (ranges_of (r ∷ rs)) ≡ false → is_overlapping (ranges_of rs) ≡ false
 apart-later r rs none = (or_parts (list_any (meets r.range) (ranges_of rs)) (is_overlapping (ranges_of rs)) (sym (overlapping-cons r.range (ranges_of rs)) ∙ none)).1
 
-length-planned : (size : ℕ) (rs : List Run) → length (blocks_of (ranges_of rs)) ≡ length (items_of_runs size rs)
+length-planned : (size : ℕ) (rs : List Filling) → length (blocks_of (ranges_of rs)) ≡ length (items_of_runs size rs)
 length-planned size [] = refl
 length-planned size (r ∷ rs) =
     let a = length-append (row r.range.lba r.range.count) (blocks_of (ranges_of rs)) in
@@ -162,7 +162,7 @@ paired-append (b ∷ bs) cs [] ys len = absurd (omega arith)
 paired-append (b ∷ bs) cs (x ∷ xs) ys len = ap (λ l. record { block = b; held = x } ∷ l) (paired-append bs cs xs ys (omega arith))
 
 -- one more run is written
-pub after-run : (size : ℕ) (rs : List Run) (r : Run) (b : ℕ) (was : Held)
+pub after-run : (size : ℕ) (rs : List Filling) (r : Filling) (b : ℕ) (was : Held)
     → after (paired (row r.range.lba r.range.count) (filled size r.range.count r.fill)) b (after (paired (blocks_of (ranges_of rs)) (items_of_runs size rs)) b was)
     ≡ after (paired (blocks_of (ranges_of (rs ++ r ∷ []))) (items_of_runs size (rs ++ r ∷ []))) b was
 after-run size rs r b was =

@@ -9,7 +9,8 @@ use Rattle.lba_ranges.specs.Writings.{Held, paired, unmapped, after}
 use Rattle.lba_ranges.specs.declared.fill.Piece.{Piece}
 use Rattle.lba_ranges.proofs.Cells.{length-filled, held_at-hole}
 use Rattle.lba_ranges.proofs.WritingLemmas.{after-unmapped_row}
-use Rattle.lun_extents.specs.Extents.{held_or, held_from, hollowed}
+use Rattle.lun_extents.specs.Extents.{held_or, held_from}
+use Rattle.lun_extents.specs.inner.Extents.{emptied}
 use Rattle.lun_extents.proofs.Nearest.{IsRun, run-inside, run-below, run-above, same-below, same-above}
 
 pub row-outside : (lba n : ℕ) (xs : List Held) (b : ℕ) (was : Held) → (b < lba) ⊎ (lba + n ≤ b) → after (paired (row lba n) xs) b was ≡ was
@@ -55,51 +56,51 @@ set-held size f g lba p is b = go (cases_lt b lba) (cases_lt b (lba + p.count))
 
 -- ---- extents that are made to hold nothing
 
-hollow-none : (size e : ℕ) (x : Option Piece) (below : Held) → below ≡ None → held_or size e (hollowed x) below ≡ None
-hollow-none size e None below is = is
-hollow-none size e (Some p) below is = held_at-hole 0 e
+empty_extents-none : (size e : ℕ) (x : Option Piece) (below : Held) → below ≡ None → held_or size e (emptied x) below ≡ None
+empty_extents-none size e None below is = is
+empty_extents-none size e (Some p) below is = held_at-hole 0 e
 
-hollow-some : (size e : ℕ) (x : Option Piece) (below : Held) → IsSome (hollowed x) → held_or size e (hollowed x) below ≡ None
-hollow-some size e None below some = cc
-hollow-some size e (Some p) below some = held_at-hole 0 e
+empty_extents-some : (size e : ℕ) (x : Option Piece) (below : Held) → IsSome (emptied x) → held_or size e (emptied x) below ≡ None
+empty_extents-some size e None below some = cc
+empty_extents-some size e (Some p) below some = held_at-hole 0 e
 
-pub from-hollow : (size : ℕ) (f g : ℕ → Option Piece) (a k e : ℕ) → a ≤ k → IsSome (g a) → ((j : ℕ) → a ≤ j → j ≤ k → g j ≡ hollowed (f j)) → held_from size g k e ≡ None
-from-hollow size f g a zero e low some is = ap (λ x. held_or size e x None) (is 0 low (omega arith)) ∙ hollow-none size e (f 0) None refl
-from-hollow size f g a (suc k) e low some is = ap (λ x. held_or size e x (held_from size g k (suc e))) here ∙ go (λ less. from-hollow size f g a k (suc e) less some (λ j x y. is j x (omega arith))) (cases_eq a (suc k))
+pub from-empty_extents : (size : ℕ) (f g : ℕ → Option Piece) (a k e : ℕ) → a ≤ k → IsSome (g a) → ((j : ℕ) → a ≤ j → j ≤ k → g j ≡ emptied (f j)) → held_from size g k e ≡ None
+from-empty_extents size f g a zero e low some is = ap (λ x. held_or size e x None) (is 0 low (omega arith)) ∙ empty_extents-none size e (f 0) None refl
+from-empty_extents size f g a (suc k) e low some is = ap (λ x. held_or size e x (held_from size g k (suc e))) here ∙ go (λ less. from-empty_extents size f g a k (suc e) less some (λ j x y. is j x (omega arith))) (cases_eq a (suc k))
   where
-    here : g (suc k) ≡ hollowed (f (suc k))
+    here : g (suc k) ≡ emptied (f (suc k))
     here = is (suc k) low (omega arith)
 
-    go : (a ≤ k → held_from size g k (suc e) ≡ None) → (a ≡ suc k) ⊎ (a ≡ suc k → ⊥) → held_or size e (hollowed (f (suc k))) (held_from size g k (suc e)) ≡ None
-    go rest (inl same) = hollow-some size e (f (suc k)) _ (subst (λ x. IsSome x) here (subst (λ n. IsSome (g n)) same some))
-    go rest (inr other) = hollow-none size e (f (suc k)) _ (rest (omega arith))
+    go : (a ≤ k → held_from size g k (suc e) ≡ None) → (a ≡ suc k) ⊎ (a ≡ suc k → ⊥) → held_or size e (emptied (f (suc k))) (held_from size g k (suc e)) ≡ None
+    go rest (inl same) = empty_extents-some size e (f (suc k)) _ (subst (λ x. IsSome x) here (subst (λ n. IsSome (g n)) same some))
+    go rest (inr other) = empty_extents-none size e (f (suc k)) _ (rest (omega arith))
 
--- a row between two borders whose extents are made to hold nothing
+-- a row between two places where extents begin, whose extents are made to hold nothing
 pub record IsHollow (f g : ℕ → Option Piece) (a n : ℕ) : Type 0 where
-  pub inside : (j : ℕ) → a ≤ j → j < a + n → g j ≡ hollowed (f j)
+  pub inside : (j : ℕ) → a ≤ j → j < a + n → g j ≡ emptied (f j)
   pub below : (j : ℕ) → j < a → g j ≡ f j
   pub above : (j : ℕ) → a + n ≤ j → g j ≡ f j
   pub start : IsSome (f a)
   pub end : IsSome (f (a + n))
 
-still-some : (x : Option Piece) → IsSome x → IsSome (hollowed x)
+still-some : (x : Option Piece) → IsSome x → IsSome (emptied x)
 still-some None some = some
 still-some (Some p) some = refl
 
-pub hollow-kept : (f g : ℕ → Option Piece) (a n : ℕ) → IsHollow f g a n → (b : ℕ) → IsSome (f b) → IsSome (g b)
-hollow-kept f g a n is b some = go (cases_lt b a) (cases_lt b (a + n))
+pub empty_extents-kept : (f g : ℕ → Option Piece) (a n : ℕ) → IsHollow f g a n → (b : ℕ) → IsSome (f b) → IsSome (g b)
+empty_extents-kept f g a n is b some = go (cases_lt b a) (cases_lt b (a + n))
   where
     go : (b < a) ⊎ (a ≤ b) → (b < a + n) ⊎ (a + n ≤ b) → IsSome (g b)
     go (inl low) _ = subst (λ x. IsSome x) (sym (is.below b low)) some
     go (inr _) (inr high) = subst (λ x. IsSome x) (sym (is.above b high)) some
     go (inr from) (inl to) = subst (λ x. IsSome x) (sym (is.inside b from to)) (still-some (f b) some)
 
-pub hollow-held : (size : ℕ) (f g : ℕ → Option Piece) (a n : ℕ) → IsHollow f g a n → (b : ℕ) → held_from size g b 0 ≡ after (unmapped (row a n)) b (held_from size f b 0)
-hollow-held size f g a n is b = go (cases_lt b a) (cases_lt b (a + n)) ∙ sym (after-unmapped_row a n b (held_from size f b 0))
+pub empty_extents-held : (size : ℕ) (f g : ℕ → Option Piece) (a n : ℕ) → IsHollow f g a n → (b : ℕ) → held_from size g b 0 ≡ after (unmapped (row a n)) b (held_from size f b 0)
+empty_extents-held size f g a n is b = go (cases_lt b a) (cases_lt b (a + n)) ∙ sym (after-unmapped_row a n b (held_from size f b 0))
   where
     go : (b < a) ⊎ (a ≤ b) → (b < a + n) ⊎ (a + n ≤ b) → held_from size g b 0 ≡ cond (leb a b && ltb b (a + n)) None (held_from size f b 0)
     go (inl low) _ = let out : (leb a b && ltb b (a + n)) ≡ false = grind (arith, nat_tests) in rw out (same-below size f g b 0 (λ j h. is.below j (omega arith)))
     go (inr _) (inr high) = let out : (leb a b && ltb b (a + n)) ≡ false = grind (arith, nat_tests) in rw out (same-above size f g (a + n) b 0 high is.end (λ j x y. is.above j x))
     go (inr from) (inl to) =
         let inside : (leb a b && ltb b (a + n)) ≡ true = grind (arith, nat_tests) in
-        rw inside (from-hollow size f g a b 0 from (hollow-kept f g a n is a is.start) (λ j x y. is.inside j x (omega arith)))
+        rw inside (from-empty_extents size f g a b 0 from (empty_extents-kept f g a n is a is.start) (λ j x y. is.inside j x (omega arith)))

@@ -1,12 +1,11 @@
 -- Blocks that are kept in extents
-use Rattle.std.specs.Prelude.{◌≡◌, ℕ, zero, suc, ◌+◌, ◌≤◌, List, Option, Some, None}
+use Rattle.std.specs.Prelude.{ℕ, zero, suc, List, Option, Some, None}
 use Rattle.std.specs.Map.{lookup}
 use Rattle.std.specs.Ordering.{nat_cmp}
 use Rattle.std.specs.BTreeMap.{is_at}
-use Rattle.lba_ranges.specs.HeldBlocks.{filled, held_at, IsFull}
+use Rattle.lba_ranges.specs.HeldBlocks.{filled, held_at}
 use Rattle.lba_ranges.specs.Writings.{Held}
 use Rattle.lba_ranges.specs.declared.fill.Piece.{Piece}
-use Rattle.lba_ranges.specs.declared.fill.Fill.TheVariants.{Hole}
 
 -- how many blocks there are, of how many bytes, and the extents by their first blocks, in order
 pub record Extents : Type 0 where
@@ -31,13 +30,3 @@ held_from size starts (suc block) place = held_or size place (starts (suc block)
 -- what a block holds: the nearest extent at it or below it decides
 abbrev pub held_in : ℕ → List (ℕ × Piece) → ℕ → Held
 held_in size entries block = held_from size (stored entries) block 0
-
--- each extent has the bytes of its blocks, and ends within the unit
-pub record AreExtents (blocks size : ℕ) (entries : List (ℕ × Piece)) : Type 0 where
-  pub full : (block : ℕ) (extent : Piece) → stored entries block ≡ Some extent → IsFull size extent.count extent.fill
-  pub within : (block : ℕ) (extent : Piece) → stored entries block ≡ Some extent → block + extent.count ≤ blocks
-
--- an extent without blocks in place of an extent
-abbrev pub hollowed : Option Piece → Option Piece
-hollowed None = None
-hollowed (Some extent) = Some record { count = 0; fill = Hole }

@@ -1,2 +1,2 @@
 pub mod Extents
-pub mod Runs
+pub mod inner

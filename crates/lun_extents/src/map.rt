@@ -4,7 +4,8 @@ ghost use Rattle.lba_ranges.specs.HeldBlocks.{filled, held_at, IsFull};
 ghost use Rattle.lba_ranges.specs.Denoted.{row};
 ghost use Rattle.lba_ranges.specs.declared.fill.Piece.{Piece};
 ghost use Rattle.lba_ranges.specs.Writings.{paired, unmapped, after};
-ghost use Rattle.lun_extents.specs.Extents.{stored, held_from, held_in, hollowed, AreExtents};
+ghost use Rattle.lun_extents.specs.Extents.{stored, held_from, held_in};
+ghost use Rattle.lun_extents.specs.inner.Extents.{emptied, AreExtents};
 
 use cm_base::OutOfMemory;
 use lba_ranges::{Fill, Piece};
@@ -97,7 +98,7 @@ fn rest_at(map: &Stored, blocks: u64, size: u32, block: u64) -> Result<Piece, Ou
 }
 
 /// Lets an extent begin at a block. Each block holds what it held, at `OutOfMemory` too.
-pub(crate) fn border(
+pub(crate) fn split(
     map: &mut Stored,
     blocks: u64,
     size: u32,
@@ -105,7 +106,7 @@ pub(crate) fn border(
 ) -> Result<(), OutOfMemory>
     requires extents { AreExtents blocks size map.old.entries }
     requires within { block ≤ blocks }
-    ensures border { OnOk result (IsSome (stored map.new.entries block)) }
+    ensures begins { OnOk result (IsSome (stored map.new.entries block)) }
     ensures kept { (b : ℕ) → IsSome (stored map.old.entries b) → IsSome (stored map.new.entries b) }
     ensures extents { AreExtents blocks size map.new.entries }
     ensures held { (b : ℕ) → held_in size map.new.entries b ≡ held_in size map.old.entries b }
@@ -158,9 +159,9 @@ pub(crate) fn set(map: &mut Stored, lba: u64, piece: Piece)
 }
 
 /// Lets each extent that begins in a row of blocks hold nothing. It takes no memory.
-pub(crate) fn hollow(map: &mut Stored, from: u64, to: u64)
+pub(crate) fn empty_extents(map: &mut Stored, from: u64, to: u64)
     requires { from ≤ to }
-    ensures inside { (b : ℕ) → from ≤ b → b < to → stored map.new.entries b ≡ hollowed (stored map.old.entries b) }
+    ensures inside { (b : ℕ) → from ≤ b → b < to → stored map.new.entries b ≡ emptied (stored map.old.entries b) }
     ensures below { (b : ℕ) → b < from → stored map.new.entries b ≡ stored map.old.entries b }
     ensures above { (b : ℕ) → to ≤ b → stored map.new.entries b ≡ stored map.old.entries b }
 {
@@ -187,7 +188,7 @@ pub(crate) fn unmap(map: &mut Stored, lba: u64, count: u32)
     ensures kept { (b : ℕ) → IsSome (stored map.old.entries b) → IsSome (stored map.new.entries b) }
     ensures extents { (blocks size : ℕ) → AreExtents blocks size map.old.entries → AreExtents blocks size map.new.entries }
 {
-    hollow(map, lba, lba + u64::from(count));
+    empty_extents(map, lba, lba + u64::from(count));
 }
 
 /// Lets the extent before a block, at which another one begins, end there at the latest. At `false`
@@ -229,7 +230,7 @@ fn is_hole(map: &Stored, block: u64) -> bool
 
 /// Takes out an extent that holds nothing, where none before it goes on there.
 /// Each block holds what it held.
-pub(crate) fn drop_border(map: &mut Stored, size: u32, block: u64)
+pub(crate) fn remove_empty_extent(map: &mut Stored, size: u32, block: u64)
     requires full { (b : ℕ) (extent : Piece) → stored map.old.entries b ≡ Some extent → IsFull size extent.count extent.fill }
     ensures held { (b : ℕ) → held_in size map.new.entries b ≡ held_in size map.old.entries b }
     ensures extents { (blocks : ℕ) → AreExtents blocks size map.old.entries → AreExtents blocks size map.new.entries }
@@ -244,7 +245,7 @@ pub(crate) fn drop_border(map: &mut Stored, size: u32, block: u64)
 
 /// Takes out what is not needed of the extents that begin in a row of blocks or at its end.
 /// Each block holds what it held.
-pub(crate) fn drop_borders(map: &mut Stored, blocks: u64, size: u32, from: u64, to: u64)
+pub(crate) fn remove_empty_extents(map: &mut Stored, blocks: u64, size: u32, from: u64, to: u64)
     requires row { from ≤ to }
     requires extents { AreExtents blocks size map.old.entries }
     ensures held { (b : ℕ) → held_in size map.new.entries b ≡ held_in size map.old.entries b }
@@ -252,8 +253,8 @@ pub(crate) fn drop_borders(map: &mut Stored, blocks: u64, size: u32, from: u64, 
 {
     let mut at = from;
     while let Some(first) = next_first(map, at, to) {
-        drop_border(map, size, first);
+        remove_empty_extent(map, size, first);
         at = first + 1;
     }
-    drop_border(map, size, to);
+    remove_empty_extent(map, size, to);
 }

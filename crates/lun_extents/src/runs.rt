@@ -1,7 +1,7 @@
 // The runs that a list of blocks is put as.
 ghost use Rattle.std.specs.Prelude.{◌≡◌, ℕ, ◌+◌, ◌<◌, ◌≤◌, ◌^◌, ◌++◌, length, slice_range, IfOk, OnOk, IsTrue};
 ghost use Rattle.lba_ranges.specs.Denoted.{row, blocks_of, total, is_within};
-ghost use Rattle.lun_extents.specs.Runs.{ranges_of, items_of_runs, AreRuns};
+ghost use Rattle.lun_extents.specs.inner.Runs.{ranges_of, items_of_runs, AreRuns};
 
 use cm_base::OutOfMemory;
 use lba_ranges::{BlockList, Fill, Range, RangeList};
@@ -9,14 +9,14 @@ use std::alloc::Global;
 
 /// Some blocks in a row, and what they are to hold.
 #[derive(Drop)]
-pub(crate) struct Run {
+pub(crate) struct Filling {
     pub range: Range,
     pub fill: Fill,
 }
 
 /// Adds the runs by which a range gets the list's blocks from a place on.
 fn push_runs(
-    runs: &mut Vec<Run>,
+    runs: &mut Vec<Filling>,
     list: &BlockList,
     from: u64,
     range: Range,
@@ -36,7 +36,7 @@ fn push_runs(
         let piece = list.run(from + u64::from(done), range.count - done)?;
         done += piece.count;
         let count = piece.count;
-        runs.push(Run {
+        runs.push(Filling {
             range: Range { lba, count },
             fill: piece.fill,
         })?;
@@ -50,7 +50,7 @@ pub(crate) fn runs_of(
     blocks: u64,
     ranges: &RangeList,
     list: &BlockList,
-) -> Result<Vec<Run>, OutOfMemory>
+) -> Result<Vec<Filling>, OutOfMemory>
     requires within { IsTrue (is_within blocks ranges.now) }
     requires total { total ranges.now ≡ length list.now.items }
     ensures blocks { IfOk result (λ runs. blocks_of (ranges_of runs.items) ≡ blocks_of ranges.now) }

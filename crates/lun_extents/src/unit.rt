@@ -4,10 +4,10 @@ ghost use Rattle.lba_ranges.specs.HeldBlocks.{IsFull, filled};
 ghost use Rattle.lba_ranges.specs.Denoted.{row, blocks_of, total, is_within, is_overlapping};
 ghost use Rattle.lba_ranges.specs.Writings.{paired, unmapped, after, mapped_below, mapped_among};
 ghost use Rattle.lun_extents.specs.Extents.{stored, held_in};
-ghost use Rattle.lun_extents.specs.Runs.{ranges_of, items_of_runs, is_mapped, AreRuns, HasBorders, HoldsSame};
+ghost use Rattle.lun_extents.specs.inner.Runs.{ranges_of, items_of_runs, is_mapped, AreRuns, IsSplitAt, HoldsSame};
 
 use crate::map::{self, Stored};
-use crate::runs::{self, Run};
+use crate::runs::{self, Filling};
 use crate::walk;
 use cm_base::OutOfMemory;
 use lba_ranges::{BlockList, Blocks, Fill, Piece, Range, RangeList};
@@ -29,7 +29,8 @@ pub struct ExtentUnit {
 impl Model for ExtentUnit {
     ghost use Rattle.std.specs.Prelude.{◌≡◌};
     ghost use Rattle.lba_ranges.specs.Writings.{mapped_below};
-    ghost use Rattle.lun_extents.specs.Extents.{Extents, AreExtents, held_in};
+    ghost use Rattle.lun_extents.specs.Extents.{Extents, held_in};
+    ghost use Rattle.lun_extents.specs.inner.Extents.{AreExtents};
 
     ghost Value = { Extents };
 
@@ -40,7 +41,7 @@ impl Model for ExtentUnit {
 }
 
 /// How many blocks of a run are to be mapped.
-fn mapped_of(run: &Run) -> u64
+fn mapped_of(run: &Filling) -> u64
     ensures { result ≡ (if is_mapped run.now.fill then run.now.range.count else 0) }
 {
     match run.fill {
@@ -77,49 +78,49 @@ impl ExtentUnit {
 
     /// Lets an extent begin at the start and at the end of each range. Each block holds what it
     /// held, at `OutOfMemory` too.
-    fn border_ranges(&mut self, ranges: &RangeList) -> Result<(), OutOfMemory>
+    fn split_at_ranges(&mut self, ranges: &RangeList) -> Result<(), OutOfMemory>
         requires { IsTrue (is_within self.old.blocks ranges.now) }
-        ensures borders { OnOk result (HasBorders self.new.entries ranges.now) }
+        ensures splits { OnOk result (IsSplitAt self.new.entries ranges.now) }
         ensures same { HoldsSame self.old self.new }
     {
         for index in 0..ranges.len() {
             let range = ranges.at(index);
             let end = range.lba + u64::from(range.count);
-            map::border(&mut self.extents, self.blocks, self.block_length, range.lba)?;
-            map::border(&mut self.extents, self.blocks, self.block_length, end)?;
+            map::split(&mut self.extents, self.blocks, self.block_length, range.lba)?;
+            map::split(&mut self.extents, self.blocks, self.block_length, end)?;
         }
         Ok(())
     }
 
     /// Lets an extent begin at the start and at the end of each run. Each block holds what it
     /// held, at `OutOfMemory` too.
-    fn border_runs(&mut self, runs: &[Run]) -> Result<(), OutOfMemory>
+    fn split_at_fillings(&mut self, runs: &[Filling]) -> Result<(), OutOfMemory>
         requires { AreRuns self.old.blocks self.old.block_length runs.now }
-        ensures borders { OnOk result (HasBorders self.new.entries (ranges_of runs.now)) }
+        ensures splits { OnOk result (IsSplitAt self.new.entries (ranges_of runs.now)) }
         ensures same { HoldsSame self.old self.new }
     {
         for run in runs {
             let end = run.range.lba + u64::from(run.range.count);
-            map::border(
+            map::split(
                 &mut self.extents,
                 self.blocks,
                 self.block_length,
                 run.range.lba,
             )?;
-            map::border(&mut self.extents, self.blocks, self.block_length, end)?;
+            map::split(&mut self.extents, self.blocks, self.block_length, end)?;
         }
         Ok(())
     }
 
     /// Takes out what is not needed of the extents that begin in the ranges. Each block holds what it held.
-    fn drop_borders(&mut self, ranges: &RangeList)
+    fn remove_empty_extents(&mut self, ranges: &RangeList)
         requires { IsTrue (is_within self.old.blocks ranges.now) }
         ensures { HoldsSame self.old self.new }
     {
         for index in 0..ranges.len() {
             let range = ranges.at(index);
             let end = range.lba + u64::from(range.count);
-            map::drop_borders(
+            map::remove_empty_extents(
                 &mut self.extents,
                 self.blocks,
                 self.block_length,
@@ -131,7 +132,7 @@ impl ExtentUnit {
 
     /// Gives the blocks of a run what they are to hold, where an extent begins at its start and at
     /// its end. It takes no memory.
-    fn set_run(&mut self, run: Run)
+    fn set_run(&mut self, run: Filling)
         requires some { 1 ≤ run.range.count }
         requires within { run.range.lba + run.range.count ≤ self.old.blocks }
         requires full { IsFull self.old.block_length run.range.count run.fill }
@@ -147,7 +148,7 @@ impl ExtentUnit {
     {
         let before = self.mapped_in(run.range);
         let now = mapped_of(&run);
-        let Run { range, fill } = run;
+        let Filling { range, fill } = run;
         map::set(
             &mut self.extents,
             range.lba,
@@ -161,10 +162,10 @@ impl ExtentUnit {
 
     /// Gives the blocks of runs that are apart what they are to hold, where an extent begins at the
     /// start and at the end of each. It takes no memory.
-    fn set_runs(&mut self, runs: Vec<Run>)
+    fn set_runs(&mut self, runs: Vec<Filling>)
         requires runs { AreRuns self.old.blocks self.old.block_length runs.items }
         requires apart { is_overlapping (ranges_of runs.items) ≡ false }
-        requires borders { HasBorders self.old.entries (ranges_of runs.items) }
+        requires splits { IsSplitAt self.old.entries (ranges_of runs.items) }
         ensures blocks { self.new.blocks ≡ self.old.blocks }
         ensures length { self.new.block_length ≡ self.old.block_length }
         ensures held { (block : ℕ) → held_in self.new.block_length self.new.entries block
@@ -252,24 +253,24 @@ impl Blocks for ExtentUnit {
 
     fn put(&mut self, ranges: &RangeList, list: &BlockList) -> Result<(), OutOfMemory> {
         let runs = runs::runs_of(self.alloc, self.blocks, ranges, list)?;
-        if let Err(refused) = self.border_runs(&runs) {
-            self.drop_borders(ranges);
+        if let Err(refused) = self.split_at_fillings(&runs) {
+            self.remove_empty_extents(ranges);
             return Err(refused);
         }
         self.set_runs(runs);
-        self.drop_borders(ranges);
+        self.remove_empty_extents(ranges);
         Ok(())
     }
 
     fn clear(&mut self, ranges: &RangeList) -> Result<(), OutOfMemory> {
-        if let Err(refused) = self.border_ranges(ranges) {
-            self.drop_borders(ranges);
+        if let Err(refused) = self.split_at_ranges(ranges) {
+            self.remove_empty_extents(ranges);
             return Err(refused);
         }
         for index in 0..ranges.len() {
             self.unmap_range(ranges.at(index));
         }
-        self.drop_borders(ranges);
+        self.remove_empty_extents(ranges);
         Ok(())
     }
 

@@ -2,7 +2,8 @@
 ghost use Rattle.std.specs.Prelude.{◌≡◌, ℕ, ◌+◌, ◌-◌, ◌<◌, ◌≤◌, ◌^◌, IfOk, map, is_some};
 ghost use Rattle.lba_ranges.specs.HeldBlocks.{filled, IsFull};
 ghost use Rattle.lba_ranges.specs.Denoted.{row};
-ghost use Rattle.lun_extents.specs.Extents.{stored, held_from, held_in, AreExtents};
+ghost use Rattle.lun_extents.specs.Extents.{stored, held_from, held_in};
+ghost use Rattle.lun_extents.specs.inner.Extents.{AreExtents};
 
 use crate::map::{Stored, extent_at, next_first};
 use cm_base::OutOfMemory;
@@ -10,7 +11,7 @@ use lba_ranges::{Fill, Piece};
 
 /// A run of blocks that are all mapped, or all unmapped.
 #[derive(Drop, Clone, Copy)]
-pub(crate) struct Run {
+pub(crate) struct Stretch {
     pub end: u64,
     pub mapped: bool,
 }
@@ -30,7 +31,7 @@ fn gap_end(extents: &Stored, block: u64, to: u64) -> u64
 }
 
 /// The blocks, from a block on and before `to`, that lie in one extent, or in none.
-pub(crate) fn run_at(extents: &Stored, block: u64, to: u64) -> Run
+pub(crate) fn run_at(extents: &Stored, block: u64, to: u64) -> Stretch
     requires { block < to }
     ensures some { block < result.end }
     ensures within { result.end ≤ to }
@@ -38,11 +39,11 @@ pub(crate) fn run_at(extents: &Stored, block: u64, to: u64) -> Run
 {
     let end = gap_end(extents, block, to);
     match extent_at(extents, block) {
-        Some((piece, place)) => Run {
+        Some((piece, place)) => Stretch {
             end: block + u64::from(piece.count - place).min(end - block),
             mapped: matches!(piece.fill, Fill::Bytes(_)),
         },
-        None => Run { end, mapped: false },
+        None => Stretch { end, mapped: false },
     }
 }
 

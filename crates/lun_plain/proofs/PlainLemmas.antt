@@ -16,7 +16,8 @@ use Rattle.lba_ranges.specs.HeldBlocks.{AllSized}
 use Rattle.lba_ranges.specs.Writings.{Held, Writing, paired, unmapped, after, mapped_below, mapped_among, is_written}
 use Rattle.lba_ranges.specs.Denoted.{row}
 use Rattle.lba_ranges.proofs.WritingLemmas.{one_if, mapped-none, mapped-set}
-use Rattle.lun_plain.specs.Plain.{stored, IsPlain, seen, is_among}
+use Rattle.lun_plain.specs.Plain.{stored}
+use Rattle.lun_plain.specs.inner.Plain.{IsPlain, seen, is_among}
 
 -- ---- how many
 

@@ -8,7 +8,8 @@ use borrow.Author.Count.{below_more}
 use Rattle.lba_ranges.proofs.WritingLemmas.{differs-at, after-unmapped_row}
 use Rattle.lba_ranges.specs.Denoted.{row}
 use Rattle.lba_ranges.specs.Writings.{unmapped, after}
-use Rattle.lun_plain.specs.Plain.{stored, seen, is_among}
+use Rattle.lun_plain.specs.Plain.{stored}
+use Rattle.lun_plain.specs.inner.Plain.{seen, is_among}
 
 -- the first `n` blocks have room, and nothing else has changed
 pub record HasRooms (was now : List (ℕ × List ℕ)) (blocks : List ℕ) (n : ℕ) : Type 0 where

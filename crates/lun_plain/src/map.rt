@@ -1,6 +1,7 @@
 // What is done to the map of blocks. Room for a block is an entry without bytes.
 ghost use Rattle.std.specs.Prelude.{◌≡◌, ℕ, ◌+◌, ◌<◌, ◌≤◌, ◌^◌, length, get_or, None, IsSome, IfOk, OnOk, OnErr, IfSome, IfNone, is_some, if◌then◌else◌, ◌==◌, ◌&&◌, nat_le, nat_lt, false, true, Some};
-ghost use Rattle.lun_plain.specs.Plain.{stored, seen, is_among};
+ghost use Rattle.lun_plain.specs.Plain.{stored};
+ghost use Rattle.lun_plain.specs.inner.Plain.{seen, is_among};
 ghost use Rattle.lba_ranges.specs.Denoted.{row, has_repeat};
 ghost use Rattle.lba_ranges.specs.Writings.{paired, unmapped, after, mapped_among};
 

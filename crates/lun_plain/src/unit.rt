@@ -22,7 +22,8 @@ pub struct PlainUnit {
 }
 
 impl Model for PlainUnit {
-    ghost use Rattle.lun_plain.specs.Plain.{Plain, IsPlain};
+    ghost use Rattle.lun_plain.specs.Plain.{Plain};
+    ghost use Rattle.lun_plain.specs.inner.Plain.{IsPlain};
 
     ghost Value = { Plain };
 

@@ -56,16 +56,6 @@ is_row_of b r = (byte b 0 == r.code) && has_action b r.action
 abbrev pub row_of : List ℕ → Option Row
 row_of b = find (is_row_of b) table
 
--- what the row reads, and CONTROL, which is the last byte of the CDB
-abbrev pub command_of : List ℕ → Row → Cdb
-command_of b r = r.command b
-
-abbrev pub control_of : List ℕ → Row → ℕ
-control_of b r = byte b (r.size - 1)
-
-abbrev pub named_by : List ℕ → Row → Cdb × ℕ
-named_by b r = (command_of b r, control_of b r)
-
 -- protection, more than 2048 blocks, ANCHOR or DESC
 abbrev pub has_bad_field : List ℕ → Cdb → Bool
 has_bad_field b (Cdb.Read lba count) = not (bits b 1 7 5 == 0) || nat_lt 2048 count

@@ -4,7 +4,8 @@ ghost use Rattle.scsi_sense.specs.Codes.{invalid_operation_code, invalid_field_i
 ghost use Rattle.cm_base.specs.Fields.{byte, field, bit};
 ghost use Rattle.scsi_cdb.specs.declared.cdb.Cdb.{Cdb};
 ghost use Rattle.scsi_cdb.specs.Encoded.{moved};
-ghost use Rattle.scsi_cdb.specs.Decoded.{decoded, row_of, command_of, named_by, has_bad_field, has_fault};
+ghost use Rattle.scsi_cdb.specs.Decoded.{decoded, row_of, has_bad_field, has_fault};
+ghost use Rattle.scsi_cdb.specs.inner.Decoded.{command_of, named_by};
 
 use crate::bits::{has_lowest, has_naca, has_protect, service_action};
 use crate::cdb::Cdb;

@@ -11,7 +11,7 @@ use Rattle.seg_parse.specs.declared.list.Cscd.{Cscd}
 use Rattle.seg_parse.specs.declared.list.Segment.{Segment}
 use Rattle.seg_parse.specs.declared.list.CopyList.{CopyList}
 use Rattle.seg_parse.specs.CopyLists.{IsCscd, IsSegment, IsCopyList, AreNamed}
-use Rattle.seg_parse.specs.Sizes.{IsSized, IsWide}
+use Rattle.seg_parse.specs.inner.Sizes.{IsSized, IsWide}
 use Rattle.seg_parse.specs.Descriptors.{followed, cscd, cscds_read, segment, segment_fault, segments_read}
 use Rattle.seg_parse.specs.ListRead.{usage, cscd_length, segment_length, head_fault, cscds_of, segments_of, lid1_read}
 use Rattle.seg_parse.specs.ListWritten.{name_bytes, cscd_bytes, segment_bytes, all_cscds, all_segments, lid1_written}

@@ -2,7 +2,7 @@ ghost use Rattle.std.specs.Prelude.{◌≡◌, ◌+◌, ◌*◌, ◌<◌, ◌≤
 ghost use Rattle.seg_parse.specs.CopyLists.{IsCscd, IsCopyList, AreNamed};
 ghost use Rattle.seg_parse.specs.ListRead.{lid1_read};
 ghost use Rattle.seg_parse.specs.ListWritten.{name_bytes, cscd_bytes, segment_bytes, all_cscds, all_segments, lid1_written};
-ghost use Rattle.seg_parse.specs.Sizes.{IsSized, IsWide};
+ghost use Rattle.seg_parse.specs.inner.Sizes.{IsSized, IsWide};
 
 use crate::descriptors::{BLOCK_TO_BLOCK, CSCD, IDENTIFICATION, SEGMENT, SEGMENT_LENGTH};
 use crate::list::{CopyList, Cscd, CscdList, Segment, SegmentList};

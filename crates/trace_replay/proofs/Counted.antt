@@ -19,11 +19,12 @@ use Rattle.trace_replay.specs.declared.machine.Machine.{Machine}
 use Rattle.trace_replay.specs.Items.{items_limit}
 use Rattle.trace_replay.specs.Standing.{Pending, Record, Standing, Mark, NoMark, AtBegin, AtAct, AtStep, waiting, goes_on, did, ran, begun, next, next_step, acted, noted_act}
 use Rattle.trace_replay.specs.Played.{mark_for, record_bytes, output_of, summary_of, is_good, is_check, is_busy, is_task_set_full}
-use Rattle.trace_replay.specs.Laws.{StandsAt, marks_of}
-use Rattle.trace_replay.specs.Counting.{HasRoom, with_item, with_reply, one_if}
-use Rattle.trace_replay.specs.Machines.{HasPlayed, IsStanding}
-use Rattle.trace_replay.specs.Players.{IsLoopAt, IsAt, AreFew, left_of}
-use Rattle.trace_replay.specs.Writing.{IsWritten, IsBegun, Writes}
+use Rattle.trace_replay.specs.inner.Laws.{StandsAt}
+use Rattle.trace_replay.proofs.Laws.{marks_of}
+use Rattle.trace_replay.specs.inner.Counting.{HasRoom, with_item, with_reply, one_if}
+use Rattle.trace_replay.specs.inner.Machines.{HasPlayed, IsStanding}
+use Rattle.trace_replay.specs.inner.Players.{IsLoopAt, IsAt, AreFew, left_of}
+use Rattle.trace_replay.specs.inner.Writing.{IsWritten, IsBegun, Writes}
 use Rattle.trace_replay.specs.declared.fault.ReplayFault.{ReplayFault}
 use Rattle.trace_replay.specs.Replayed.{Replayed}
 use Rattle.trace_replay.proofs.Written.{written-gathered}

@@ -27,7 +27,7 @@ use Rattle.unit_core.specs.Acting as acting
 use Rattle.trace_replay.specs.declared.units.Units.{Units}
 use Rattle.trace_replay.specs.Standing.{seq, new_entry, has_no_room, entries_after}
 use Rattle.trace_replay.proofs.Legally.{legal-more, low-more}
-use Rattle.trace_replay.specs.Machines.{HaveDone, HavePumped, HaveCounted, Refuses, DoesAct}
+use Rattle.trace_replay.specs.inner.Machines.{HaveDone, HavePumped, HaveCounted, Refuses, DoesAct}
 
 -- ---- lists
 

@@ -27,7 +27,8 @@ use Rattle.trace_replay.specs.Played.{Played, played, played_from, mark_for, mar
 use Rattle.trace_replay.specs.Marks.{allowed_at_act, allowed_at_run, is_allowed, are_allowed, may_mark, met_want}
 use Rattle.cm_base.specs.Outside.{IsBeginning}
 use Rattle.trace_replay.specs.Replayed.{IsInput, IsReadSo, IsAnswer, HasPlayedFirst, IsCompleteBy, Replayed}
-use Rattle.trace_replay.specs.Laws.{StandsAt, HasHeader, LoopStands, MarksTell, known}
+use Rattle.trace_replay.specs.inner.Laws.{StandsAt, HasHeader}
+use Rattle.trace_replay.proofs.Laws.{LoopStands, MarksTell, known}
 use Rattle.trace_replay.proofs.Steps.{play-torn, play-done, play-records}
 use Rattle.trace_replay.proofs.Grows.{output-grows}
 

@@ -15,7 +15,7 @@ use Rattle.any_cmds.specs.declared.phase.AnyPhase.{AnyPhase}
 use Rattle.any_cmds.specs.Meaning.{by_any}
 use Rattle.trace_replay.specs.declared.nexus.Waiting.{Waiting}
 use Rattle.trace_replay.specs.Standing.{Pending, Mark, NoMark, AtStep, noted, noted_at_step, next_step}
-use Rattle.trace_replay.specs.Machines.{IsCommandOf, IsNext, WentOn, HasBegun, mark_of}
+use Rattle.trace_replay.specs.inner.Machines.{IsCommandOf, IsNext, WentOn, HasBegun, mark_of}
 use Rattle.trace_replay.proofs.Telling.{any-append}
 
 pub none-follows : (config : Configuration) (s : Step) → MayFollow config s Outcome.NoMemory

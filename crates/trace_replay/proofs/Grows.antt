@@ -11,7 +11,7 @@ use Rattle.cmd_program.specs.Stepping.{Stepping}
 use Rattle.trace_replay.specs.Items.{Ending, BadRecord, Placed, trace_of}
 use Rattle.trace_replay.specs.Standing.{Pending, Record, Standing, Mark, NoMark, AtBegin, AtAct, AtStep, waiting, acted, noted_act, goes_on, next_step, begun, did, ran, changed, next, fits}
 use Rattle.trace_replay.specs.Played.{play, mark_for, marks_behind, record_bytes, output_of}
-use Rattle.trace_replay.specs.Laws.{OutputGrows}
+use Rattle.trace_replay.proofs.Laws.{OutputGrows}
 use Rattle.cm_base.specs.Outside.{IsBeginning}
 
 -- the replies begin with those of before

@@ -20,7 +20,7 @@ use Rattle.cmd_program.specs.Stepping.{Stepping}
 use Rattle.trace_replay.specs.Standing.{Standing, Mark, new_entry}
 use Rattle.trace_replay.specs.Played.{Played, played}
 use Rattle.trace_replay.specs.Replayed.{IsHistory, HasPlayedFirst, IsLegalBy}
-use Rattle.trace_replay.specs.Laws.{HasHeader}
+use Rattle.trace_replay.specs.inner.Laws.{HasHeader}
 
 -- ---- one more entry
 

@@ -14,3 +14,4 @@ pub mod Counted
 pub mod Machining
 mod Quiet
 mod PlayedWrites
+pub mod Laws

@@ -23,7 +23,7 @@ use Rattle.trace_replay.specs.declared.machine.Machine.{Machine}
 use Rattle.trace_replay.specs.Standing.{Pending, Standing, Mark, NoMark, AtBegin, AtAct, AtStep, is_of, waiting, without, seq, new_entry, has_no_room, entries_after, entries_at, next_step, goes_on, acted, noted_act, did, ran, next, fits}
 use Rattle.trace_replay.specs.Played.{mark_for}
 use Rattle.trace_replay.specs.Marks.{is_no_mark, allowed_at_act, allowed_at_run, is_allowed}
-use Rattle.trace_replay.specs.Machines.{HaveCounted, IsWaiting, WentOn, HasBegun, HasRun, WaitsFor, IsNexus, IsStanding, IsEffect, effect_of}
+use Rattle.trace_replay.specs.inner.Machines.{HaveCounted, IsWaiting, WentOn, HasBegun, HasRun, WaitsFor, IsNexus, IsStanding, IsEffect, effect_of}
 use Rattle.trace_replay.proofs.Doing.{seq-other, not-equal}
 use Rattle.trace_replay.proofs.Telling.{waits-last, find-of}
 

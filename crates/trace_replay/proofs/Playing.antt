@@ -21,10 +21,11 @@ use Rattle.trace_replay.specs.Items.{BadRecord, BadHeader, Done, Torn, items_lim
 use Rattle.trace_replay.specs.Standing.{Standing, at_first, fits}
 use Rattle.trace_replay.specs.Played.{played_from, output_of, summary_of}
 use Rattle.trace_replay.specs.Replayed.{Replayed, IsCounted}
-use Rattle.trace_replay.specs.Laws.{StandsAt, LoopStands, MarksTell, known}
-use Rattle.trace_replay.specs.Players.{IsLoopAt, IsAt, left_of, HasPulled, HasMore, NeedsMore, EndsBad}
-use Rattle.trace_replay.specs.Writing.{IsWritten, IsBegun, IsWriteFault}
-use Rattle.trace_replay.specs.Machines.{IsStanding}
+use Rattle.trace_replay.specs.inner.Laws.{StandsAt}
+use Rattle.trace_replay.proofs.Laws.{LoopStands, MarksTell, known}
+use Rattle.trace_replay.specs.inner.Players.{IsLoopAt, IsAt, left_of, HasPulled, HasMore, NeedsMore, EndsBad}
+use Rattle.trace_replay.specs.inner.Writing.{IsWritten, IsBegun, IsWriteFault}
+use Rattle.trace_replay.specs.inner.Machines.{IsStanding}
 use Rattle.trace_replay.proofs.Sizes.{header-used}
 use Rattle.trace_replay.proofs.Steps.{begins, grows, play-unfit, play-bad, play-torn, play-done}
 use Rattle.trace_replay.proofs.Legally.{legal-none}

@@ -14,7 +14,7 @@ use Rattle.trace_replay.specs.declared.nexus.Nexus.{Nexus}
 use Rattle.trace_replay.specs.Standing.{Pending, Mark, NoMark, AtBegin, AtAct, AtStep, seq, has_no_room, entries_after, outcome_of, noted, noted_at_step, outcomes_at, entries_at}
 use Rattle.cm_history.specs.Ends.{ends_operation}
 use Rattle.cm_history.specs.History.{past_of}
-use Rattle.trace_replay.specs.Machines.{HaveCounted, HasActed, HasRun, WentOn, mark_of, is_at_act_of}
+use Rattle.trace_replay.specs.inner.Machines.{HaveCounted, HasActed, HasRun, WentOn, mark_of, is_at_act_of}
 use Rattle.trace_replay.proofs.Going.{gave-up-more, gave-up-none}
 
 always : (b : Bool) → cond b true true ≡ true

@@ -13,7 +13,7 @@ use Rattle.trace_replay.specs.Items.{Done, Torn, BadRecord, Records, Trace, with
 use Rattle.trace_replay.specs.Standing.{Standing, Mark, next, fits, at_first}
 use Rattle.trace_replay.specs.Played.{played, played_after, played_from, play, mark_for, marks_behind}
 use Rattle.trace_replay.specs.Marks.{is_allowed, are_allowed, may_mark, may_mark_from, allowed_after}
-use Rattle.trace_replay.specs.Laws.{marks_of, BeginsSo, GrowsSo, StepsSo}
+use Rattle.trace_replay.proofs.Laws.{marks_of, BeginsSo, GrowsSo, StepsSo}
 use Rattle.trace_replay.proofs.Alone.{header-alone, item-alone, drop-alone}
 use Rattle.trace_replay.proofs.Legally.{header-more}
 

@@ -12,7 +12,8 @@ use Rattle.cm_frame.specs.declared.frame.Reply.{Reply}
 use Rattle.cm_frame.specs.declared.item.TraceItem.{TraceItem}
 use Rattle.cmd_program.specs.declared.step.Outcome.{Outcome}
 use Rattle.cmd_program.specs.declared.step.Step.{Step}
-use Rattle.cmd_program.specs.Stepping.{Stepping, gives_up, gave_up, IsBusyAtEnd, EndsBusy}
+use Rattle.cmd_program.specs.Stepping.{Stepping, gives_up, gave_up}
+use Rattle.cmd_program.proofs.Stepping.{IsBusyAtEnd, EndsBusy}
 use Rattle.trace_replay.specs.Standing.{Pending, Record, Standing, is_of, waiting, without, noted, replied, goes_on, gone_on, next_step}
 use Rattle.trace_replay.specs.Played.{is_busy, replies_that}
 use Rattle.trace_replay.specs.Marks.{is_no_memory, met_want}
@@ -23,7 +24,7 @@ use Rattle.trace_replay.specs.Items.{Ending, BadRecord, Placed, trace_of, items_
 use Rattle.trace_replay.specs.Standing.{Mark, NoMark, AtBegin, AtAct, AtStep, acted, noted_act, begun, did, ran, changed, next, fits, outcome_of, outcomes_at, has_no_room, at_first}
 use Rattle.trace_replay.specs.Played.{played_after, play, mark_for, marks_behind}
 use Rattle.trace_replay.specs.Marks.{is_no_mark, allowed_at_act, allowed_at_run, is_allowed, are_allowed, allowed_after}
-use Rattle.trace_replay.specs.Laws.{MarksTell}
+use Rattle.trace_replay.proofs.Laws.{MarksTell}
 use Rattle.trace_replay.proofs.Grows.{Follows, next-follows}
 
 -- ---- words

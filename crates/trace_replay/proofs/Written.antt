@@ -12,7 +12,7 @@ use Rattle.cmd_program.specs.Meaning.{IsOfLength}
 use Rattle.trace_replay.specs.Played.{record_bytes}
 use Rattle.trace_replay.specs.declared.fault.ReplayFault.{ReplayFault}
 use Rattle.trace_replay.specs.Replayed.{IsCounted}
-use Rattle.trace_replay.specs.Writing.{IsWritten, IsBegun, Writes, IsWriteFault, IsCountedBy}
+use Rattle.trace_replay.specs.inner.Writing.{IsWritten, IsBegun, Writes, IsWriteFault, IsCountedBy}
 
 module _ (taken a b : Option (List ℕ)) (waits bytes : List ℕ) where
   -- all that waited was pushed

@@ -4,9 +4,5 @@ pub mod Played
 pub mod Ended
 pub mod Marks
 pub mod Replayed
-pub mod Laws
-pub mod Machines
-pub mod Counting
 pub mod Faults
-pub mod Writing
-pub mod Players
+pub mod inner

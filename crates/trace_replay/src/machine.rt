@@ -1,7 +1,7 @@
 ghost use Rattle.std.specs.Prelude.{◌≡◌, ℕ, length, IfOk};
 ghost use Rattle.cm_base.specs.Configuration.{Configuration};
 ghost use Rattle.trace_replay.specs.Standing.{Standing, at_first};
-ghost use Rattle.trace_replay.specs.Machines.{IsStanding, IsEffect, Stands, effect_of};
+ghost use Rattle.trace_replay.specs.inner.Machines.{IsStanding, IsEffect, Stands, effect_of};
 
 use crate::nexus::Nexus;
 use crate::units::Units;

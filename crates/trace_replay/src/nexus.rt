@@ -7,7 +7,7 @@ ghost use Rattle.cmd_program.specs.Stepping.{gives_up, gave_up};
 ghost use Rattle.cmd_machine.specs.Standing.{IsSoundAt};
 ghost use Rattle.any_cmds.specs.Meaning.{IsSoundAny};
 ghost use Rattle.trace_replay.specs.Standing.{Pending, Mark, seq, noted, noted_at_step};
-ghost use Rattle.trace_replay.specs.Machines.{HaveCounted, IsCommandOf, IsCommand, IsWaiting, IsNext, WentOn, HasBegun, MayAct, HasActed, MayRun, HasRun, mark_of};
+ghost use Rattle.trace_replay.specs.inner.Machines.{HaveCounted, IsCommandOf, IsCommand, IsWaiting, IsNext, WentOn, HasBegun, MayAct, HasActed, MayRun, HasRun, mark_of};
 
 use crate::units::Units;
 use any_cmds::{AnyCommand, begin_any};

@@ -6,10 +6,10 @@ ghost use Rattle.cm_frame.specs.Reading.{read_header, read_item, HasItem};
 ghost use Rattle.cmd_program.specs.Judging.{step};
 ghost use Rattle.trace_replay.specs.Standing.{Standing};
 ghost use Rattle.trace_replay.specs.Replayed.{Replayed, IsCounted};
-ghost use Rattle.trace_replay.specs.Machines.{IsStanding};
-ghost use Rattle.trace_replay.specs.Counting.{HasRoom, with_item};
-ghost use Rattle.trace_replay.specs.Writing.{IsCountedBy};
-ghost use Rattle.trace_replay.specs.Players.{IsLoopAt, IsAt, IsPlayer, NeedsMore, EndsBad, HasPulled, HasMore, HasTurned, HasFound, LooksAt, left_of};
+ghost use Rattle.trace_replay.specs.inner.Machines.{IsStanding};
+ghost use Rattle.trace_replay.specs.inner.Counting.{HasRoom, with_item};
+ghost use Rattle.trace_replay.specs.inner.Writing.{IsCountedBy};
+ghost use Rattle.trace_replay.specs.inner.Players.{IsLoopAt, IsAt, IsPlayer, NeedsMore, EndsBad, HasPulled, HasMore, HasTurned, HasFound, LooksAt, left_of};
 
 use crate::fault::ReplayFault;
 use crate::machine::{Effect, Machine};

@@ -2,7 +2,7 @@ ghost use Rattle.std.specs.Prelude.{◌≡◌, ◌++◌, [], ℕ, List, Option, 
 ghost use Rattle.cm_frame.specs.Grammar.{reply_bytes};
 ghost use Rattle.cmd_program.specs.Meaning.{IsOfLength};
 ghost use Rattle.trace_replay.specs.Played.{record_bytes};
-ghost use Rattle.trace_replay.specs.Writing.{IsWritten, IsBegun, Writes, IsCountedBy};
+ghost use Rattle.trace_replay.specs.inner.Writing.{IsWritten, IsBegun, Writes, IsCountedBy};
 
 use crate::fault::ReplayFault;
 use cm_base::{OutputBuffer, Sink, push_all};

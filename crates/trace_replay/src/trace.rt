@@ -4,7 +4,7 @@ ghost use Rattle.cm_base.specs.declared.parsed.Parsed.TheVariants.{Whole};
 ghost use Rattle.cm_frame.specs.Reading.{read_header};
 ghost use Rattle.cmd_program.specs.Judging.{step};
 ghost use Rattle.trace_replay.specs.Replayed.{Replayed, IsCounted};
-ghost use Rattle.trace_replay.specs.Writing.{IsCountedBy};
+ghost use Rattle.trace_replay.specs.inner.Writing.{IsCountedBy};
 
 use crate::fault::ReplayFault;
 use crate::player::Player;

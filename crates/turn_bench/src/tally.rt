@@ -1,6 +1,6 @@
 ghost use Rattle.std.specs.Prelude.{◌≡◌, ◌+◌, MatchBool};
 
-use turn_gate::Told;
+use turn_gate::Gated;
 
 /// How many turns were taken. It stands for each history of so many entries, whose entries say nothing more.
 #[derive(Drop)]
@@ -8,7 +8,7 @@ pub struct Tally {
     pub turns: u64,
 }
 
-impl Told for Tally {
+impl Gated for Tally {
     type Entry = ();
 
     type Kin = ();

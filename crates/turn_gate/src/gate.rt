@@ -3,11 +3,12 @@ ghost use Rattle.std.specs.Prelude.{◌≡◌, ◌≢◌, ℕ, ◌+◌, ◌^◌,
 ghost use mathlib.Core.List.{IsPrefix};
 ghost use Rattle.turn_gate.specs.Marks.{AtMost, greatest};
 ghost use Rattle.turn_gate.specs.Places.{EachOnce};
-ghost use Rattle.turn_gate.specs.Seats.{IsSound, IsTable, first_seat, split_off, with_newest, and_newest, unopened, opened};
+ghost use Rattle.turn_gate.specs.Seats.{IsSound, split_off, with_newest, and_newest};
+ghost use Rattle.turn_gate.specs.inner.Seats.{IsTable, first_seat, unopened, opened};
 
+use crate::gated::Gated;
 use crate::plays::{Begin, Claim, Count, FirstView, GiveBack, JoinIn, Load, NewestEntry, SplitOff};
 use crate::sleepers::Sleepers;
-use crate::told::Told;
 use crate::turn::Turn;
 use crate::view::View;
 use atomic_table::{Seat, Shared, Table, TableRule};
@@ -27,9 +28,9 @@ pub struct InTurns<V> {
     of: PhantomData<V>,
 }
 
-impl<V: Told> TableRule<Option<V>, View<V::Entry, V::Kin>, V> for InTurns<V> {
-    ghost use Rattle.turn_gate.specs.Seats.{unopened};
-    ghost use Rattle.turn_gate.specs.Rule.{IsKept};
+impl<V: Gated> TableRule<Option<V>, View<V::Entry, V::Kin>, V> for InTurns<V> {
+    ghost use Rattle.turn_gate.specs.inner.Seats.{unopened};
+    ghost use Rattle.turn_gate.specs.inner.Rule.{IsKept};
 
     ghost holds = { IsKept V.stands_for V.kin V.marks };
 
@@ -38,14 +39,15 @@ impl<V: Told> TableRule<Option<V>, View<V::Entry, V::Kin>, V> for InTurns<V> {
 
 /// A value under turns, which threads share. Contracts see which gate it is, and the kin of its value.
 #[derive(Drop)]
-pub struct Gate<V: Told> {
+pub struct Gate<V: Gated> {
     table: Table<Option<V>, View<V::Entry, V::Kin>, V, InTurns<V>, Global>,
     sleepers: Sleepers,
 }
 
-impl<V: Told> Model for Gate<V> {
+impl<V: Gated> Model for Gate<V> {
     ghost use Rattle.std.specs.Prelude.{Some};
-    ghost use Rattle.turn_gate.specs.Seats.{GateName, IsTable};
+    ghost use Rattle.turn_gate.specs.Seats.{GateName};
+    ghost use Rattle.turn_gate.specs.inner.Seats.{IsTable};
 
     ghost Value = { GateName V.Kin };
 
@@ -59,12 +61,13 @@ impl<V: Told> Model for Gate<V> {
 /// (`misses`); of the first seat also what was joined into it (`joined`), how many seats are split off and not joined
 /// (`out`), and how many entries the history had at first (`opening`).
 #[derive(Drop)]
-pub struct GateSeat<V: Told> {
+pub struct GateSeat<V: Gated> {
     seat: Seat<Option<V>, View<V::Entry, V::Kin>>,
 }
 
-impl<V: Told> Model for GateSeat<V> {
-    ghost use Rattle.turn_gate.specs.Seats.{SeatState, state_of, IsSeated};
+impl<V: Gated> Model for GateSeat<V> {
+    ghost use Rattle.turn_gate.specs.Seats.{SeatState};
+    ghost use Rattle.turn_gate.specs.inner.Seats.{state_of, IsSeated};
 
     ghost Value = { SeatState V.Entry V.Kin };
 
@@ -73,7 +76,7 @@ impl<V: Told> Model for GateSeat<V> {
     ghost invariant = { λ s. IsSeated s.seat.table_id s.seat.me };
 }
 
-impl<V: Told> GateSeat<V> {
+impl<V: Gated> GateSeat<V> {
     /// What is true of every seat: own entries stand in what was seen, at their places, which rise. It does nothing
     /// when it runs.
     pub fn sound(&self)
@@ -84,7 +87,7 @@ impl<V: Told> GateSeat<V> {
 }
 
 // The first step of a table that has no value yet: its seat begins as one that holds the turn.
-fn begin<V: Told, N: FirstView<V::Entry, V::Kin>>(
+fn begin<V: Gated, N: FirstView<V::Entry, V::Kin>>(
     shared: &Shared<Option<V>, View<V::Entry, V::Kin>, V, InTurns<V>>,
     seat: Seat<Option<V>, View<V::Entry, V::Kin>>,
     value: &V,
@@ -103,7 +106,7 @@ fn begin<V: Told, N: FirstView<V::Entry, V::Kin>>(
     GateSeat { seat }
 }
 
-impl<V: Told> Gate<V> {
+impl<V: Gated> Gate<V> {
     /// A gate round the value, and its first seat. That seat has seen the history that the caller names (`opening`), of
     /// those that the value stands for. `OutOfMemory` hands the value back.
     pub fn new(alloc: Global, value: V) -> Result<(Gate<V>, GateSeat<V>), (V, OutOfMemory)>

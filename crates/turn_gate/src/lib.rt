@@ -6,14 +6,14 @@
 #![tactic(auto)]
 
 mod gate;
+mod gated;
 mod plays;
 mod sleepers;
-mod told;
 mod turn;
 mod view;
 
 pub use gate::{Gate, GateSeat};
-pub use told::Told;
+pub use gated::Gated;
 pub use turn::Turn;
 pub use view::{Joined, Own, View};
 

@@ -1,5 +1,5 @@
 use Rattle.std.proofs.Common.{◌≡◌, ◌++◌, take}
-use Rattle.block_params.specs.Lists.{AreRanges}
+use Rattle.block_params.specs.inner.Lists.{AreRanges}
 use Rattle.block_params.specs.ListsWritten.{descriptors}
 use Rattle.block_params.proofs.writing.push_ranges.Given as goal
 

@@ -4,7 +4,7 @@ use Rattle.lba_ranges.specs.HeldBlocks.{filled}
 use Rattle.lba_ranges.proofs.Cells.{length-filled}
 use Rattle.lun_extents.specs.Extents.{stored}
 use Rattle.lun_extents.proofs.Places.{held_at-over}
-use Rattle.lun_extents.proofs.Borders.{IsCut, cut-held, cut-ended}
+use Rattle.lun_extents.proofs.Splits.{IsCut, cut-held, cut-ended}
 use Rattle.lun_extents.proofs.map.end_before.Goals as goal
 
 is_cut : (c : goal.After-replace) → IsCut c.args.size (stored c.args.map.now.entries) (stored c.replace.new.map.entries) c.args.block c.in-Some.place c.in-Some.piece.now c.in-Ok.part

@@ -1,7 +1,7 @@
 use Rattle.std.proofs.Common.{◌∙◌, arith}
 use Rattle.lun_extents.specs.Extents.{stored}
 use Rattle.lun_extents.proofs.Nearest.{IsRun}
-use Rattle.lun_extents.proofs.Borders.{chosen, other}
+use Rattle.lun_extents.proofs.Splits.{chosen, other}
 use Rattle.lun_extents.proofs.Written.{set-held}
 use Rattle.lun_extents.proofs.map.set.Goals as goal
 

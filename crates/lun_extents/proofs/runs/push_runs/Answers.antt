@@ -2,8 +2,8 @@ use Rattle.std.proofs.Common.{◌≡◌, ◌+◌, ◌++◌, ◌∙◌, ap, sym, 
 use Rattle.std.specs.Prelude.{slice_range}
 use Rattle.lba_ranges.specs.HeldBlocks.{filled}
 use Rattle.lba_ranges.specs.Denoted.{row, blocks_of}
-use Rattle.lun_extents.specs.declared.runs.Run.{Run}
-use Rattle.lun_extents.specs.Runs.{ranges_of, items_of_runs, AreRuns}
+use Rattle.lun_extents.specs.declared.runs.Filling.{Filling}
+use Rattle.lun_extents.specs.inner.Runs.{ranges_of, items_of_runs, AreRuns}
 use Rattle.lun_extents.proofs.Counting.{row-append}
 use Rattle.lun_extents.proofs.Planned.{blocks-push, items-push, runs-push, slice-more}
 use Rattle.lun_extents.proofs.runs.push_runs.Goals as goal
@@ -21,7 +21,7 @@ loop-done-preserved c =
     let fill = c.in_ok-piece.piece.fill in
     let first = c.from.ensures in
     let place = c.from-in-loop-done.ensures in
-    let run : Run = record { range = record { lba = lba + c.from.result; count = n }; fill = fill } in
+    let run : Filling = record { range = record { lba = lba + c.from.result; count = n }; fill = fill } in
     let blocks = blocks_of (ranges_of c.args.runs.now.items) in
     let items = items_of_runs size c.args.runs.now.items in
     let part : filled size n fill ≡ slice_range xs (from + done) (from + done + n) =
@@ -34,6 +34,6 @@ loop-done-preserved c =
           ∙ append_assoc items (slice_range xs from (from + done)) (filled size n fill)
           ∙ ap (λ l. items ++ l) (ap (λ l. slice_range xs from (from + done) ++ l) part ∙ sym (slice-more xs from done n)),
       λ all within before.
-          subst (λ (l : List Run). AreRuns all size l) (sym pushed)
+          subst (λ (l : List Filling). AreRuns all size l) (sym pushed)
           (runs-push all size rs run (c.loop-done.invariant.3 all within before) c.in_ok-piece.ensures.some (omega (arith, c.in_ok-piece.ensures.most)) c.in_ok-piece.ensures.full),
     )

@@ -1,7 +1,7 @@
 use Rattle.std.proofs.Common.{◌≡◌, ℕ, ◌+◌, ◌-◌, ◌≤◌, ◌++◌}
 use Rattle.std.specs.Prelude.{slice_range}
 use Rattle.lba_ranges.specs.Denoted.{row, blocks_of}
-use Rattle.lun_extents.specs.Runs.{ranges_of, items_of_runs, AreRuns}
+use Rattle.lun_extents.specs.inner.Runs.{ranges_of, items_of_runs, AreRuns}
 use Rattle.lun_extents.proofs.runs.push_runs.Given as goal
 
 abbrev pub invariant-loop-done : goal.invariant-loop-done

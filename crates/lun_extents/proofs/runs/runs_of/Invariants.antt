@@ -1,6 +1,6 @@
 use Rattle.std.proofs.Common.{◌≡◌, take}
 use Rattle.lba_ranges.specs.Denoted.{blocks_of, total}
-use Rattle.lun_extents.specs.Runs.{ranges_of, items_of_runs, AreRuns}
+use Rattle.lun_extents.specs.inner.Runs.{ranges_of, items_of_runs, AreRuns}
 use Rattle.lun_extents.proofs.runs.runs_of.Given as goal
 
 abbrev pub invariant-loop-index : goal.invariant-loop-index

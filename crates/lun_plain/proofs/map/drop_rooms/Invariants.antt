@@ -1,5 +1,6 @@
 use Rattle.std.proofs.Common.{◌≡◌, ℕ, take, cond}
-use Rattle.lun_plain.specs.Plain.{stored, seen, is_among}
+use Rattle.lun_plain.specs.Plain.{stored}
+use Rattle.lun_plain.specs.inner.Plain.{seen, is_among}
 use Rattle.lun_plain.proofs.map.drop_rooms.Given as goal
 
 abbrev pub invariant-loop-block : goal.invariant-loop-block

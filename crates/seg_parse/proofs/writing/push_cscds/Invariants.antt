@@ -1,5 +1,5 @@
 use Rattle.std.proofs.Common.{◌≡◌, ◌++◌, take, All}
-use Rattle.seg_parse.specs.Sizes.{IsSized}
+use Rattle.seg_parse.specs.inner.Sizes.{IsSized}
 use Rattle.seg_parse.specs.ListWritten.{all_cscds}
 use Rattle.seg_parse.proofs.writing.push_cscds.Given as goal
 

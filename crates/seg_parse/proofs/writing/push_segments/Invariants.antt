@@ -1,5 +1,5 @@
 use Rattle.std.proofs.Common.{◌≡◌, ◌++◌, take, All}
-use Rattle.seg_parse.specs.Sizes.{IsWide}
+use Rattle.seg_parse.specs.inner.Sizes.{IsWide}
 use Rattle.seg_parse.specs.ListWritten.{all_segments}
 use Rattle.seg_parse.proofs.writing.push_segments.Given as goal
 

@@ -1,5 +1,6 @@
 use Rattle.cmd_machine.specs.Standing.{IsSoundAt}
-use Rattle.any_cmds.specs.Meaning.{IsSoundAny, IsCommand}
+use Rattle.any_cmds.specs.Meaning.{IsSoundAny}
+use Rattle.any_cmds.proofs.Meaning.{IsCommand}
 use Rattle.any_cmds.proofs.tests.driving.steps.Given as goal
 
 abbrev pub invariant-loop-outcome : goal.invariant-loop-outcome

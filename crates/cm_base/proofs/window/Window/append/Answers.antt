@@ -1,6 +1,6 @@
 use Rattle.std.proofs.Common.{◌≡◌, ◌+◌, ◌-◌, ◌++◌, length, take, List, ℕ, ap, ◌∙◌, arith}
 use Rattle.std.proofs.lemmas.List.{take_all}
-use Rattle.cm_base.specs.Windows.{held}
+use Rattle.cm_base.specs.inner.Windows.{held}
 use Rattle.cm_base.proofs.Windows.{grown_vec}
 use Rattle.cm_base.proofs.window.Window.append.Goals as goal
 

@@ -4,7 +4,7 @@ use Rattle.lba_ranges.specs.Denoted.{row}
 use Rattle.lba_ranges.specs.Writings.{mapped_below, mapped_among}
 use Rattle.lba_ranges.proofs.WritingLemmas.{mapped-le}
 use Rattle.lun_extents.specs.Extents.{Extents, held_in}
-use Rattle.lun_extents.specs.Runs.{is_mapped}
+use Rattle.lun_extents.specs.inner.Runs.{is_mapped}
 use Rattle.lun_extents.proofs.Counting.{set-counted, among-le}
 use Rattle.lun_extents.proofs.unit.ExtentUnit.set_run.Goals as goal
 

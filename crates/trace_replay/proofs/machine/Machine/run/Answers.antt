@@ -1,7 +1,7 @@
 use Rattle.std.proofs.Common.{refl, ap, sym, ◌∙◌, subst, arith}
 use Rattle.std.proofs.lemmas.Grind.{common_steps}
 use Rattle.trace_replay.specs.declared.nexus.Nexus.{Nexus}
-use Rattle.trace_replay.specs.Machines.{HaveCounted, IsWaiting, HasRun}
+use Rattle.trace_replay.specs.inner.Machines.{HaveCounted, IsWaiting, HasRun}
 use Rattle.trace_replay.proofs.Machining.{ran-on}
 use Rattle.trace_replay.proofs.machine.Machine.run.Goals as goal
 

@@ -5,7 +5,7 @@ use Rattle.cm_history.specs.History.{answer}
 use Rattle.cmd_program.specs.declared.step.Outcome.{Outcome}
 use Rattle.std.proofs.lemmas.Bool.{eq-eqb}
 use Rattle.trace_replay.specs.Standing.{NoMark, seq, new_entry}
-use Rattle.trace_replay.specs.Machines.{HaveCounted}
+use Rattle.trace_replay.specs.inner.Machines.{HaveCounted}
 use Rattle.trace_replay.proofs.Doing.{after-done, seq-same}
 use Rattle.trace_replay.proofs.nexus.Nexus.do_act.Goals as goal
 

@@ -1,5 +1,5 @@
 use Rattle.std.proofs.Common.{◌≡◌, ◌-◌, ℕ, List, Option, length}
-use Rattle.trace_replay.specs.Players.{IsAt}
+use Rattle.trace_replay.specs.inner.Players.{IsAt}
 use Rattle.trace_replay.proofs.player.Player.next_item.Given as goal
 
 abbrev pub invariant-loop-found : goal.invariant-loop-found

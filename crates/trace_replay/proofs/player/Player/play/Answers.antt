@@ -1,6 +1,6 @@
 use Rattle.std.proofs.Common.{subst}
 use Rattle.std.proofs.lemmas.Result.{err_from_is_err_and}
-use Rattle.trace_replay.specs.Machines.{IsEffect}
+use Rattle.trace_replay.specs.inner.Machines.{IsEffect}
 use Rattle.trace_replay.proofs.Playing.{ends-memory, unfit-ends}
 use Rattle.trace_replay.proofs.Counted.{room-item, quiet-at, passed-waits, replied-at}
 use Rattle.trace_replay.proofs.player.Player.play.Goals as goal

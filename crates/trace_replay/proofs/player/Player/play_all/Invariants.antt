@@ -1,6 +1,6 @@
 use Rattle.std.proofs.Common.{◌≡◌, ◌≤◌, ◌-◌, ℕ, List, Option}
 use Rattle.trace_replay.specs.Items.{items_limit}
-use Rattle.trace_replay.specs.Players.{IsAt, IsPlayer}
+use Rattle.trace_replay.specs.inner.Players.{IsAt, IsPlayer}
 use Rattle.trace_replay.proofs.player.Player.play_all.Given as goal
 
 abbrev pub invariant-loop-self : goal.invariant-loop-self

@@ -1,7 +1,7 @@
 use Rattle.std.proofs.Common.{◌∙◌, subst}
 use Rattle.std.specs.Prelude.{None}
 use Rattle.std.proofs.lemmas.Result.{err_from_is_err_and}
-use Rattle.trace_replay.specs.Players.{IsFound}
+use Rattle.trace_replay.specs.inner.Players.{IsFound}
 use Rattle.trace_replay.proofs.Playing.{any-player, counts-later}
 use Rattle.trace_replay.proofs.player.Player.turn.Goals as goal
 

@@ -2,7 +2,7 @@ use Rattle.std.proofs.Common.{refl, arith, ◌<◌, length}
 use Rattle.trace_replay.proofs.Doing.{counted-pump, counted-same, after-full}
 use Rattle.cm_history.specs.declared.act.Act.{Act}
 use Rattle.cm_history.specs.declared.act.Actor.{Actor}
-use Rattle.trace_replay.specs.Machines.{HaveCounted}
+use Rattle.trace_replay.specs.inner.Machines.{HaveCounted}
 use Rattle.trace_replay.proofs.units.Units.pump.Goals as goal
 use Rattle.trace_replay.proofs.units.Units.pump.Goals.{in-Ok, in-Err-Full, in-Err-OutOfMemory}
 

@@ -1,0 +1,2 @@
+pub mod RangesRead
+pub mod Lists

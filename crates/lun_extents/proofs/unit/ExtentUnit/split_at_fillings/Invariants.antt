@@ -1,0 +1,14 @@
+use Rattle.std.proofs.Common.{take}
+use Rattle.std.specs.Prelude.{◌≡◌, ℕ}
+use Rattle.lun_extents.specs.Extents.{held_in}
+use Rattle.lun_extents.specs.inner.Extents.{AreExtents}
+use Rattle.lun_extents.specs.inner.Runs.{IsSplitAt, ranges_of}
+use Rattle.lun_extents.proofs.unit.ExtentUnit.split_at_fillings.Given as goal
+
+abbrev pub invariant-loop-run : goal.invariant-loop-run
+invariant-loop-run l =
+    (l.self-inside.blocks ≡ l.initial.self-inside.blocks) × (l.self-inside.block_length ≡ l.initial.self-inside.block_length)
+    × (l.self-inside.mapped ≡ l.initial.self-inside.mapped)
+    × AreExtents l.self-inside.blocks l.self-inside.block_length l.self-inside.extents.entries
+    × ((b : ℕ) → held_in l.self-inside.block_length l.self-inside.extents.entries b ≡ held_in l.self-inside.block_length l.initial.self-inside.extents.entries b)
+    × IsSplitAt l.self-inside.extents.entries (take l.run-index (ranges_of l.runs))

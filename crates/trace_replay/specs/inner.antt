@@ -1,0 +1,5 @@
+pub mod Laws
+pub mod Machines
+pub mod Counting
+pub mod Writing
+pub mod Players
