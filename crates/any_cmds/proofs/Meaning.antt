@@ -4,7 +4,7 @@ use Rattle.cm_base.specs.Configuration.{Configuration}
 use Rattle.cm_frame.specs.declared.frame.Request.{Request}
 use Rattle.cmd_program.specs.declared.step.Outcome.{Outcome}
 use Rattle.cmd_machine.specs.declared.command.CommandOf.{CommandOf}
-use Rattle.cmd_machine.specs.Standing.{StandsFor}
+use Rattle.cmd_machine.specs.Rest.{StandsFor}
 use Rattle.plain_cmds.specs.Meaning as plain
 use Rattle.token_cmds.specs.Meaning as token
 use Rattle.xcopy_exec.specs.Meaning as copy

@@ -3,7 +3,7 @@ ghost use Rattle.cmd_program.specs.declared.step.Outcome.{Outcome};
 ghost use Rattle.cmd_program.specs.Program.{next, go_on_by};
 ghost use Rattle.cmd_program.specs.Meaning.{MayFollow};
 ghost use Rattle.cm_base.specs.Configuration.{Configuration};
-ghost use Rattle.cmd_machine.specs.Standing.{standing, IsSoundAt};
+ghost use Rattle.cmd_machine.specs.Rest.{rest_of, IsSoundAt};
 ghost use Rattle.plain_cmds.specs.Meaning as plain;
 ghost use Rattle.token_cmds.specs.Meaning as token;
 ghost use Rattle.xcopy_exec.specs.Meaning as copy;
@@ -33,7 +33,7 @@ pub enum AnyPhase {
 pub type AnyCommand = CommandOf<AnyPhase>;
 
 fn of_plain(command: Command) -> AnyCommand
-    ensures program { (config : Configuration) → standing by_any config result ≡ standing plain.by_phase config command }
+    ensures program { (config : Configuration) → rest_of by_any config result ≡ rest_of plain.by_phase config command }
     ensures sound { (config : Configuration) → IsSoundAt plain.IsSoundPhase config command → IsSoundAt IsSoundAny config result }
 {
     match command {
@@ -44,7 +44,7 @@ fn of_plain(command: Command) -> AnyCommand
 }
 
 fn of_token(alloc: Global, command: TokenCommand) -> Result<AnyCommand, OutOfMemory>
-    ensures program { (config : Configuration) → IfOk result (λ c. standing by_any config c ≡ standing token.by_phase config command) }
+    ensures program { (config : Configuration) → IfOk result (λ c. rest_of by_any config c ≡ rest_of token.by_phase config command) }
     ensures sound { (config : Configuration) → IsSoundAt token.IsSoundPhase config command → IfOk result (λ c. IsSoundAt IsSoundAny config c) }
 {
     Ok(match command {
@@ -58,7 +58,7 @@ fn of_token(alloc: Global, command: TokenCommand) -> Result<AnyCommand, OutOfMem
 fn token_after(mut phase: Box<TokenPhase>, config: &Config, answer: Answer) -> AnyCommand
     requires sound { token.IsSoundPhase config.now phase.value }
     requires follows { MayFollow config.now (next (token.by_phase config.now phase.value)) (Outcome.Answered answer) }
-    ensures program { standing by_any config.now result ≡ go_on_by (token.by_phase config.now phase.value) answer }
+    ensures program { rest_of by_any config.now result ≡ go_on_by (token.by_phase config.now phase.value) answer }
     ensures sound { IsSoundAt IsSoundAny config.now result }
 {
     let was = mem::replace(&mut *phase, TokenPhase::nothing());
@@ -73,7 +73,7 @@ fn token_after(mut phase: Box<TokenPhase>, config: &Config, answer: Answer) -> A
 }
 
 fn of_copy(alloc: Global, command: CopyCommand) -> Result<AnyCommand, OutOfMemory>
-    ensures program { (config : Configuration) → IfOk result (λ c. standing by_any config c ≡ standing copy.by_phase config command) }
+    ensures program { (config : Configuration) → IfOk result (λ c. rest_of by_any config c ≡ rest_of copy.by_phase config command) }
     ensures sound { (config : Configuration) → IsSoundAt copy.IsSoundPhase config command → IfOk result (λ c. IsSoundAt IsSoundAny config c) }
 {
     Ok(match command {
@@ -87,7 +87,7 @@ fn of_copy(alloc: Global, command: CopyCommand) -> Result<AnyCommand, OutOfMemor
 fn copy_after(mut phase: Box<CopyPhase>, config: &Config, answer: Answer) -> AnyCommand
     requires sound { copy.IsSoundPhase config.now phase.value }
     requires follows { MayFollow config.now (next (copy.by_phase config.now phase.value)) (Outcome.Answered answer) }
-    ensures program { standing by_any config.now result ≡ go_on_by (copy.by_phase config.now phase.value) answer }
+    ensures program { rest_of by_any config.now result ≡ go_on_by (copy.by_phase config.now phase.value) answer }
     ensures sound { IsSoundAt IsSoundAny config.now result }
 {
     let was = mem::replace(&mut *phase, CopyPhase::nothing());
@@ -104,7 +104,7 @@ fn copy_after(mut phase: Box<CopyPhase>, config: &Config, answer: Answer) -> Any
 impl Phase for AnyPhase {
     ghost use Rattle.std.specs.Prelude.{true};
     ghost use Rattle.any_cmds.specs.Meaning.{by_any, IsSoundAny};
-    ghost use Rattle.any_cmds.specs.Going.{any-goes-on};
+    ghost use Rattle.any_cmds.specs.UnderWay.{any-goes-on};
 
     ghost kind = { λ cdb. true };
 

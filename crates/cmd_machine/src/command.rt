@@ -8,7 +8,7 @@ ghost use Rattle.cmd_program.specs.Program.{GivesUp, next, moved, give_up, refus
 ghost use Rattle.cmd_program.specs.Meaning.{IsAskable, IsWritable, MayFollow, reply_of};
 ghost use Rattle.std.specs.Option.{option_map};
 ghost use Rattle.cmd_machine.specs.Last.{by_last, IsLastOf};
-ghost use Rattle.cmd_machine.specs.Standing.{standing, IsSoundAt, StandsFor, IsNotable};
+ghost use Rattle.cmd_machine.specs.Rest.{rest_of, IsSoundAt, StandsFor, IsNotable};
 ghost use Rattle.cmd_machine.specs.Judged.{IsJudged};
 
 use crate::ended::Ended;
@@ -113,8 +113,8 @@ impl<P: Phase> CommandOf<P> {
     /// The command after an outcome.
     fn noted(self, config: &Config, outcome: Outcome) -> CommandOf<P>
         requires sound { IsSoundAt P.sound config.now self }
-        requires follows { MayFollow config.now (next (standing P.meaning config.now self)) outcome }
-        ensures program { standing P.meaning config.now result ≡ moved (standing P.meaning config.now self) outcome }
+        requires follows { MayFollow config.now (next (rest_of P.meaning config.now self)) outcome }
+        ensures program { rest_of P.meaning config.now result ≡ moved (rest_of P.meaning config.now self) outcome }
         ensures sound { IsSoundAt P.sound config.now result }
     {
         match outcome {
@@ -131,8 +131,8 @@ impl<P: Phase> CommandOf<P> {
     /// The command after an outcome at which it gives up; the first such counts.
     fn given_up(self, config: &Config, full: bool) -> CommandOf<P>
         requires { IsSoundAt P.sound config.now self }
-        ensures program { standing P.meaning config.now result
-            ≡ give_up (standing P.meaning config.now self) (reply_of full) }
+        ensures program { rest_of P.meaning config.now result
+            ≡ give_up (rest_of P.meaning config.now self) (reply_of full) }
         ensures sound { IsSoundAt P.sound config.now result }
     {
         match self {

@@ -84,23 +84,23 @@ cdb-open config r (Err sense) = tt
 cdb-open config r (Ok (Cdb.Read lba count)) = out-open config r (Cdb.Read lba count) _ read-open
 cdb-open config r (Ok (Cdb.Write lba count)) = out-open config r (Cdb.Write lba count) _ (λ a. unless_refused-open done a tt)
 cdb-open config r (Ok Cdb.TestUnitReady) = out-open config r Cdb.TestUnitReady _ tt
-cdb-open config r (Ok (Cdb.RequestSense room)) = out-open config r (Cdb.RequestSense room) _ tt
-cdb-open config r (Ok (Cdb.Inquiry evpd page room)) = out-open config r (Cdb.Inquiry evpd page room) _ (inquiry-open r.unit evpd page room)
+cdb-open config r (Ok (Cdb.RequestSense allocation)) = out-open config r (Cdb.RequestSense allocation) _ tt
+cdb-open config r (Ok (Cdb.Inquiry evpd page allocation)) = out-open config r (Cdb.Inquiry evpd page allocation) _ (inquiry-open r.unit evpd page allocation)
 cdb-open config r (Ok (Cdb.Unmap length)) = out-open config r (Cdb.Unmap length) _ (unmap-open r.unit (unmap_read r.out))
 cdb-open config r (Ok Cdb.ReadCapacity10) = out-open config r Cdb.ReadCapacity10 _ tt
-cdb-open config r (Ok (Cdb.ReadCapacity16 room)) = out-open config r (Cdb.ReadCapacity16 room) _ tt
-cdb-open config r (Ok (Cdb.GetLbaStatus lba room)) = out-open config r (Cdb.GetLbaStatus lba room) _ (map-open room)
-cdb-open config r (Ok (Cdb.ReportLuns room)) = out-open config r (Cdb.ReportLuns room) _ tt
-cdb-open config r (Ok (Cdb.CopyParameters room)) = out-open config r (Cdb.CopyParameters room) _ tt
+cdb-open config r (Ok (Cdb.ReadCapacity16 allocation)) = out-open config r (Cdb.ReadCapacity16 allocation) _ tt
+cdb-open config r (Ok (Cdb.GetLbaStatus lba allocation)) = out-open config r (Cdb.GetLbaStatus lba allocation) _ (map-open allocation)
+cdb-open config r (Ok (Cdb.ReportLuns allocation)) = out-open config r (Cdb.ReportLuns allocation) _ tt
+cdb-open config r (Ok (Cdb.CopyParameters allocation)) = out-open config r (Cdb.CopyParameters allocation) _ tt
 cdb-open config r (Ok (Cdb.PopulateToken id length)) = out-open config r (Cdb.PopulateToken id length) _ (populate-open r.unit id (populate_read r.out))
 cdb-open config r (Ok (Cdb.WriteUsingToken id length)) =
     out-open config r (Cdb.WriteUsingToken id length) _ (write-open config r.unit id (write_token_read r.out))
 cdb-open config r (Ok (Cdb.CopyAbort id)) = out-open config r (Cdb.CopyAbort id) _ (λ a. unless_refused-open done a tt)
-cdb-open config r (Ok (Cdb.CopyStatus4 id room)) = out-open config r (Cdb.CopyStatus4 id room) _ (report-open room)
-cdb-open config r (Ok (Cdb.TokenInformation id room)) = out-open config r (Cdb.TokenInformation id room) _ (information-open config r.unit room)
+cdb-open config r (Ok (Cdb.CopyStatus4 id allocation)) = out-open config r (Cdb.CopyStatus4 id allocation) _ (report-open allocation)
+cdb-open config r (Ok (Cdb.TokenInformation id allocation)) = out-open config r (Cdb.TokenInformation id allocation) _ (information-open config r.unit allocation)
 cdb-open config r (Ok (Cdb.ExtendedCopy length)) =
     out-open config r (Cdb.ExtendedCopy length) _ (extended-open config r.unit length (lid1_read r.out))
-cdb-open config r (Ok (Cdb.CopyStatus1 id room)) = out-open config r (Cdb.CopyStatus1 id room) _ (copy-open room)
+cdb-open config r (Ok (Cdb.CopyStatus1 id allocation)) = out-open config r (Cdb.CopyStatus1 id allocation) _ (copy-open allocation)
 
 pub program-open : (config : Configuration) (r : Request) → IsOpen (program config r)
 program-open config r = go (is_configured config r.unit)

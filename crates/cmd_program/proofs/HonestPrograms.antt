@@ -49,20 +49,20 @@ unless_refused-honest : (p : Program) (a : Answer) → IsHonest p → IsHonest (
 unless_refused-honest p (Answer.Refused sense) h = tt
 unless_refused-honest p _ h = h
 
-map-honest : (lba room : ℕ) (a : Answer) → HasKind (Act.MapStatus lba) a → IsHonest (told_map room a)
-map-honest lba room (Answer.Status runs) k = tt
-map-honest lba room (Answer.Refused sense) k = tt
-map-honest lba room _ k = absurd k
+map-honest : (lba allocation : ℕ) (a : Answer) → HasKind (Act.MapStatus lba) a → IsHonest (told_map allocation a)
+map-honest lba allocation (Answer.Status runs) k = tt
+map-honest lba allocation (Answer.Refused sense) k = tt
+map-honest lba allocation _ k = absurd k
 
-page-honest : (room : ℕ) (page : Option (List ℕ)) → IsHonest (page_told room page)
-page-honest room None = tt
-page-honest room (Some page) = tt
+page-honest : (allocation : ℕ) (page : Option (List ℕ)) → IsHonest (page_told allocation page)
+page-honest allocation None = tt
+page-honest allocation (Some page) = tt
 
-inquiry-honest : (unit : ℕ) (evpd : Bool) (page room : ℕ) → IsHonest (inquiry unit evpd page room)
-inquiry-honest unit true page room = page-honest room (vpd unit page)
-inquiry-honest unit false page room = go (page == 0)
+inquiry-honest : (unit : ℕ) (evpd : Bool) (page allocation : ℕ) → IsHonest (inquiry unit evpd page allocation)
+inquiry-honest unit true page allocation = page-honest allocation (vpd unit page)
+inquiry-honest unit false page allocation = go (page == 0)
   where
-    go : (b : Bool) → IsHonest (cond b (good (take room standard)) (refused invalid_field_in_cdb))
+    go : (b : Bool) → IsHonest (cond b (good (take allocation standard)) (refused invalid_field_in_cdb))
     go true = tt
     go false = tt
 
@@ -74,20 +74,20 @@ populate-honest : (unit id : ℕ) (read : Result PopulateList SenseCode) → IsH
 populate-honest unit id (Err sense) = tt
 populate-honest unit id (Ok list) = λ a k. unless_refused-honest done a tt
 
-report-honest : (id room : ℕ) (a : Answer) → HasKind (Act.Report id) a → IsHonest (told_report room a)
-report-honest id room (Answer.Report report) k = tt
-report-honest id room (Answer.Refused sense) k = tt
-report-honest id room _ k = absurd k
+report-honest : (id allocation : ℕ) (a : Answer) → HasKind (Act.Report id) a → IsHonest (told_report allocation a)
+report-honest id allocation (Answer.Report report) k = tt
+report-honest id allocation (Answer.Refused sense) k = tt
+report-honest id allocation _ k = absurd k
 
-information-honest : (config : Configuration) (id unit room : ℕ) (a : Answer) → HasKind (Act.Report id) a → IsHonest (told_token config unit room a)
-information-honest config id unit room (Answer.Report report) k = tt
-information-honest config id unit room (Answer.Refused sense) k = tt
-information-honest config id unit room _ k = absurd k
+information-honest : (config : Configuration) (id unit allocation : ℕ) (a : Answer) → HasKind (Act.Report id) a → IsHonest (told_token config unit allocation a)
+information-honest config id unit allocation (Answer.Report report) k = tt
+information-honest config id unit allocation (Answer.Refused sense) k = tt
+information-honest config id unit allocation _ k = absurd k
 
-recall-honest : (id room : ℕ) (a : Answer) → HasKind (Act.Recall id) a → IsHonest (told_copy room a)
-recall-honest id room (Answer.Copy result) k = tt
-recall-honest id room (Answer.Refused sense) k = tt
-recall-honest id room _ k = absurd k
+recall-honest : (id allocation : ℕ) (a : Answer) → HasKind (Act.Recall id) a → IsHonest (told_copy allocation a)
+recall-honest id allocation (Answer.Copy result) k = tt
+recall-honest id allocation (Answer.Refused sense) k = tt
+recall-honest id allocation _ k = absurd k
 
 -- ---- WRITE USING TOKEN
 
@@ -223,23 +223,23 @@ cdb-honest config r (Err sense) = tt
 cdb-honest config r (Ok (Cdb.Read lba count)) = out-honest config r (Cdb.Read lba count) _ (read-honest lba count)
 cdb-honest config r (Ok (Cdb.Write lba count)) = out-honest config r (Cdb.Write lba count) _ (λ a k. unless_refused-honest done a tt)
 cdb-honest config r (Ok Cdb.TestUnitReady) = out-honest config r Cdb.TestUnitReady _ tt
-cdb-honest config r (Ok (Cdb.RequestSense room)) = out-honest config r (Cdb.RequestSense room) _ tt
-cdb-honest config r (Ok (Cdb.Inquiry evpd page room)) = out-honest config r (Cdb.Inquiry evpd page room) _ (inquiry-honest r.unit evpd page room)
+cdb-honest config r (Ok (Cdb.RequestSense allocation)) = out-honest config r (Cdb.RequestSense allocation) _ tt
+cdb-honest config r (Ok (Cdb.Inquiry evpd page allocation)) = out-honest config r (Cdb.Inquiry evpd page allocation) _ (inquiry-honest r.unit evpd page allocation)
 cdb-honest config r (Ok (Cdb.Unmap length)) = out-honest config r (Cdb.Unmap length) _ (unmap-honest r.unit (unmap_read r.out))
 cdb-honest config r (Ok Cdb.ReadCapacity10) = out-honest config r Cdb.ReadCapacity10 _ tt
-cdb-honest config r (Ok (Cdb.ReadCapacity16 room)) = out-honest config r (Cdb.ReadCapacity16 room) _ tt
-cdb-honest config r (Ok (Cdb.GetLbaStatus lba room)) = out-honest config r (Cdb.GetLbaStatus lba room) _ (map-honest lba room)
-cdb-honest config r (Ok (Cdb.ReportLuns room)) = out-honest config r (Cdb.ReportLuns room) _ tt
-cdb-honest config r (Ok (Cdb.CopyParameters room)) = out-honest config r (Cdb.CopyParameters room) _ tt
+cdb-honest config r (Ok (Cdb.ReadCapacity16 allocation)) = out-honest config r (Cdb.ReadCapacity16 allocation) _ tt
+cdb-honest config r (Ok (Cdb.GetLbaStatus lba allocation)) = out-honest config r (Cdb.GetLbaStatus lba allocation) _ (map-honest lba allocation)
+cdb-honest config r (Ok (Cdb.ReportLuns allocation)) = out-honest config r (Cdb.ReportLuns allocation) _ tt
+cdb-honest config r (Ok (Cdb.CopyParameters allocation)) = out-honest config r (Cdb.CopyParameters allocation) _ tt
 cdb-honest config r (Ok (Cdb.PopulateToken id length)) = out-honest config r (Cdb.PopulateToken id length) _ (populate-honest r.unit id (populate_read r.out))
 cdb-honest config r (Ok (Cdb.WriteUsingToken id length)) =
     out-honest config r (Cdb.WriteUsingToken id length) _ (write-honest config r.unit id (write_token_read r.out))
 cdb-honest config r (Ok (Cdb.CopyAbort id)) = out-honest config r (Cdb.CopyAbort id) _ (λ a k. unless_refused-honest done a tt)
-cdb-honest config r (Ok (Cdb.CopyStatus4 id room)) = out-honest config r (Cdb.CopyStatus4 id room) _ (report-honest id room)
-cdb-honest config r (Ok (Cdb.TokenInformation id room)) = out-honest config r (Cdb.TokenInformation id room) _ (information-honest config id r.unit room)
+cdb-honest config r (Ok (Cdb.CopyStatus4 id allocation)) = out-honest config r (Cdb.CopyStatus4 id allocation) _ (report-honest id allocation)
+cdb-honest config r (Ok (Cdb.TokenInformation id allocation)) = out-honest config r (Cdb.TokenInformation id allocation) _ (information-honest config id r.unit allocation)
 cdb-honest config r (Ok (Cdb.ExtendedCopy length)) =
     out-honest config r (Cdb.ExtendedCopy length) _ (extended-honest config r.unit length (lid1_read r.out))
-cdb-honest config r (Ok (Cdb.CopyStatus1 id room)) = out-honest config r (Cdb.CopyStatus1 id room) _ (recall-honest id room)
+cdb-honest config r (Ok (Cdb.CopyStatus1 id allocation)) = out-honest config r (Cdb.CopyStatus1 id allocation) _ (recall-honest id allocation)
 
 pub program-honest : (config : Configuration) (r : Request) → IsHonest (program config r)
 program-honest config r = go (is_configured config r.unit)

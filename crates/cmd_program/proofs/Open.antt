@@ -24,20 +24,20 @@ pub unless_refused-open : (p : Program) (a : Answer) → IsOpen p → IsOpen (un
 unless_refused-open p (Answer.Refused sense) opens = tt
 unless_refused-open p _ opens = opens
 
-pub map-open : (room : ℕ) (a : Answer) → IsOpen (told_map room a)
-map-open room (Answer.Status runs) = tt
-map-open room (Answer.Refused sense) = tt
-map-open room _ = tt
+pub map-open : (allocation : ℕ) (a : Answer) → IsOpen (told_map allocation a)
+map-open allocation (Answer.Status runs) = tt
+map-open allocation (Answer.Refused sense) = tt
+map-open allocation _ = tt
 
-page-open : (room : ℕ) (page : Option (List ℕ)) → IsOpen (page_told room page)
-page-open room None = tt
-page-open room (Some page) = tt
+page-open : (allocation : ℕ) (page : Option (List ℕ)) → IsOpen (page_told allocation page)
+page-open allocation None = tt
+page-open allocation (Some page) = tt
 
-pub inquiry-open : (unit : ℕ) (evpd : Bool) (page room : ℕ) → IsOpen (inquiry unit evpd page room)
-inquiry-open unit true page room = page-open room (vpd unit page)
-inquiry-open unit false page room = go (page == 0)
+pub inquiry-open : (unit : ℕ) (evpd : Bool) (page allocation : ℕ) → IsOpen (inquiry unit evpd page allocation)
+inquiry-open unit true page allocation = page-open allocation (vpd unit page)
+inquiry-open unit false page allocation = go (page == 0)
   where
-    go : (b : Bool) → IsOpen (cond b (good (take room standard)) (refused invalid_field_in_cdb))
+    go : (b : Bool) → IsOpen (cond b (good (take allocation standard)) (refused invalid_field_in_cdb))
     go true = tt
     go false = tt
 

@@ -15,10 +15,10 @@ use Rattle.cmd_program.specs.ExtendedCopy.{Move, Copying, Tally, close_as, end_s
 use Rattle.cmd_program.proofs.Open.{IsOpen, unless_refused-open}
 
 -- RECEIVE COPY STATUS(LID1)
-pub copy-open : (room : ℕ) (a : Answer) → IsOpen (told_copy room a)
-copy-open room (Answer.Copy result) = tt
-copy-open room (Answer.Refused sense) = tt
-copy-open room _ = tt
+pub copy-open : (allocation : ℕ) (a : Answer) → IsOpen (told_copy allocation a)
+copy-open allocation (Answer.Copy result) = tt
+copy-open allocation (Answer.Refused sense) = tt
+copy-open allocation _ = tt
 
 -- ---- EXTENDED COPY
 

@@ -25,15 +25,15 @@ pub populate-open : (unit id : ℕ) (read : Result PopulateList SenseCode) → I
 populate-open unit id (Err sense) = tt
 populate-open unit id (Ok list) = λ a. unless_refused-open done a tt
 
-pub report-open : (room : ℕ) (a : Answer) → IsOpen (told_report room a)
-report-open room (Answer.Report report) = tt
-report-open room (Answer.Refused sense) = tt
-report-open room _ = tt
+pub report-open : (allocation : ℕ) (a : Answer) → IsOpen (told_report allocation a)
+report-open allocation (Answer.Report report) = tt
+report-open allocation (Answer.Refused sense) = tt
+report-open allocation _ = tt
 
-pub information-open : (config : Configuration) (unit room : ℕ) (a : Answer) → IsOpen (told_token config unit room a)
-information-open config unit room (Answer.Report report) = tt
-information-open config unit room (Answer.Refused sense) = tt
-information-open config unit room _ = tt
+pub information-open : (config : Configuration) (unit allocation : ℕ) (a : Answer) → IsOpen (told_token config unit allocation a)
+information-open config unit allocation (Answer.Report report) = tt
+information-open config unit allocation (Answer.Refused sense) = tt
+information-open config unit allocation _ = tt
 
 -- ---- WRITE USING TOKEN
 

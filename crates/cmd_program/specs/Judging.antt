@@ -33,26 +33,26 @@ out_fault unit out (Cdb.PopulateToken id length) = length_is out length paramete
 out_fault unit out (Cdb.WriteUsingToken id length) = length_is out length parameter_list_length_error
 out_fault unit out _ = length_is out 0 invalid_field_in_cdb
 
--- the program of each command; `room` is the allocation length
+-- the program of each command; `allocation` is the allocation length
 abbrev pub program_of : Configuration → ℕ → List ℕ → Cdb → Program
 program_of config unit out Cdb.TestUnitReady = done
-program_of config unit out (Cdb.RequestSense room) = good (take room (sense_bytes no_additional_sense))
-program_of config unit out (Cdb.Inquiry evpd page room) = inquiry unit evpd page room
+program_of config unit out (Cdb.RequestSense allocation) = good (take allocation (sense_bytes no_additional_sense))
+program_of config unit out (Cdb.Inquiry evpd page allocation) = inquiry unit evpd page allocation
 program_of config unit out (Cdb.Read lba count) = ask_then unit (Act.Read lba count) told_read
 program_of config unit out (Cdb.Write lba count) = write config unit lba out
 program_of config unit out (Cdb.Unmap length) = unmap unit (unmap_read out)
 program_of config unit out Cdb.ReadCapacity10 = good (capacity10 config unit)
-program_of config unit out (Cdb.ReadCapacity16 room) = good (take room (capacity16 config unit))
-program_of config unit out (Cdb.GetLbaStatus lba room) = ask_then unit (Act.MapStatus lba) (told_map room)
-program_of config unit out (Cdb.ReportLuns room) = good (take room (report_luns config))
+program_of config unit out (Cdb.ReadCapacity16 allocation) = good (take allocation (capacity16 config unit))
+program_of config unit out (Cdb.GetLbaStatus lba allocation) = ask_then unit (Act.MapStatus lba) (told_map allocation)
+program_of config unit out (Cdb.ReportLuns allocation) = good (take allocation (report_luns config))
 program_of config unit out (Cdb.ExtendedCopy length) = extended_copy config unit length (lid1_read out)
 program_of config unit out (Cdb.PopulateToken id length) = populate unit id (populate_read out)
 program_of config unit out (Cdb.WriteUsingToken id length) = write_using_token config unit id (write_token_read out)
 program_of config unit out (Cdb.CopyAbort id) = act_alone unit (Act.Abort id)
-program_of config unit out (Cdb.CopyStatus1 id room) = ask_then unit (Act.Recall id) (told_copy room)
-program_of config unit out (Cdb.CopyParameters room) = good (take room copy_parameters)
-program_of config unit out (Cdb.CopyStatus4 id room) = ask_then unit (Act.Report id) (told_report room)
-program_of config unit out (Cdb.TokenInformation id room) = ask_then unit (Act.Report id) (told_token config unit room)
+program_of config unit out (Cdb.CopyStatus1 id allocation) = ask_then unit (Act.Recall id) (told_copy allocation)
+program_of config unit out (Cdb.CopyParameters allocation) = good (take allocation copy_parameters)
+program_of config unit out (Cdb.CopyStatus4 id allocation) = ask_then unit (Act.Report id) (told_report allocation)
+program_of config unit out (Cdb.TokenInformation id allocation) = ask_then unit (Act.Report id) (told_token config unit allocation)
 
 -- a command whose data has the right length
 abbrev pub judged_out : Configuration → Request → Cdb → Option SenseCode → Program

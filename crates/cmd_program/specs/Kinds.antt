@@ -7,14 +7,14 @@ abbrev pub is_token_command : Cdb → Bool
 is_token_command (Cdb.PopulateToken id length) = true
 is_token_command (Cdb.WriteUsingToken id length) = true
 is_token_command (Cdb.CopyAbort id) = true
-is_token_command (Cdb.CopyStatus4 id room) = true
-is_token_command (Cdb.TokenInformation id room) = true
+is_token_command (Cdb.CopyStatus4 id allocation) = true
+is_token_command (Cdb.TokenInformation id allocation) = true
 is_token_command _ = false
 
 -- the command is EXTENDED COPY(LID1) or RECEIVE COPY STATUS(LID1)
 abbrev pub is_copy_command : Cdb → Bool
 is_copy_command (Cdb.ExtendedCopy length) = true
-is_copy_command (Cdb.CopyStatus1 id room) = true
+is_copy_command (Cdb.CopyStatus1 id allocation) = true
 is_copy_command _ = false
 
 -- the command asks for one act at most

@@ -1,6 +1,6 @@
 pub mod Stepping
 pub mod Program
-pub mod Told
+pub mod AnswerBytes
 pub mod SingleActs
 pub mod TokenWrite
 pub mod ExtendedCopy

@@ -12,32 +12,32 @@ use Rattle.cm_history.specs.declared.act.Act.{Act}
 use Rattle.cm_history.specs.declared.answer.Answer.{Answer}
 use Rattle.cmd_program.specs.Program.{Program, good, done, refused, never, unless_refused, with_blocks, with_report, ask_then}
 use Rattle.lba_ranges.specs.HeldBlocks.{blocks_bytes}
-use Rattle.cmd_program.specs.Told.{map_bytes, report_bytes, report_token_bytes, copy_bytes}
+use Rattle.cmd_program.specs.AnswerBytes.{map_bytes, report_bytes, report_token_bytes, copy_bytes}
 
 -- the blocks of data that came with a WRITE
 abbrev pub blocks_in : ℕ → List ℕ → HeldBlocks
 blocks_in size bytes = record { block_length = size; items = cut size (length bytes / size) bytes }
 
--- ---- what is told of each answer; `room` is the allocation length
+-- ---- what is told of each answer; `allocation` is the allocation length
 
 abbrev pub told_read : Answer → Program
 told_read answer = with_blocks (λ list. good (blocks_bytes list)) refused answer
 
 abbrev pub told_map : ℕ → Answer → Program
-told_map room (Answer.Status runs) = good (take room (map_bytes runs))
-told_map room (Answer.Refused sense) = refused sense
-told_map room _ = never
+told_map allocation (Answer.Status runs) = good (take allocation (map_bytes runs))
+told_map allocation (Answer.Refused sense) = refused sense
+told_map allocation _ = never
 
 abbrev pub told_report : ℕ → Answer → Program
-told_report room answer = with_report (λ report. good (take room (report_bytes report))) answer
+told_report allocation answer = with_report (λ report. good (take allocation (report_bytes report))) answer
 
 abbrev pub told_token : Configuration → ℕ → ℕ → Answer → Program
-told_token config unit room answer = with_report (λ report. good (take room (report_token_bytes config unit report))) answer
+told_token config unit allocation answer = with_report (λ report. good (take allocation (report_token_bytes config unit report))) answer
 
 abbrev pub told_copy : ℕ → Answer → Program
-told_copy room (Answer.Copy result) = good (take room (copy_bytes result))
-told_copy room (Answer.Refused sense) = refused sense
-told_copy room _ = never
+told_copy allocation (Answer.Copy result) = good (take allocation (copy_bytes result))
+told_copy allocation (Answer.Refused sense) = refused sense
+told_copy allocation _ = never
 
 -- ---- the commands
 
@@ -47,12 +47,12 @@ act_alone unit act = ask_then unit act (unless_refused done)
 
 -- a page, if there is one
 abbrev pub page_told : ℕ → Option (List ℕ) → Program
-page_told room None = refused invalid_field_in_cdb
-page_told room (Some page) = good (take room page)
+page_told allocation None = refused invalid_field_in_cdb
+page_told allocation (Some page) = good (take allocation page)
 
 abbrev pub inquiry : ℕ → Bool → ℕ → ℕ → Program
-inquiry unit true page room = page_told room (vpd unit page)
-inquiry unit false page room = if page == 0 then good (take room standard) else refused invalid_field_in_cdb
+inquiry unit true page allocation = page_told allocation (vpd unit page)
+inquiry unit false page allocation = if page == 0 then good (take allocation standard) else refused invalid_field_in_cdb
 
 abbrev pub write : Configuration → ℕ → ℕ → List ℕ → Program
 write config unit lba out = act_alone unit (Act.Write lba (blocks_in (unit_of config unit).block_length out))

@@ -5,7 +5,7 @@ use Rattle.byteorder.specs.Endian.{big_bytes}
 use Rattle.cm_base.specs.Fields.{zeros}
 use Rattle.cm_frame.specs.Grammar.{data_limit}
 use Rattle.cm_history.specs.declared.answer.MapRun.{MapRun}
-use Rattle.cmd_program.specs.Told.{run_bytes, runs_bytes, map_bytes}
+use Rattle.cmd_program.specs.AnswerBytes.{run_bytes, runs_bytes, map_bytes}
 
 -- one more run
 pub runs-push : (rs : List MapRun) (r : MapRun) → runs_bytes (rs ++ r ∷ []) ≡ runs_bytes rs ++ run_bytes r
@@ -26,9 +26,9 @@ all-told runs n is =
     rw whole (ap (λ k. big_bytes 4 k ++ zeros 4 ++ runs_bytes runs) long)
 
 -- so many runs fit into one reply
-pub map-short : (room : ℕ) (runs : List MapRun) → length runs ≤ 64 → length (take room (map_bytes runs)) ≤ data_limit
-map-short room runs few =
+pub map-short : (allocation : ℕ) (runs : List MapRun) → length runs ≤ 64 → length (take allocation (map_bytes runs)) ≤ data_limit
+map-short allocation runs few =
     let each = length-runs runs in
     let all : length (map_bytes runs) ≡ 8 + 16 * length runs = omega (arith, each) in
-    let part = length-take room (map_bytes runs) in
+    let part = length-take allocation (map_bytes runs) in
     omega (arith, all, part)

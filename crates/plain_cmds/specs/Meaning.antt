@@ -15,16 +15,16 @@ by_phase config (PlainPhase.Reading unit lba count) = ask_then unit (Act.Read lb
 by_phase config (PlainPhase.Read list) = told_read (Answer.Blocks list)
 by_phase config (PlainPhase.Writing unit lba list) = act_alone unit (Act.Write lba list)
 by_phase config (PlainPhase.Unmapping unit ranges) = act_alone unit (Act.Unmap ranges)
-by_phase config (PlainPhase.Mapping unit lba room) = ask_then unit (Act.MapStatus lba) (told_map room)
-by_phase config (PlainPhase.Mapped room runs) = told_map room (Answer.Status runs)
-by_phase config (PlainPhase.Told bytes) = good bytes
+by_phase config (PlainPhase.Mapping unit lba allocation) = ask_then unit (Act.MapStatus lba) (told_map allocation)
+by_phase config (PlainPhase.Mapped allocation runs) = told_map allocation (Answer.Status runs)
+by_phase config (PlainPhase.Ready bytes) = good bytes
 
 -- what is asked may be asked, and what was answered may be told
 abbrev pub IsSoundPhase : Configuration → PlainPhase → Type 0
 IsSoundPhase config (PlainPhase.Reading unit lba count) = IsAskedOf config unit (Act.Read lba count)
 IsSoundPhase config (PlainPhase.Writing unit lba list) = IsAskedOf config unit (Act.Write lba list)
 IsSoundPhase config (PlainPhase.Unmapping unit ranges) = IsAskedOf config unit (Act.Unmap ranges)
-IsSoundPhase config (PlainPhase.Mapping unit lba room) = IsAskedOf config unit (Act.MapStatus lba)
+IsSoundPhase config (PlainPhase.Mapping unit lba allocation) = IsAskedOf config unit (Act.MapStatus lba)
 IsSoundPhase config (PlainPhase.Read list) = FitsReply list
-IsSoundPhase config (PlainPhase.Mapped room runs) = AreTold runs
-IsSoundPhase config (PlainPhase.Told bytes) = length bytes ≤ data_limit
+IsSoundPhase config (PlainPhase.Mapped allocation runs) = AreTold runs
+IsSoundPhase config (PlainPhase.Ready bytes) = length bytes ≤ data_limit

@@ -8,7 +8,7 @@ ghost use Rattle.cmd_program.specs.declared.step.Step.{Step};
 ghost use Rattle.cmd_program.specs.SingleActs.{act_alone, blocks_in};
 ghost use Rattle.cmd_program.specs.Meaning.{IsWritable, FitsReply};
 ghost use Rattle.plain_cmds.specs.Meaning.{by_phase, IsSoundPhase};
-ghost use Rattle.cmd_machine.specs.Standing.{standing, IsSoundAt};
+ghost use Rattle.cmd_machine.specs.Rest.{rest_of, IsSoundAt};
 
 use crate::phase::{Command, PlainPhase};
 use cm_base::{OutOfMemory, Payload};
@@ -40,7 +40,7 @@ pub(crate) fn write(
     requires few { count ≤ 2048 }
     requires some { 0 < block_length }
     requires whole { length out ≡ count * block_length }
-    ensures program { (config : Configuration) → IfOk result (λ c. standing by_phase config c ≡ act_alone unit (Act.Write lba (blocks_in block_length out))) }
+    ensures program { (config : Configuration) → IfOk result (λ c. rest_of by_phase config c ≡ act_alone unit (Act.Write lba (blocks_in block_length out))) }
     ensures sound { (config : Configuration) → unit < length config.units
         → (unit_of config unit).block_length ≡ block_length
         → IfOk result (λ c. IsSoundAt IsSoundPhase config c) }

@@ -6,7 +6,7 @@ ghost use Rattle.scsi_inquiry.specs.UnitData.{capacity10, report_luns};
 ghost use Rattle.cmd_program.specs.Program.{good};
 ghost use Rattle.cmd_program.specs.SingleActs.{inquiry};
 ghost use Rattle.plain_cmds.specs.Meaning.{by_phase, IsSoundPhase};
-ghost use Rattle.cmd_machine.specs.Standing.{standing, IsSoundAt};
+ghost use Rattle.cmd_machine.specs.Rest.{rest_of, IsSoundAt};
 
 use crate::phase::{Command, PlainPhase};
 use cm_base::{Config, OutOfMemory, Payload};
@@ -15,24 +15,24 @@ use scsi_inquiry::{standard, vpd};
 use scsi_sense::Sense;
 use std::alloc::Global;
 
-/// GOOD with the first `room` bytes of some data, `room` being the allocation length.
-pub(crate) fn told(alloc: Global, room: u32, bytes: &[u8]) -> Result<Command, OutOfMemory>
-    requires { min room (length bytes.now) ≤ 8_388_608 }
-    ensures program { (config : Configuration) → IfOk result (λ c. standing by_phase config c ≡ good (take room bytes.now)) }
+/// GOOD with the first `allocation` bytes of some data, `allocation` being the allocation length.
+pub(crate) fn told(alloc: Global, allocation: u32, bytes: &[u8]) -> Result<Command, OutOfMemory>
+    requires { min allocation (length bytes.now) ≤ 8_388_608 }
+    ensures program { (config : Configuration) → IfOk result (λ c. rest_of by_phase config c ≡ good (take allocation bytes.now)) }
     ensures sound { (config : Configuration) → IfOk result (λ c. IsSoundAt IsSoundPhase config c) }
 {
     let mut bytes = Payload::copy_from_slice(alloc, bytes)?;
-    bytes.truncate(room as usize);
-    Ok(CommandOf::At(PlainPhase::Told { bytes }))
+    bytes.truncate(allocation as usize);
+    Ok(CommandOf::At(PlainPhase::Ready { bytes }))
 }
 
 /// A REQUEST SENSE: no sense is kept for it, as each reply has its own.
-pub(crate) fn request_sense(alloc: Global, room: u8) -> Result<Command, OutOfMemory>
-    ensures program { (config : Configuration) → IfOk result (λ c. standing by_phase config c ≡ good (take room (sense_bytes no_additional_sense))) }
+pub(crate) fn request_sense(alloc: Global, allocation: u8) -> Result<Command, OutOfMemory>
+    ensures program { (config : Configuration) → IfOk result (λ c. rest_of by_phase config c ≡ good (take allocation (sense_bytes no_additional_sense))) }
     ensures sound { (config : Configuration) → IfOk result (λ c. IsSoundAt IsSoundPhase config c) }
 {
     let sense = Sense::no_additional_sense();
-    told(alloc, u32::from(room), &sense.to_bytes())
+    told(alloc, u32::from(allocation), &sense.to_bytes())
 }
 
 /// An INQUIRY: a vital product data page where EVPD is set, and otherwise the standard data, for
@@ -42,18 +42,18 @@ pub(crate) fn inquiry(
     unit: u16,
     evpd: bool,
     page: u8,
-    room: u16,
+    allocation: u16,
 ) -> Result<Command, OutOfMemory>
-    ensures program { (config : Configuration) → IfOk result (λ c. standing by_phase config c ≡ inquiry unit evpd page room) }
+    ensures program { (config : Configuration) → IfOk result (λ c. rest_of by_phase config c ≡ inquiry unit evpd page allocation) }
     ensures sound { (config : Configuration) → IfOk result (λ c. IsSoundAt IsSoundPhase config c) }
 {
     if evpd {
         match vpd(alloc, unit, page)? {
-            Some(data) => told(alloc, u32::from(room), data.as_slice()),
+            Some(data) => told(alloc, u32::from(allocation), data.as_slice()),
             None => Ok(CommandOf::Ended(Ended::Refused(Sense::invalid_field_in_cdb()))),
         }
     } else if page == 0 {
-        told(alloc, u32::from(room), &standard())
+        told(alloc, u32::from(allocation), &standard())
     } else {
         Ok(CommandOf::Ended(Ended::Refused(Sense::invalid_field_in_cdb())))
     }
@@ -66,18 +66,18 @@ pub(crate) fn read_capacity10(
     unit: u16,
 ) -> Result<Command, OutOfMemory>
     requires { unit < length config.now.units }
-    ensures program { IfOk result (λ c. standing by_phase config.now c ≡ good (capacity10 config.now unit)) }
+    ensures program { IfOk result (λ c. rest_of by_phase config.now c ≡ good (capacity10 config.now unit)) }
     ensures sound { IfOk result (λ c. IsSoundAt IsSoundPhase config.now c) }
 {
     let bytes = Payload::copy_from_slice(alloc, &scsi_inquiry::read_capacity10(config, unit))?;
-    Ok(CommandOf::At(PlainPhase::Told { bytes }))
+    Ok(CommandOf::At(PlainPhase::Ready { bytes }))
 }
 
 /// A REPORT LUNS; SELECT REPORT is ignored.
-pub(crate) fn report_luns(alloc: Global, config: &Config, room: u32) -> Result<Command, OutOfMemory>
-    ensures program { IfOk result (λ c. standing by_phase config.now c ≡ good (take room (report_luns config.now))) }
+pub(crate) fn report_luns(alloc: Global, config: &Config, allocation: u32) -> Result<Command, OutOfMemory>
+    ensures program { IfOk result (λ c. rest_of by_phase config.now c ≡ good (take allocation (report_luns config.now))) }
     ensures sound { IfOk result (λ c. IsSoundAt IsSoundPhase config.now c) }
 {
     let data = scsi_inquiry::report_luns(alloc, config)?;
-    told(alloc, room, data.as_slice())
+    told(alloc, allocation, data.as_slice())
 }

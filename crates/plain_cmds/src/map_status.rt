@@ -1,7 +1,7 @@
 ghost use Rattle.std.specs.Prelude.{◌≡◌, take, IfOk};
 ghost use Rattle.cm_frame.specs.declared.frame.Reply.{Reply};
 ghost use Rattle.cmd_program.specs.declared.step.Step.{Step};
-ghost use Rattle.cmd_program.specs.Told.{run_bytes, map_bytes};
+ghost use Rattle.cmd_program.specs.AnswerBytes.{run_bytes, map_bytes};
 ghost use Rattle.cmd_program.specs.Meaning.{IsWritable, AreTold};
 
 use cm_base::{Bytes, OutOfMemory, Payload, set_u32, set_u64};
@@ -44,13 +44,13 @@ fn status_data(alloc: Global, runs: &StatusList) -> Result<Bytes, OutOfMemory>
     Ok(data)
 }
 
-/// GOOD with the first `room` bytes of what is told of the runs.
-pub(crate) fn runs_told(alloc: Global, room: u32, runs: &StatusList) -> Result<Step, OutOfMemory>
+/// GOOD with the first `allocation` bytes of what is told of the runs.
+pub(crate) fn runs_told(alloc: Global, allocation: u32, runs: &StatusList) -> Result<Step, OutOfMemory>
     requires { AreTold runs.now }
-    ensures told { IfOk result (λ s. s ≡ Step.Done (Reply.Good (take room (map_bytes runs.now)))) }
+    ensures told { IfOk result (λ s. s ≡ Step.Done (Reply.Good (take allocation (map_bytes runs.now)))) }
     ensures fits { IfOk result IsWritable }
 {
     let mut data = Payload::from_vec(status_data(alloc, runs)?.into_vec())?;
-    data.truncate(room as usize);
+    data.truncate(allocation as usize);
     Ok(Step::Done(Reply::Good(data)))
 }

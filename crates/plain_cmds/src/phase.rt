@@ -36,15 +36,15 @@ pub enum PlainPhase {
         unit: u16,
         ranges: RangeList,
     },
-    /// The runs of a GET LBA STATUS are asked for; `room` is its allocation length.
+    /// The runs of a GET LBA STATUS are asked for; `allocation` is its allocation length.
     Mapping {
         unit: u16,
         lba: u64,
-        room: u32,
+        allocation: u32,
     },
     /// The runs of a GET LBA STATUS were answered.
     Mapped {
-        room: u32,
+        allocation: u32,
         runs: StatusList,
     },
     /// The command ends GOOD with this data.
@@ -59,7 +59,7 @@ pub type Command = CommandOf<PlainPhase>;
 impl Phase for PlainPhase {
     ghost use Rattle.cmd_program.specs.Kinds.{is_plain_command};
     ghost use Rattle.plain_cmds.specs.Meaning.{by_phase, IsSoundPhase};
-    ghost use Rattle.plain_cmds.specs.Going.{phase-goes-on};
+    ghost use Rattle.plain_cmds.specs.UnderWay.{phase-goes-on};
 
     ghost kind = { is_plain_command };
 
@@ -88,7 +88,7 @@ impl Phase for PlainPhase {
             Cdb::GetLbaStatus { lba, length } => Ok(CommandOf::At(PlainPhase::Mapping {
                 unit,
                 lba,
-                room: length,
+                allocation: length,
             })),
             Cdb::ReportLuns { length } => report_luns(alloc, config, length),
             Cdb::CopyParameters { length } => told(alloc, length, &copy_parameters()),
@@ -109,12 +109,12 @@ impl Phase for PlainPhase {
             PlainPhase::Read { list } => blocks_told(alloc, list),
             PlainPhase::Writing { unit, lba, list } => write_asked(alloc, *unit, *lba, list),
             PlainPhase::Unmapping { unit, ranges } => unmap_asked(alloc, *unit, ranges),
-            PlainPhase::Mapping { unit, lba, room: _ } => Ok(Step::Do {
+            PlainPhase::Mapping { unit, lba, allocation: _ } => Ok(Step::Do {
                 unit: *unit,
                 act: Act::MapStatus { lba: *lba },
             }),
-            PlainPhase::Mapped { room, runs } => runs_told(alloc, *room, runs),
-            PlainPhase::Told { bytes } => Ok(Step::Done(Reply::Good(bytes.clone()?))),
+            PlainPhase::Mapped { allocation, runs } => runs_told(alloc, *allocation, runs),
+            PlainPhase::Ready { bytes } => Ok(Step::Done(Reply::Good(bytes.clone()?))),
         }
     }
 
@@ -129,8 +129,8 @@ impl Phase for PlainPhase {
             PlainPhase::Writing { .. } | PlainPhase::Unmapping { .. } => {
                 CommandOf::Ended(Ended::unless_refused(answer))
             }
-            PlainPhase::Mapping { room, .. } => match answer {
-                Answer::Status(runs) => CommandOf::At(PlainPhase::Mapped { room, runs }),
+            PlainPhase::Mapping { allocation, .. } => match answer {
+                Answer::Status(runs) => CommandOf::At(PlainPhase::Mapped { allocation, runs }),
                 Answer::Refused(sense) => CommandOf::Ended(Ended::Refused(sense)),
                 _ => unreachable!(),
             },

@@ -5,7 +5,7 @@ ghost use Rattle.cm_history.specs.declared.act.Act.{Act};
 ghost use Rattle.cmd_program.specs.declared.step.Step.{Step};
 ghost use Rattle.cmd_program.specs.SingleActs.{unmap};
 ghost use Rattle.plain_cmds.specs.Meaning.{by_phase, IsSoundPhase};
-ghost use Rattle.cmd_machine.specs.Standing.{standing, IsSoundAt};
+ghost use Rattle.cmd_machine.specs.Rest.{rest_of, IsSoundAt};
 
 use crate::phase::{Command, PlainPhase};
 use block_params::read_unmap;
@@ -18,7 +18,7 @@ use std::alloc::Global;
 
 /// An UNMAP of this list.
 pub(crate) fn unmap(alloc: Global, unit: u16, list: &[u8]) -> Result<Command, OutOfMemory>
-    ensures program { (config : Configuration) → IfOk result (λ c. standing by_phase config c ≡ unmap unit (unmap_read list.now)) }
+    ensures program { (config : Configuration) → IfOk result (λ c. rest_of by_phase config c ≡ unmap unit (unmap_read list.now)) }
     ensures sound { (config : Configuration) → unit < length config.units → IfOk result (λ c. IsSoundAt IsSoundPhase config c) }
 {
     match read_unmap(alloc, list) {

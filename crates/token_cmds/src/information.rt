@@ -8,11 +8,11 @@ ghost use Rattle.cm_history.specs.Forms.{HasForm, IsReport};
 ghost use Rattle.cmd_program.specs.Meaning.{IsWritable};
 ghost use Rattle.cmd_program.specs.Program.{next, ask_then};
 ghost use Rattle.cmd_program.specs.SingleActs.{told_token};
-ghost use Rattle.cmd_machine.specs.Standing.{standing, IsSoundAt};
+ghost use Rattle.cmd_machine.specs.Rest.{rest_of, IsSoundAt};
 ghost use Rattle.token_cmds.specs.Meaning.{by_phase, IsSoundPhase};
 
 use crate::phase::{TokenCommand, TokenPhase};
-use crate::report::{Asked, Told, fields, in_room};
+use crate::report::{ReportQuery, FoundReport, fields, allocated};
 use cm_base::{Config, OutOfMemory};
 use cm_frame::Reply;
 use cm_history::{Answer, OpReport};
@@ -22,25 +22,25 @@ use copy_status::token_information;
 use std::alloc::Global;
 
 /// A RECEIVE ROD TOKEN INFORMATION. It takes no memory.
-pub(crate) fn begin(unit: u16, id: u32, room: u32) -> TokenPhase
+pub(crate) fn begin(unit: u16, id: u32, allocation: u32) -> TokenPhase
     ensures program { (config : Configuration) → by_phase config result
-        ≡ ask_then unit (Act.Report id) (told_token config unit room) }
+        ≡ ask_then unit (Act.Report id) (told_token config unit allocation) }
     ensures sound { (config : Configuration) → unit < length config.units → IsSoundPhase config result }
 {
-    TokenPhase::InformationAsked(Asked { unit, id, room })
+    TokenPhase::InformationAsked(ReportQuery { unit, id, allocation })
 }
 
 /// A RECEIVE ROD TOKEN INFORMATION whose act was answered.
-pub(crate) fn after(asked: Asked, answer: &Answer) -> TokenCommand
+pub(crate) fn after(asked: ReportQuery, answer: &Answer) -> TokenCommand
     requires { (config : Configuration) × HasForm config asked.unit (Act.Report asked.id) answer.now }
-    ensures program { (config : Configuration) → standing by_phase config result
-        ≡ told_token config asked.unit asked.room answer.now }
+    ensures program { (config : Configuration) → rest_of by_phase config result
+        ≡ told_token config asked.unit asked.allocation answer.now }
     ensures sound { (config : Configuration) → asked.unit < length config.units → IsSoundAt IsSoundPhase config result }
 {
     match answer {
-        Answer::Report(report) => CommandOf::At(TokenPhase::InformationTold(Told {
+        Answer::Report(report) => CommandOf::At(TokenPhase::InformationFound(FoundReport {
             unit: asked.unit,
-            room: asked.room,
+            allocation: asked.allocation,
             report: *report,
         })),
         Answer::Refused(sense) => CommandOf::Ended(Ended::Refused(*sense)),
@@ -61,14 +61,14 @@ fn token(config: &Config, unit: u16, report: &OpReport) -> Option<[u8; 512]>
 }
 
 /// Tells the report, with the token that the operation made.
-pub(crate) fn tell(alloc: Global, config: &Config, told: &Told) -> Result<Step, OutOfMemory>
+pub(crate) fn tell(alloc: Global, config: &Config, told: &FoundReport) -> Result<Step, OutOfMemory>
     requires configured { told.now.unit < length config.now.units }
     requires report { IsReport told.now.report }
     ensures next { IfOk result (λ s. s
-        ≡ next (told_token config.now told.now.unit told.now.room (Answer.Report told.now.report))) }
+        ≡ next (told_token config.now told.now.unit told.now.allocation (Answer.Report told.now.report))) }
     ensures fits { IfOk result IsWritable }
 {
     let token = token(config, told.unit, &told.report);
     let bytes = token_information(alloc, &fields(&told.report), token.as_ref())?;
-    Ok(Step::Done(Reply::Good(in_room(bytes, told.room)?)))
+    Ok(Step::Done(Reply::Good(allocated(bytes, told.allocation)?)))
 }

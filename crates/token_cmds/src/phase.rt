@@ -3,7 +3,7 @@ ghost use Rattle.cmd_program.specs.Kinds.{is_token_command};
 
 use crate::abort::Abort;
 use crate::populate::Populate;
-use crate::report::{Asked, Told};
+use crate::report::{ReportQuery, FoundReport};
 use crate::writing::Writing;
 use crate::{abort, information, populate, status, writing};
 use cm_base::{Config, OutOfMemory};
@@ -20,10 +20,10 @@ use std::alloc::Global;
 pub enum TokenPhase {
     Populating(Populate),
     Aborting(Abort),
-    StatusAsked(Asked),
-    StatusTold(Told),
-    InformationAsked(Asked),
-    InformationTold(Told),
+    StatusAsked(ReportQuery),
+    StatusFound(FoundReport),
+    InformationAsked(ReportQuery),
+    InformationFound(FoundReport),
     Writing(Writing),
 }
 
@@ -54,7 +54,7 @@ pub fn is_token_command(cdb: &Cdb) -> bool
 impl Phase for TokenPhase {
     ghost use Rattle.cmd_program.specs.Kinds.{is_token_command};
     ghost use Rattle.token_cmds.specs.Meaning.{by_phase, IsSoundPhase};
-    ghost use Rattle.token_cmds.specs.Going.{phase-goes-on};
+    ghost use Rattle.token_cmds.specs.UnderWay.{phase-goes-on};
 
     ghost kind = { is_token_command };
 
@@ -88,9 +88,9 @@ impl Phase for TokenPhase {
             TokenPhase::Populating(populate) => populate.step(alloc),
             TokenPhase::Aborting(abort) => Ok(abort.step()),
             TokenPhase::StatusAsked(asked) => Ok(asked.step()),
-            TokenPhase::StatusTold(told) => status::tell(alloc, told),
+            TokenPhase::StatusFound(told) => status::tell(alloc, told),
             TokenPhase::InformationAsked(asked) => Ok(asked.step()),
-            TokenPhase::InformationTold(told) => information::tell(alloc, config, told),
+            TokenPhase::InformationFound(told) => information::tell(alloc, config, told),
             TokenPhase::Writing(writing) => writing.step(alloc, config),
         }
     }

@@ -16,7 +16,7 @@ ghost use Rattle.cmd_program.specs.declared.step.Outcome.{Outcome};
 ghost use Rattle.cmd_program.specs.Program.{next, refused, go_on_by, ask_then};
 ghost use Rattle.cmd_program.specs.TokenWrite.{wanted, deleting, advancing, started, redeemed, starting, zero_rod, write_by, write_using_token};
 ghost use Rattle.cmd_machine.specs.Last.{by_last, IsLastOf};
-ghost use Rattle.cmd_machine.specs.Standing.{standing, IsSoundAt, last_ask};
+ghost use Rattle.cmd_machine.specs.Rest.{rest_of, IsSoundAt, last_ask};
 ghost use Rattle.std.specs.Option.{option_map};
 ghost use Rattle.token_cmds.specs.Meaning.{by_phase, by_writing, given, IsGiven, IsSized, IsSoundPhase, IsSoundWriting};
 
@@ -67,7 +67,7 @@ pub(crate) fn begin(
     out: &Payload,
 ) -> Result<TokenCommand, OutOfMemory>
     requires configured { unit < length config.now.units }
-    ensures program { IfOk result (λ c. standing by_phase config.now c
+    ensures program { IfOk result (λ c. rest_of by_phase config.now c
         ≡ write_using_token config.now unit id (write_token_read out.now)) }
     ensures sound { IfOk result (λ c. IsSoundAt IsSoundPhase config.now c) }
 {
@@ -82,7 +82,7 @@ impl Write {
     fn by_token(self, config: &Config) -> TokenCommand
         requires configured { self.unit < length config.now.units }
         requires ranges { range_fault self.list.ranges ≡ None }
-        ensures program { standing by_phase config.now result ≡ write_by config.now (given self) (classify self.list.token) }
+        ensures program { rest_of by_phase config.now result ≡ write_by config.now (given self) (classify self.list.token) }
         ensures sound { IsSoundAt IsSoundPhase config.now result }
     {
         match classify(&self.list.token) {
@@ -98,7 +98,7 @@ impl Write {
         requires configured { self.unit < length config.now.units }
         requires ranges { range_fault self.list.ranges ≡ None }
         requires named { (serial : ℕ) × (classify self.list.token ≡ TokenKind.Names creator serial) }
-        ensures program { standing by_phase config.now result
+        ensures program { rest_of by_phase config.now result
             ≡ (if is_configured config.now creator then ask_then creator (Act.Redeem self.list.token self.unit) (redeemed (given self))
             else refused unknown_token) }
         ensures sound { IsSoundAt IsSoundPhase config.now result }
@@ -167,7 +167,7 @@ impl Write {
 
     /// The phase when all was written.
     fn deleting(&self) -> TokenCommand
-        ensures program { (config : Configuration) → standing by_phase config result ≡ deleting (given self.now) }
+        ensures program { (config : Configuration) → rest_of by_phase config result ≡ deleting (given self.now) }
         ensures sound { (config : Configuration) → IsGiven config self.now → IsSoundAt IsSoundPhase config result }
     {
         if !self.list.delete {
@@ -186,7 +186,7 @@ impl Write {
 
     /// The phase of an operation that runs, when so many Advances are left.
     fn running(self, left: u64) -> TokenCommand
-        ensures program { (config : Configuration) (count : ℕ) → standing by_phase config result
+        ensures program { (config : Configuration) (count : ℕ) → rest_of by_phase config result
             ≡ advancing (given self) left (Answer.Progress OpState.Running count) }
         ensures sound { (config : Configuration) → IsGiven config self → IsSoundAt IsSoundPhase config result }
     {
@@ -203,7 +203,7 @@ impl Write {
     /// left.
     fn advanced(self, left: u64, answer: Answer) -> TokenCommand
         requires { HasKind (Act.Advance self.id) answer }
-        ensures program { (config : Configuration) → standing by_phase config result ≡ advancing (given self) left answer }
+        ensures program { (config : Configuration) → rest_of by_phase config result ≡ advancing (given self) left answer }
         ensures sound { (config : Configuration) → IsGiven config self → IsSoundAt IsSoundPhase config result }
     {
         match answer {
@@ -221,7 +221,7 @@ impl Write {
     /// The phase after the Start was answered.
     fn started(self, answer: Answer) -> TokenCommand
         requires { (rod : HeldBlocks) × HasKind (Act.Start self.id self.list.immed self.list.ranges rod) answer }
-        ensures program { (config : Configuration) → standing by_phase config result
+        ensures program { (config : Configuration) → rest_of by_phase config result
             ≡ started (given self) self.list.immed answer }
         ensures sound { (config : Configuration) → IsGiven config self → IsSoundAt IsSoundPhase config result }
     {
@@ -239,7 +239,7 @@ impl Write {
     fn started_part(self, rod: &BlockList, answer: Answer) -> TokenCommand
         requires { (config : Configuration)
             × MayFollow config (next (redeemed (given self) (Answer.Rod rod.now))) (Outcome.Answered answer) }
-        ensures program { (config : Configuration) → standing by_phase config result
+        ensures program { (config : Configuration) → rest_of by_phase config result
             ≡ go_on_by (redeemed (given self) (Answer.Rod rod.now)) answer }
         ensures sound { (config : Configuration) → IsGiven config self → IsSoundAt IsSoundPhase config result }
     {
@@ -283,7 +283,7 @@ impl Writing {
     pub(crate) fn after(self, config: &Config, answer: Answer) -> TokenCommand
         requires sound { IsSoundWriting config.now self }
         requires follows { MayFollow config.now (next (by_writing config.now self)) (Outcome.Answered answer) }
-        ensures program { standing by_phase config.now result ≡ go_on_by (by_writing config.now self) answer }
+        ensures program { rest_of by_phase config.now result ≡ go_on_by (by_writing config.now self) answer }
         ensures sound { IsSoundAt IsSoundPhase config.now result }
     {
         let _ = config;

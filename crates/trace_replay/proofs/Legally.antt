@@ -17,7 +17,7 @@ use Rattle.trace_replay.specs.declared.summary.Summary.{Summary}
 use Rattle.trace_replay.specs.declared.fault.ReplayFault.{ReplayFault}
 use Rattle.trace_replay.specs.declared.fault.ReplayFault.TheVariants.{ReadFault, WriteFault, OutOfMemory}
 use Rattle.cmd_program.specs.Stepping.{Stepping}
-use Rattle.trace_replay.specs.Standing.{Standing, Mark, new_entry}
+use Rattle.trace_replay.specs.ReplayState.{ReplayState, Shortage, new_entry}
 use Rattle.trace_replay.specs.Played.{Played, played}
 use Rattle.trace_replay.specs.Replayed.{IsHistory, HasPlayedFirst, IsLegalBy}
 use Rattle.trace_replay.specs.inner.Laws.{HasHeader}
@@ -64,28 +64,28 @@ header-more config pulled more h = record { used = h.used; read = header-stays p
 one-config : (config config' : Configuration) (used used' : ℕ) → Whole config used ≡ Whole config' used' → config ≡ config'
 one-config config config' used used' e = cc
 
-pub history-at : (config : Configuration) (bytes : List ℕ) (s : Standing) (p : Played) → HasHeader config bytes → IsLegal config s.entries
-    → p.standing ≡ s → IsHistory bytes p
+pub history-at : (config : Configuration) (bytes : List ℕ) (s : ReplayState) (p : Played) → HasHeader config bytes → IsLegal config s.entries
+    → p.state ≡ s → IsHistory bytes p
 history-at config bytes s p header legal ends = λ config' used read.
     let same = one-config config config' _ used (sym header.read ∙ read) in
-    subst (λ (t : Standing). IsLegal config' t.entries) (sym ends) (subst (λ c. IsLegal c s.entries) same legal)
+    subst (λ (t : ReplayState). IsLegal config' t.entries) (sym ends) (subst (λ c. IsLegal c s.entries) same legal)
 
 -- nothing was played yet
-pub first-none : (step : Stepping) (pulled : List ℕ) (marks : List Mark) → HasPlayedFirst step pulled marks []
-first-none step pulled marks = record {
+pub first-none : (step : Stepping) (pulled : List ℕ) (shortages : List Shortage) → HasPlayedFirst step pulled shortages []
+first-none step pulled shortages = record {
   front = [];
   begins = (pulled, refl);
   legal = λ config used read. legal-none config;
   output = ([], refl);
 }
 
-pub legal-by : (step : Stepping) (bytes pulled : List ℕ) (marks : List Mark) (pushed : List ℕ) (answer : Result Summary ReplayFault)
-    → IsHistory bytes (played step bytes marks) → HasPlayedFirst step pulled marks pushed → IsLegalBy step bytes pulled marks pushed answer
-legal-by step bytes pulled marks pushed (Ok x) h f = h
-legal-by step bytes pulled marks pushed (Err ReadFault) h f = h
-legal-by step bytes pulled marks pushed (Err WriteFault) h f = f
-legal-by step bytes pulled marks pushed (Err OutOfMemory) h f = f
-legal-by step bytes pulled marks pushed (Err (ReplayFault.Torn place)) h f = h
-legal-by step bytes pulled marks pushed (Err (ReplayFault.BadHeader place)) h f = h
-legal-by step bytes pulled marks pushed (Err (ReplayFault.BadRecord place)) h f = h
-legal-by step bytes pulled marks pushed (Err ReplayFault.Records) h f = h
+pub legal-by : (step : Stepping) (bytes pulled : List ℕ) (shortages : List Shortage) (pushed : List ℕ) (answer : Result Summary ReplayFault)
+    → IsHistory bytes (played step bytes shortages) → HasPlayedFirst step pulled shortages pushed → IsLegalBy step bytes pulled shortages pushed answer
+legal-by step bytes pulled shortages pushed (Ok x) h f = h
+legal-by step bytes pulled shortages pushed (Err ReadFault) h f = h
+legal-by step bytes pulled shortages pushed (Err WriteFault) h f = f
+legal-by step bytes pulled shortages pushed (Err OutOfMemory) h f = f
+legal-by step bytes pulled shortages pushed (Err (ReplayFault.Torn place)) h f = h
+legal-by step bytes pulled shortages pushed (Err (ReplayFault.BadHeader place)) h f = h
+legal-by step bytes pulled shortages pushed (Err (ReplayFault.BadRecord place)) h f = h
+legal-by step bytes pulled shortages pushed (Err ReplayFault.Records) h f = h

@@ -2,11 +2,11 @@ pub mod Alone
 pub mod Steps
 pub mod Grows
 pub mod Exits
-pub mod Telling
+pub mod ShownShortages
 pub mod Written
 pub mod Legally
-pub mod Doing
-pub mod Going
+pub mod UnitActs
+pub mod CommandSteps
 pub mod Running
 pub mod Sizes
 pub mod Playing

@@ -20,12 +20,12 @@ use Rattle.cmd_program.specs.Stepping.{gave_up}
 use Rattle.trace_replay.specs.declared.nexus.Waiting.{Waiting}
 use Rattle.trace_replay.specs.declared.nexus.Nexus.{Nexus}
 use Rattle.trace_replay.specs.declared.machine.Machine.{Machine}
-use Rattle.trace_replay.specs.Standing.{Pending, Standing, Mark, NoMark, AtBegin, AtAct, AtStep, is_of, waiting, without, seq, new_entry, has_no_room, entries_after, entries_at, next_step, goes_on, acted, noted_act, did, ran, next, fits}
-use Rattle.trace_replay.specs.Played.{mark_for}
-use Rattle.trace_replay.specs.Marks.{is_no_mark, allowed_at_act, allowed_at_run, is_allowed}
+use Rattle.trace_replay.specs.ReplayState.{Pending, ReplayState, Shortage, NoShortage, AtBegin, AtAct, AtStep, is_of, waiting, without, seq, new_entry, has_no_room, entries_after, entries_at, next_step, goes_on, acted, noted_act, did, ran, next, fits}
+use Rattle.trace_replay.specs.Played.{shortage_for}
+use Rattle.trace_replay.specs.Shortages.{is_no_shortage, allowed_at_act, allowed_at_run, is_allowed}
 use Rattle.trace_replay.specs.inner.Machines.{HaveCounted, IsWaiting, WentOn, HasBegun, HasRun, WaitsFor, IsNexus, IsStanding, IsEffect, effect_of}
-use Rattle.trace_replay.proofs.Doing.{seq-other, not-equal}
-use Rattle.trace_replay.proofs.Telling.{waits-last, find-of}
+use Rattle.trace_replay.proofs.UnitActs.{seq-other, not-equal}
+use Rattle.trace_replay.proofs.ShownShortages.{waits-last, find-of}
 
 -- ---- who waits
 
@@ -60,9 +60,9 @@ seq-after config entries actor u moment act i other = go (has_no_room config ent
     go true = refl
     go false = seq-other (Actor.Nexus i) entries (new_entry entries actor u moment act) other
 
-seq-at : (mark : Mark) (i : ℕ) (entries later : List Entry) → seq (Actor.Nexus i) later ≡ seq (Actor.Nexus i) entries
-    → seq (Actor.Nexus i) (entries_at mark entries later) ≡ seq (Actor.Nexus i) entries
-seq-at NoMark i entries later e = e
+seq-at : (shortage : Shortage) (i : ℕ) (entries later : List Entry) → seq (Actor.Nexus i) later ≡ seq (Actor.Nexus i) entries
+    → seq (Actor.Nexus i) (entries_at shortage entries later) ≡ seq (Actor.Nexus i) entries
+seq-at NoShortage i entries later e = e
 seq-at AtBegin i entries later e = e
 seq-at AtAct i entries later e = refl
 seq-at AtStep i entries later e = e
@@ -74,15 +74,15 @@ nexus-so config entries later i found (Some nexus) same is = (is.0 ∙ sym same,
 
 -- ---- a pump
 
-pub pumped : (config : Configuration) (s : Standing) (m m' : Machine) (unit moment : ℕ) → IsStanding config s m → nat_lt unit (length config.units) ≡ true
+pub pumped : (config : Configuration) (s : ReplayState) (m m' : Machine) (unit moment : ℕ) → IsStanding config s m → nat_lt unit (length config.units) ≡ true
     → m'.config ≡ m.config → m'.nexuses ≡ m.nexuses
     → HaveCounted config (entries_after config s.entries (Actor.Pump unit) unit moment Act.Pump) m'.units
     → IsEffect config s (TraceItem.Pump unit moment) (effect_of unit None) m'
 pumped config s m m' unit moment is there told nexuses units = record {
   fit = there;
-  mark = NoMark;
+  shortage = NoShortage;
   allowed = refl;
-  standing = record {
+  state = record {
     told = told ∙ is.told;
     units = units;
     nexuses = λ i.
@@ -120,7 +120,7 @@ not-at i q other = by (nat_lt i q)
     by true = refl
     by false = rw apart refl
 
-module _ (config : Configuration) (t : Standing) (p : Pending) (nexus : Nexus) (m : Machine) (told : m.config ≡ config) (units : HaveCounted config t.entries m.units)
+module _ (config : Configuration) (t : ReplayState) (p : Pending) (nexus : Nexus) (m : Machine) (told : m.config ≡ config) (units : HaveCounted config t.entries m.units)
     (others : (j : ℕ) → (j ≡ p.initiator → ⊥) → IsNexus config t.entries j (waiting j t.pending) (get nat_cmp m.nexuses j))
     (mine : get nat_cmp m.nexuses p.initiator ≡ Some nexus) (n : nexus.seq ≡ seq (Actor.Nexus p.initiator) t.entries) where
   kept : (found : Option Pending) (pending : List Pending) → waiting p.initiator pending ≡ found → WaitsFor config nexus.waiting found
@@ -150,28 +150,28 @@ module _ (config : Configuration) (t : Standing) (p : Pending) (nexus : Nexus) (
         (λ j other. waits-so j p.initiator t.pending (p ∷ []) other (rw (not-equal p.initiator j (λ e. other (sym e))) refl));
   }
 
-  module _ (s : Standing) (item : TraceItem) (mark : Mark) (fit : fits config s item ≡ true) (allowed : is_allowed step config s item (mark_for item (mark ∷ [])) ≡ true)
+  module _ (s : ReplayState) (item : TraceItem) (shortage : Shortage) (fit : fits config s item ≡ true) (allowed : is_allowed step config s item (shortage_for item (shortage ∷ [])) ≡ true)
       (replies : t.replies ≡ s.replies) where
-    effect : (nx : Step) (waits : Option Waiting) (reply : Option Reply) → next step config s item (mark_for item (mark ∷ [])) ≡ goes_on t p nx → nexus.waiting ≡ waits
+    effect : (nx : Step) (waits : Option Waiting) (reply : Option Reply) → next step config s item (shortage_for item (shortage ∷ [])) ≡ goes_on t p nx → nexus.waiting ≡ waits
         → Goes config p nx waits reply → IsEffect config s item (effect_of p.initiator reply) m
     effect nx None None to is goes = absurd goes
     effect nx (Some w) None to is goes =
-        let same : next step config s item (mark_for item (mark ∷ [])) ≡ goes_on t p (Step.Do w.unit w.act) = to ∙ ap (goes_on t p) goes.1 in
+        let same : next step config s item (shortage_for item (shortage ∷ [])) ≡ goes_on t p (Step.Do w.unit w.act) = to ∙ ap (goes_on t p) goes.1 in
         record {
           fit = fit;
-          mark = mark;
+          shortage = shortage;
           allowed = allowed;
-          standing = subst (λ x. IsStanding config x m) (sym same) (waits-on w w.unit w.act is goes.0);
-          replied = ap (λ (x : Standing). x.replies) same ∙ replies ∙ sym (append-nil s.replies);
+          state = subst (λ x. IsStanding config x m) (sym same) (waits-on w w.unit w.act is goes.0);
+          replied = ap (λ (x : ReplayState). x.replies) same ∙ replies ∙ sym (append-nil s.replies);
         }
     effect nx None (Some reply) to is goes =
-        let same : next step config s item (mark_for item (mark ∷ [])) ≡ goes_on t p (Step.Done reply) = to ∙ ap (goes_on t p) goes.0 in (
+        let same : next step config s item (shortage_for item (shortage ∷ [])) ≡ goes_on t p (Step.Done reply) = to ∙ ap (goes_on t p) goes.0 in (
           record {
             fit = fit;
-            mark = mark;
+            shortage = shortage;
             allowed = allowed;
-            standing = subst (λ x. IsStanding config x m) (sym same) (answered reply is);
-            replied = ap (λ (x : Standing). x.replies) same ∙ ap (λ rs. rs ++ (record { initiator = p.initiator; reply = reply }) ∷ []) replies;
+            state = subst (λ x. IsStanding config x m) (sym same) (answered reply is);
+            replied = ap (λ (x : ReplayState). x.replies) same ∙ ap (λ rs. rs ++ (record { initiator = p.initiator; reply = reply }) ∷ []) replies;
           },
           goes.1,
         )
@@ -190,14 +190,14 @@ none-waits n e = by n.waiting e
     by (Some w) e = cc
 
 -- a command of a nexus where none waited was begun
-pub begun : (config : Configuration) (s : Standing) (m m' : Machine) (i moment : ℕ) (request : Request) (nexus : Nexus) (reply : Option Reply) → IsStanding config s m
+pub begun : (config : Configuration) (s : ReplayState) (m m' : Machine) (i moment : ℕ) (request : Request) (nexus : Nexus) (reply : Option Reply) → IsStanding config s m
     → (nexus_of (get nat_cmp m.nexuses i)).waiting ≡ None → nexus.seq ≡ (nexus_of (get nat_cmp m.nexuses i)).seq
-    → ((mark : Mark) × HasBegun m.config i request mark nexus.waiting reply) → m'.config ≡ m.config → m'.units ≡ m.units → get nat_cmp m'.nexuses i ≡ Some nexus → ((q : ℕ) → is_eq (nat_cmp i q) ≡ false → get nat_cmp m'.nexuses q ≡ get nat_cmp m.nexuses q)
+    → ((shortage : Shortage) × HasBegun m.config i request shortage nexus.waiting reply) → m'.config ≡ m.config → m'.units ≡ m.units → get nat_cmp m'.nexuses i ≡ Some nexus → ((q : ℕ) → is_eq (nat_cmp i q) ≡ false → get nat_cmp m'.nexuses q ≡ get nat_cmp m.nexuses q)
     → IsEffect config s (TraceItem.Begin i moment request) (effect_of i reply) m'
 begun config s m m' i moment request nexus reply is idle right began told units put rest =
     by began.0 (subst (λ k. HasBegun k i request began.0 nexus.waiting reply) is.told began.1)
   where
-    t : Standing
+    t : ReplayState
     t = record s { items = s.items + 1 }
 
     none : (found : Option Nexus) (p : Option Pending) → IsNexus config s.entries i p found → (nexus_of found).waiting ≡ None → p ≡ None
@@ -215,17 +215,17 @@ begun config s m m' i moment request nexus reply is idle right began told units 
     others : (j : ℕ) → (j ≡ i → ⊥) → IsNexus config s.entries j (waiting j s.pending) (get nat_cmp m'.nexuses j)
     others j other = subst (λ n. IsNexus config s.entries j (waiting j s.pending) n) (sym (rest j (not-at i j other))) (is.nexuses j)
 
-    goes : (mark : Mark) (outcomes : List Outcome) (nx : Step) → is_allowed step config s (TraceItem.Begin i moment request) mark ≡ true
-        → next step config s (TraceItem.Begin i moment request) mark ≡ goes_on t (record { initiator = i; request = request; outcomes = outcomes }) nx
+    goes : (shortage : Shortage) (outcomes : List Outcome) (nx : Step) → is_allowed step config s (TraceItem.Begin i moment request) shortage ≡ true
+        → next step config s (TraceItem.Begin i moment request) shortage ≡ goes_on t (record { initiator = i; request = request; outcomes = outcomes }) nx
         → Goes config (record { initiator = i; request = request; outcomes = outcomes }) nx nexus.waiting reply
         → IsEffect config s (TraceItem.Begin i moment request) (effect_of i reply) m'
-    goes mark outcomes nx allowed same so =
+    goes shortage outcomes nx allowed same so =
         effect config t (record { initiator = i; request = request; outcomes = outcomes }) nexus m' (told ∙ is.told) (subst (HaveCounted config s.entries) (sym units) is.units)
         others put (right ∙ count (get nat_cmp m.nexuses i) (waiting i s.pending) (is.nexuses i))
-        s (TraceItem.Begin i moment request) mark fit allowed refl nx nexus.waiting reply same refl so
+        s (TraceItem.Begin i moment request) shortage fit allowed refl nx nexus.waiting reply same refl so
 
-    by : (mark : Mark) → HasBegun config i request mark nexus.waiting reply → IsEffect config s (TraceItem.Begin i moment request) (effect_of i reply) m'
-    by NoMark went = goes NoMark [] (next_step step config (record { initiator = i; request = request; outcomes = [] })) refl refl
+    by : (shortage : Shortage) → HasBegun config i request shortage nexus.waiting reply → IsEffect config s (TraceItem.Begin i moment request) (effect_of i reply) m'
+    by NoShortage went = goes NoShortage [] (next_step step config (record { initiator = i; request = request; outcomes = [] })) refl refl
         (went-goes config (record { initiator = i; request = request; outcomes = [] }) nexus.waiting reply went)
     by AtStep went = goes AtStep (Outcome.NoMemory ∷ []) (next_step step config (record { initiator = i; request = request; outcomes = Outcome.NoMemory ∷ [] })) refl refl
         (went-goes config (record { initiator = i; request = request; outcomes = Outcome.NoMemory ∷ [] }) nexus.waiting reply went)
@@ -233,7 +233,7 @@ begun config s m m' i moment request nexus reply is idle right began told units 
     by AtAct went = absurd went
 
 -- the command of a nexus that waited was run
-pub ran-on : (config : Configuration) (s : Standing) (m m' : Machine) (i moment : ℕ) (before nexus : Nexus) (w : Waiting) (reply : Option Reply) → IsStanding config s m
+pub ran-on : (config : Configuration) (s : ReplayState) (m m' : Machine) (i moment : ℕ) (before nexus : Nexus) (w : Waiting) (reply : Option Reply) → IsStanding config s m
     → get nat_cmp m.nexuses i ≡ Some before → before.waiting ≡ Some w
     → ((p : Pending) → IsWaiting config w p → p.initiator ≡ i → before.seq ≡ seq (Actor.Nexus i) s.entries → HasRun config s.entries p w.unit moment w.act m'.units nexus reply)
     → m'.config ≡ m.config → get nat_cmp m'.nexuses i ≡ Some nexus → ((q : ℕ) → is_eq (nat_cmp i q) ≡ false → get nat_cmp m'.nexuses q ≡ get nat_cmp m.nexuses q)
@@ -248,7 +248,7 @@ ran-on config s m m' i moment before nexus w reply is at some has told put rest 
     by None e waits right = absurd waits
     by (Some p) e waits right = subst (λ k. IsEffect config s (TraceItem.Run i moment) (effect_of k reply) m') mine
         (effect config t q nexus m' (told ∙ is.told) run.units others (subst (λ k. get nat_cmp m'.nexuses k ≡ Some nexus) (sym mine) put) run.seq
-        s (TraceItem.Run i moment) run.mark fit allowed refl (next_step step config q) nexus.waiting reply same refl (went-goes config q nexus.waiting reply run.went))
+        s (TraceItem.Run i moment) run.shortage fit allowed refl (next_step step config q) nexus.waiting reply same refl (went-goes config q nexus.waiting reply run.went))
       where
         mine : p.initiator ≡ i
         mine = find-of i s.pending p e
@@ -256,30 +256,30 @@ ran-on config s m m' i moment before nexus w reply is at some has told put rest 
         run : HasRun config s.entries p w.unit moment w.act m'.units nexus reply
         run = has p waits mine right
 
-        t : Standing
-        t = acted config (record s { items = s.items + 1 }) (Actor.Nexus p.initiator) w.unit moment w.act run.mark
+        t : ReplayState
+        t = acted config (record s { items = s.items + 1 }) (Actor.Nexus p.initiator) w.unit moment w.act run.shortage
 
         q : Pending
-        q = noted_act config (record s { items = s.items + 1 }) p w.unit moment w.act run.mark
+        q = noted_act config (record s { items = s.items + 1 }) p w.unit moment w.act run.shortage
 
         fit : fits config s (TraceItem.Run i moment) ≡ true
         fit = ap is_some e
 
-        allowed : is_allowed step config s (TraceItem.Run i moment) run.mark ≡ true
+        allowed : is_allowed step config s (TraceItem.Run i moment) run.shortage ≡ true
         allowed =
-            ap (allowed_at_run step config s run.mark) e
-            ∙ ap (λ nx. cond (gave_up p.outcomes) (is_no_mark run.mark) (allowed_at_act config s.entries (Actor.Nexus p.initiator) run.mark nx)) waits.asks
+            ap (allowed_at_run step config s run.shortage) e
+            ∙ ap (λ nx. cond (gave_up p.outcomes) (is_no_shortage run.shortage) (allowed_at_act config s.entries (Actor.Nexus p.initiator) run.shortage nx)) waits.asks
             ∙ run.allowed
 
-        same : next step config s (TraceItem.Run i moment) run.mark ≡ goes_on t q (next_step step config q)
+        same : next step config s (TraceItem.Run i moment) run.shortage ≡ goes_on t q (next_step step config q)
         same =
-            ap (ran step config (record s { items = s.items + 1 }) moment run.mark) e
-            ∙ ap (did step config (record s { items = s.items + 1 }) moment p run.mark) waits.asks
+            ap (ran step config (record s { items = s.items + 1 }) moment run.shortage) e
+            ∙ ap (did step config (record s { items = s.items + 1 }) moment p run.shortage) waits.asks
 
         others : (j : ℕ) → (j ≡ p.initiator → ⊥) → IsNexus config t.entries j (waiting j s.pending) (get nat_cmp m'.nexuses j)
         others j other =
             let kept : IsNexus config s.entries j (waiting j s.pending) (get nat_cmp m'.nexuses j) =
             subst (λ n. IsNexus config s.entries j (waiting j s.pending) n) (sym (rest j (not-at i j (λ a. other (a ∙ sym mine))))) (is.nexuses j) in
             nexus-so config s.entries t.entries j (waiting j s.pending) (get nat_cmp m'.nexuses j)
-            (seq-at run.mark j s.entries (entries_after config s.entries (Actor.Nexus p.initiator) w.unit moment w.act)
+            (seq-at run.shortage j s.entries (entries_after config s.entries (Actor.Nexus p.initiator) w.unit moment w.act)
             (seq-after config s.entries (Actor.Nexus p.initiator) w.unit moment w.act j (not-equal p.initiator j (λ a. other (sym a))))) kept

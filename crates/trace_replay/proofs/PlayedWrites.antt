@@ -27,9 +27,9 @@ use Rattle.cmd_program.specs.WriteEnds.{EndsWell, IsNotStopped}
 use Rattle.cmd_program.proofs.WriteEnds.{writes-end-well}
 use Rattle.cmd_program.proofs.WriteStops.{writes-are-not-stopped}
 use Rattle.trace_replay.specs.Items.{Placed, Ending, BadRecord, trace_of, items_limit}
-use Rattle.trace_replay.specs.Standing.{Pending, Record, Standing, Mark, NoMark, AtBegin, AtAct, AtStep, is_of, waiting, without, replied, goes_on, next_step, gone_on, begun, noted, noted_at_step, outcomes_at, entries_at, entries_after, new_entry, acted, noted_act, did, ran, fits, has_no_room, outcome_of, at_first}
-use Rattle.trace_replay.specs.Standing as standing
-use Rattle.trace_replay.specs.Played.{played, played_after, play, mark_for, marks_behind}
+use Rattle.trace_replay.specs.ReplayState.{Pending, AddressedReply, ReplayState, Shortage, NoShortage, AtBegin, AtAct, AtStep, is_of, waiting, without, replied, goes_on, next_step, gone_on, begun, noted, noted_at_step, outcomes_at, entries_at, entries_after, new_entry, acted, noted_act, did, ran, fits, has_no_room, outcome_of, at_first}
+use Rattle.trace_replay.specs.ReplayState as state
+use Rattle.trace_replay.specs.Played.{played, played_after, play, shortage_for, shortages_behind}
 use Rattle.trace_replay.specs.Ended.{Ended, ended_by, ended_now, ended_at_act, ended_at_run, ended_at, ended_in, ended_after, ended, reply_to, IsKeptTo}
 
 -- ---- the run of a command, and the history at its end
@@ -69,9 +69,9 @@ runs-on config nexus p before (Outcome.Answered told ∷ os) more after later ru
 runs-on config nexus p before (Outcome.Full ∷ os) more after later run on = runs-on config nexus (give_up p Reply.Full) before os more after later run on
 runs-on config nexus p before (Outcome.NoMemory ∷ os) more after later run on = runs-on config nexus (give_up p Reply.Busy) before os more after later run on
 
--- a mark at the next step adds no entry
-step-runs : (config : Configuration) (nexus : ℕ) (p : Program) (h : List Entry) (mark : Mark) → RunsTo config nexus p h (noted_at_step mark) h
-step-runs config nexus p h NoMark = refl
+-- a shortage at the next step adds no entry
+step-runs : (config : Configuration) (nexus : ℕ) (p : Program) (h : List Entry) (shortage : Shortage) → RunsTo config nexus p h (noted_at_step shortage) h
+step-runs config nexus p h NoShortage = refl
 step-runs config nexus p h AtBegin = refl
 step-runs config nexus p h AtAct = refl
 step-runs config nexus p h AtStep = refl
@@ -113,17 +113,17 @@ noted-runs config entries p more still r = record {
 }
 
 -- its own act, which becomes the next entry
-own-runs : (config : Configuration) (entries : List Entry) (p : Pending) (unit moment : ℕ) (act : Act) (mark : Mark)
+own-runs : (config : Configuration) (entries : List Entry) (p : Pending) (unit moment : ℕ) (act : Act) (shortage : Shortage)
     → next (program_after config p.request p.outcomes) ≡ Step.Do unit act → Runs config entries p
     → Runs config (entries ++ new_entry entries (Actor.Nexus p.initiator) unit moment act ∷ [])
-    (noted p (Outcome.Answered (answer config entries unit (Actor.Nexus p.initiator) moment act) ∷ noted_at_step mark))
-own-runs config entries p unit moment act mark asks r = record {
+    (noted p (Outcome.Answered (answer config entries unit (Actor.Nexus p.initiator) moment act) ∷ noted_at_step shortage))
+own-runs config entries p unit moment act shortage asks r = record {
   before = r.before;
   after = r.after ++ r.others ++ e ∷ [];
   others = [];
   run = runs-on config p.initiator (program config p.request) r.before p.outcomes _ r.after (r.after ++ r.others ++ e ∷ []) r.run
-      (subst (λ n. IsTurn config p.initiator r.after n told (λ h. RunsTo config p.initiator (go_on_by (program_after config p.request p.outcomes) told) h (noted_at_step mark) (r.after ++ r.others ++ e ∷ [])))
-      (sym asks) (r.others, e, is, step-runs config p.initiator _ (r.after ++ r.others ++ e ∷ []) mark));
+      (subst (λ n. IsTurn config p.initiator r.after n told (λ h. RunsTo config p.initiator (go_on_by (program_after config p.request p.outcomes) told) h (noted_at_step shortage) (r.after ++ r.others ++ e ∷ [])))
+      (sym asks) (r.others, e, is, step-runs config p.initiator _ (r.after ++ r.others ++ e ∷ []) shortage));
   whole = append-nil (r.after ++ r.others ++ e ∷ []) ∙ ap (λ l. l ++ e ∷ []) r.whole;
   none = refl;
 }
@@ -145,22 +145,22 @@ own-runs config entries p unit moment act mark asks r = record {
     }
 
 -- the act of a Run that memory was there for, with or without room in the record
-done-runs : (config : Configuration) (entries : List Entry) (p : Pending) (unit moment : ℕ) (act : Act) (mark : Mark) (full : Bool)
+done-runs : (config : Configuration) (entries : List Entry) (p : Pending) (unit moment : ℕ) (act : Act) (shortage : Shortage) (full : Bool)
     → next (program_after config p.request p.outcomes) ≡ Step.Do unit act → Runs config entries p
     → Runs config (if full then entries else entries ++ new_entry entries (Actor.Nexus p.initiator) unit moment act ∷ [])
-    (noted p ((if full then Outcome.Full else Outcome.Answered (answer config entries unit (Actor.Nexus p.initiator) moment act)) ∷ noted_at_step mark))
-done-runs config entries p unit moment act mark true asks r =
-    noted-runs config entries p (Outcome.Full ∷ noted_at_step mark) (λ q h. step-runs config p.initiator (give_up q Reply.Full) h mark) r
-done-runs config entries p unit moment act mark false asks r = own-runs config entries p unit moment act mark asks r
+    (noted p ((if full then Outcome.Full else Outcome.Answered (answer config entries unit (Actor.Nexus p.initiator) moment act)) ∷ noted_at_step shortage))
+done-runs config entries p unit moment act shortage true asks r =
+    noted-runs config entries p (Outcome.Full ∷ noted_at_step shortage) (λ q h. step-runs config p.initiator (give_up q Reply.Full) h shortage) r
+done-runs config entries p unit moment act shortage false asks r = own-runs config entries p unit moment act shortage asks r
 
 -- the act of a Run, whatever comes of it
-acted-runs : (config : Configuration) (entries : List Entry) (p : Pending) (unit moment : ℕ) (act : Act) (mark : Mark)
+acted-runs : (config : Configuration) (entries : List Entry) (p : Pending) (unit moment : ℕ) (act : Act) (shortage : Shortage)
     → next (program_after config p.request p.outcomes) ≡ Step.Do unit act → Runs config entries p
-    → Runs config (entries_at mark entries (entries_after config entries (Actor.Nexus p.initiator) unit moment act))
-    (noted p (outcomes_at mark (outcome_of config entries (Actor.Nexus p.initiator) unit moment act)))
+    → Runs config (entries_at shortage entries (entries_after config entries (Actor.Nexus p.initiator) unit moment act))
+    (noted p (outcomes_at shortage (outcome_of config entries (Actor.Nexus p.initiator) unit moment act)))
 acted-runs config entries p unit moment act AtAct asks r = noted-runs config entries p (Outcome.NoMemory ∷ []) (λ q h. refl) r
-acted-runs config entries p unit moment act NoMark asks r =
-    done-runs config entries p unit moment act NoMark (has_no_room config entries (Actor.Nexus p.initiator) unit act) asks r
+acted-runs config entries p unit moment act NoShortage asks r =
+    done-runs config entries p unit moment act NoShortage (has_no_room config entries (Actor.Nexus p.initiator) unit act) asks r
 acted-runs config entries p unit moment act AtBegin asks r =
     done-runs config entries p unit moment act AtBegin (has_no_room config entries (Actor.Nexus p.initiator) unit act) asks r
 acted-runs config entries p unit moment act AtStep asks r =
@@ -192,7 +192,7 @@ ends-kept config entries p r = go (next_step step config p) refl
 
 -- ---- standings
 
-abbrev AllRun : Configuration → Standing → Type 0
+abbrev AllRun : Configuration → ReplayState → Type 0
 AllRun config s = Each (Runs config s.entries) s.pending
 
 -- those of other initiators
@@ -212,9 +212,9 @@ is-other initiator p e off who = ap (λ a. same_actor a (Actor.Nexus p.initiator
     apart false same f = turned same
 
 -- behind an act of the initiator
-behind-act : (config : Configuration) (s : Standing) (initiator unit moment : ℕ) (act : Act) (mark : Mark) → AllRun config s
-    → Each (Runs config (acted config s (Actor.Nexus initiator) unit moment act mark).entries) (without initiator s.pending)
-behind-act config s initiator unit moment act mark all = Each-by _ (without initiator s.pending) (λ p i. one p i)
+behind-act : (config : Configuration) (s : ReplayState) (initiator unit moment : ℕ) (act : Act) (shortage : Shortage) → AllRun config s
+    → Each (Runs config (acted config s (Actor.Nexus initiator) unit moment act shortage).entries) (without initiator s.pending)
+behind-act config s initiator unit moment act shortage all = Each-by _ (without initiator s.pending) (λ p i. one p i)
   where
     e : Entry
     e = new_entry s.entries (Actor.Nexus initiator) unit moment act
@@ -228,19 +228,19 @@ behind-act config s initiator unit moment act mark all = Each-by _ (without init
         other-runs config s.entries p (new_entry s.entries (Actor.Nexus initiator) unit moment act)
         (is-other initiator p (new_entry s.entries (Actor.Nexus initiator) unit moment act) (filter-passes (λ (p : Pending). not (is_of initiator p)) s.pending p i) refl) (was p i)
 
-    at : (p : Pending) → (m : Mark) → Runs config s.entries p
+    at : (p : Pending) → (m : Shortage) → Runs config s.entries p
         → Runs config (entries_after config s.entries (Actor.Nexus initiator) unit moment act) p
         → Runs config (entries_at m s.entries (entries_after config s.entries (Actor.Nexus initiator) unit moment act)) p
-    at p NoMark x y = y
+    at p NoShortage x y = y
     at p AtBegin x y = y
     at p AtAct x y = x
     at p AtStep x y = y
 
-    one : (p : Pending) → In p (without initiator s.pending) → Runs config (entries_at mark s.entries (entries_after config s.entries (Actor.Nexus initiator) unit moment act)) p
-    one p i = at p mark (was p i) (after p i (has_no_room config s.entries (Actor.Nexus initiator) unit act))
+    one : (p : Pending) → In p (without initiator s.pending) → Runs config (entries_at shortage s.entries (entries_after config s.entries (Actor.Nexus initiator) unit moment act)) p
+    one p i = at p shortage (was p i) (after p i (has_no_room config s.entries (Actor.Nexus initiator) unit act))
 
 -- a command goes on: it ends, or waits
-goes-run : (config : Configuration) (s : Standing) (p : Pending) → Each (Runs config s.entries) (without p.initiator s.pending) → Runs config s.entries p → AllRun config (gone_on step config s p)
+goes-run : (config : Configuration) (s : ReplayState) (p : Pending) → Each (Runs config s.entries) (without p.initiator s.pending) → Runs config s.entries p → AllRun config (gone_on step config s p)
 goes-run config s p rest r = go (next_step step config p)
   where
     go : (n : Step) → AllRun config (goes_on s p n)
@@ -248,83 +248,83 @@ goes-run config s p rest r = go (next_step step config p)
     go (Step.Do unit act) = Each-append (Runs config s.entries) (without p.initiator s.pending) (p ∷ []) rest (r, tt)
 
 -- what one item does, and what it ends
-record ItemKept (config : Configuration) (s : Standing) (item : TraceItem) (mark : Mark) : Type 0 where
-  run : AllRun config (standing.next step config s item mark)
-  kept : Each IsKeptTo (ended_at step config s item mark)
-  said : (standing.next step config s item mark).replies ≡ s.replies ++ map reply_to (ended_at step config s item mark)
+record ItemKept (config : Configuration) (s : ReplayState) (item : TraceItem) (shortage : Shortage) : Type 0 where
+  run : AllRun config (state.next step config s item shortage)
+  kept : Each IsKeptTo (ended_at step config s item shortage)
+  said : (state.next step config s item shortage).replies ≡ s.replies ++ map reply_to (ended_at step config s item shortage)
 
-said-by : (s : Standing) (p : Pending) (n : Step) → (goes_on s p n).replies ≡ s.replies ++ map reply_to (ended_by p n)
+said-by : (s : ReplayState) (p : Pending) (n : Step) → (goes_on s p n).replies ≡ s.replies ++ map reply_to (ended_by p n)
 said-by s p (Step.Done reply) = refl
 said-by s p (Step.Do unit act) = sym (append-nil s.replies)
 
-fresh-runs : (config : Configuration) (entries : List Entry) (initiator : ℕ) (request : Request) (mark : Mark)
-    → Runs config entries (record { initiator = initiator; request = request; outcomes = noted_at_step mark })
-fresh-runs config entries initiator request mark = record {
+fresh-runs : (config : Configuration) (entries : List Entry) (initiator : ℕ) (request : Request) (shortage : Shortage)
+    → Runs config entries (record { initiator = initiator; request = request; outcomes = noted_at_step shortage })
+fresh-runs config entries initiator request shortage = record {
   before = entries;
   after = entries;
   others = [];
-  run = step-runs config initiator (program config request) entries mark;
+  run = step-runs config initiator (program config request) entries shortage;
   whole = append-nil entries;
   none = refl;
 }
 
-begin-kept : (config : Configuration) (s : Standing) (initiator moment : ℕ) (request : Request) (mark : Mark) → AllRun config s → ItemKept config s (TraceItem.Begin initiator moment request) mark
-begin-kept config s initiator moment request mark all = by mark
+begin-kept : (config : Configuration) (s : ReplayState) (initiator moment : ℕ) (request : Request) (shortage : Shortage) → AllRun config s → ItemKept config s (TraceItem.Begin initiator moment request) shortage
+begin-kept config s initiator moment request shortage all = by shortage
   where
-    begins : (m : Mark) → AllRun config (gone_on step config (record s { items = s.items + 1 }) (record { initiator = initiator; request = request; outcomes = noted_at_step m }))
+    begins : (m : Shortage) → AllRun config (gone_on step config (record s { items = s.items + 1 }) (record { initiator = initiator; request = request; outcomes = noted_at_step m }))
     begins m =
         goes-run config (record s { items = s.items + 1 }) (record { initiator = initiator; request = request; outcomes = noted_at_step m })
         (others-run config s.entries initiator s.pending all) (fresh-runs config s.entries initiator request m)
 
-    ends : (m : Mark) → Each IsKeptTo (ended_now step config (record { initiator = initiator; request = request; outcomes = noted_at_step m }))
+    ends : (m : Shortage) → Each IsKeptTo (ended_now step config (record { initiator = initiator; request = request; outcomes = noted_at_step m }))
     ends m = ends-kept config s.entries (record { initiator = initiator; request = request; outcomes = noted_at_step m }) (fresh-runs config s.entries initiator request m)
 
-    says : (m : Mark) → (gone_on step config (record s { items = s.items + 1 }) (record { initiator = initiator; request = request; outcomes = noted_at_step m })).replies
+    says : (m : Shortage) → (gone_on step config (record s { items = s.items + 1 }) (record { initiator = initiator; request = request; outcomes = noted_at_step m })).replies
         ≡ s.replies ++ map reply_to (ended_now step config (record { initiator = initiator; request = request; outcomes = noted_at_step m }))
     says m =
         said-by (record s { items = s.items + 1 }) (record { initiator = initiator; request = request; outcomes = noted_at_step m })
         (next_step step config (record { initiator = initiator; request = request; outcomes = noted_at_step m }))
 
-    by : (m : Mark) → ItemKept config s (TraceItem.Begin initiator moment request) m
+    by : (m : Shortage) → ItemKept config s (TraceItem.Begin initiator moment request) m
     by AtBegin = record { run = others-run config s.entries initiator s.pending all; kept = (busy-kept initiator request, tt); said = refl }
-    by NoMark = record { run = begins NoMark; kept = ends NoMark; said = says NoMark }
+    by NoShortage = record { run = begins NoShortage; kept = ends NoShortage; said = says NoShortage }
     by AtAct = record { run = begins AtAct; kept = ends AtAct; said = says AtAct }
     by AtStep = record { run = begins AtStep; kept = ends AtStep; said = says AtStep }
 
-run-kept : (config : Configuration) (s : Standing) (initiator moment : ℕ) (mark : Mark) → AllRun config s → ItemKept config s (TraceItem.Run initiator moment) mark
-run-kept config s initiator moment mark all = by (waiting initiator s.pending) refl
+run-kept : (config : Configuration) (s : ReplayState) (initiator moment : ℕ) (shortage : Shortage) → AllRun config s → ItemKept config s (TraceItem.Run initiator moment) shortage
+run-kept config s initiator moment shortage all = by (waiting initiator s.pending) refl
   where
     At : Option Pending → Type 0
     At w =
-        AllRun config (ran step config (record s { items = s.items + 1 }) moment mark w)
-        × Each IsKeptTo (ended_at_run step config s moment mark w)
-        × ((ran step config (record s { items = s.items + 1 }) moment mark w).replies ≡ s.replies ++ map reply_to (ended_at_run step config s moment mark w))
+        AllRun config (ran step config (record s { items = s.items + 1 }) moment shortage w)
+        × Each IsKeptTo (ended_at_run step config s moment shortage w)
+        × ((ran step config (record s { items = s.items + 1 }) moment shortage w).replies ≡ s.replies ++ map reply_to (ended_at_run step config s moment shortage w))
 
     Does : Pending → Step → Type 0
     Does p n =
-        AllRun config (did step config (record s { items = s.items + 1 }) moment p mark n)
-        × Each IsKeptTo (ended_at_act step config s moment mark p n)
-        × ((did step config (record s { items = s.items + 1 }) moment p mark n).replies ≡ s.replies ++ map reply_to (ended_at_act step config s moment mark p n))
+        AllRun config (did step config (record s { items = s.items + 1 }) moment p shortage n)
+        × Each IsKeptTo (ended_at_act step config s moment shortage p n)
+        × ((did step config (record s { items = s.items + 1 }) moment p shortage n).replies ≡ s.replies ++ map reply_to (ended_at_act step config s moment shortage p n))
 
     does : (p : Pending) → Runs config s.entries p → (n : Step) → next_step step config p ≡ n → Does p n
     does p r (Step.Done reply) e = (all, tt, sym (append-nil s.replies))
     does p r (Step.Do unit act) e =
-        let on = acted-runs config s.entries p unit moment act mark e r in (
-          goes-run config (acted config (record s { items = s.items + 1 }) (Actor.Nexus p.initiator) unit moment act mark) (noted_act config s p unit moment act mark)
-              (behind-act config s p.initiator unit moment act mark all) on,
-          ends-kept config _ (noted_act config s p unit moment act mark) on,
-          said-by (acted config (record s { items = s.items + 1 }) (Actor.Nexus p.initiator) unit moment act mark) (noted_act config s p unit moment act mark)
-              (next_step step config (noted_act config s p unit moment act mark)),
+        let on = acted-runs config s.entries p unit moment act shortage e r in (
+          goes-run config (acted config (record s { items = s.items + 1 }) (Actor.Nexus p.initiator) unit moment act shortage) (noted_act config s p unit moment act shortage)
+              (behind-act config s p.initiator unit moment act shortage all) on,
+          ends-kept config _ (noted_act config s p unit moment act shortage) on,
+          said-by (acted config (record s { items = s.items + 1 }) (Actor.Nexus p.initiator) unit moment act shortage) (noted_act config s p unit moment act shortage)
+              (next_step step config (noted_act config s p unit moment act shortage)),
         )
 
     found : (w : Option Pending) → waiting initiator s.pending ≡ w → At w
     found None e = (all, tt, sym (append-nil s.replies))
     found (Some p) e = does p (Each-in (Runs config s.entries) s.pending p all (find-in (is_of initiator) s.pending p e)) (next_step step config p) refl
 
-    by : (w : Option Pending) → waiting initiator s.pending ≡ w → ItemKept config s (TraceItem.Run initiator moment) mark
+    by : (w : Option Pending) → waiting initiator s.pending ≡ w → ItemKept config s (TraceItem.Run initiator moment) shortage
     by w e = let x = found (waiting initiator s.pending) refl in record { run = x.0; kept = x.1; said = x.2 }
 
-pump-runs : (config : Configuration) (s : Standing) (unit moment : ℕ) → AllRun config s
+pump-runs : (config : Configuration) (s : ReplayState) (unit moment : ℕ) → AllRun config s
     → Each (Runs config (entries_after config s.entries (Actor.Pump unit) unit moment Act.Pump)) s.pending
 pump-runs config s unit moment all = Each-by _ s.pending (λ p i. after p (Each-in (Runs config s.entries) s.pending p all i) (has_no_room config s.entries (Actor.Pump unit) unit Act.Pump))
   where
@@ -332,36 +332,36 @@ pump-runs config s unit moment all = Each-by _ s.pending (λ p i. after p (Each-
     after p r true = r
     after p r false = other-runs config s.entries p (new_entry s.entries (Actor.Pump unit) unit moment Act.Pump) refl r
 
-item-kept : (config : Configuration) (s : Standing) (item : TraceItem) (mark : Mark) → AllRun config s → ItemKept config s item mark
-item-kept config s (TraceItem.Begin initiator moment request) mark all = begin-kept config s initiator moment request mark all
-item-kept config s (TraceItem.Run initiator moment) mark all = run-kept config s initiator moment mark all
-item-kept config s (TraceItem.Pump unit moment) mark all = record { run = pump-runs config s unit moment all; kept = tt; said = sym (append-nil s.replies) }
+item-kept : (config : Configuration) (s : ReplayState) (item : TraceItem) (shortage : Shortage) → AllRun config s → ItemKept config s item shortage
+item-kept config s (TraceItem.Begin initiator moment request) shortage all = begin-kept config s initiator moment request shortage all
+item-kept config s (TraceItem.Run initiator moment) shortage all = run-kept config s initiator moment shortage all
+item-kept config s (TraceItem.Pump unit moment) shortage all = record { run = pump-runs config s unit moment all; kept = tt; said = sym (append-nil s.replies) }
 
 -- ---- the whole trace
 
-record PlayKept (config : Configuration) (s : Standing) (xs : List Placed) (ending : Ending) (marks : List Mark) : Type 0 where
-  kept : Each IsKeptTo (ended_in step config s xs marks)
-  said : (play step config s xs ending marks).standing.replies ≡ s.replies ++ map reply_to (ended_in step config s xs marks)
+record PlayKept (config : Configuration) (s : ReplayState) (xs : List Placed) (ending : Ending) (shortages : List Shortage) : Type 0 where
+  kept : Each IsKeptTo (ended_in step config s xs shortages)
+  said : (play step config s xs ending shortages).state.replies ≡ s.replies ++ map reply_to (ended_in step config s xs shortages)
 
 -- an item, and those behind it
-more-kept : (config : Configuration) (s : Standing) (x : Placed) (xs : List Placed) (ending : Ending) (marks : List Mark) → ItemKept config s x.item (mark_for x.item marks)
-    → PlayKept config (standing.next step config s x.item (mark_for x.item marks)) xs ending (marks_behind x.item marks)
-    → PlayKept config s (x ∷ xs) ending marks
-more-kept config s x xs ending marks one rest = let r = by (fits config s x.item) in record { kept = r.0; said = r.1 }
+more-kept : (config : Configuration) (s : ReplayState) (x : Placed) (xs : List Placed) (ending : Ending) (shortages : List Shortage) → ItemKept config s x.item (shortage_for x.item shortages)
+    → PlayKept config (state.next step config s x.item (shortage_for x.item shortages)) xs ending (shortages_behind x.item shortages)
+    → PlayKept config s (x ∷ xs) ending shortages
+more-kept config s x xs ending shortages one rest = let r = by (fits config s x.item) in record { kept = r.0; said = r.1 }
   where
     front : List Ended
-    front = ended_at step config s x.item (mark_for x.item marks)
+    front = ended_at step config s x.item (shortage_for x.item shortages)
 
     behind : List Ended
-    behind = ended_in step config (standing.next step config s x.item (mark_for x.item marks)) xs (marks_behind x.item marks)
+    behind = ended_in step config (state.next step config s x.item (shortage_for x.item shortages)) xs (shortages_behind x.item shortages)
 
     by : (t : Bool)
-        → Each IsKeptTo (if t then ended_at step config s x.item (mark_for x.item marks)
-        ++ ended_in step config (standing.next step config s x.item (mark_for x.item marks)) xs (marks_behind x.item marks) else [])
-        × ((if t then play step config (standing.next step config s x.item (mark_for x.item marks)) xs ending (marks_behind x.item marks)
-        else record { standing = s; ending = BadRecord x.place }).standing.replies
-        ≡ s.replies ++ map reply_to (if t then ended_at step config s x.item (mark_for x.item marks)
-        ++ ended_in step config (standing.next step config s x.item (mark_for x.item marks)) xs (marks_behind x.item marks) else []))
+        → Each IsKeptTo (if t then ended_at step config s x.item (shortage_for x.item shortages)
+        ++ ended_in step config (state.next step config s x.item (shortage_for x.item shortages)) xs (shortages_behind x.item shortages) else [])
+        × ((if t then play step config (state.next step config s x.item (shortage_for x.item shortages)) xs ending (shortages_behind x.item shortages)
+        else record { state = s; ending = BadRecord x.place }).state.replies
+        ≡ s.replies ++ map reply_to (if t then ended_at step config s x.item (shortage_for x.item shortages)
+        ++ ended_in step config (state.next step config s x.item (shortage_for x.item shortages)) xs (shortages_behind x.item shortages) else []))
     by true = (
       Each-append IsKeptTo front behind one.kept rest.kept,
       rest.said ∙ ap (λ l. l ++ map reply_to behind) one.said ∙ append_assoc s.replies (map reply_to front) (map reply_to behind)
@@ -369,27 +369,27 @@ more-kept config s x xs ending marks one rest = let r = by (fits config s x.item
     )
     by false = (tt, sym (append-nil s.replies))
 
-play-kept : (config : Configuration) (s : Standing) (xs : List Placed) (ending : Ending) (marks : List Mark) → AllRun config s → PlayKept config s xs ending marks
-play-kept config s [] ending marks all = record { kept = tt; said = sym (append-nil s.replies) }
-play-kept config s (x ∷ xs) ending marks all =
-    let one = item-kept config s x.item (mark_for x.item marks) all in
-    let rest = play-kept config (standing.next step config s x.item (mark_for x.item marks)) xs ending (marks_behind x.item marks) one.run in
-    more-kept config s x xs ending marks one rest
+play-kept : (config : Configuration) (s : ReplayState) (xs : List Placed) (ending : Ending) (shortages : List Shortage) → AllRun config s → PlayKept config s xs ending shortages
+play-kept config s [] ending shortages all = record { kept = tt; said = sym (append-nil s.replies) }
+play-kept config s (x ∷ xs) ending shortages all =
+    let one = item-kept config s x.item (shortage_for x.item shortages) all in
+    let rest = play-kept config (state.next step config s x.item (shortage_for x.item shortages)) xs ending (shortages_behind x.item shortages) one.run in
+    more-kept config s x xs ending shortages one rest
 
-abbrev PlayedKept : List ℕ → List Mark → Parsed Configuration → Type 0
-PlayedKept bytes marks p =
-    Each IsKeptTo (ended_after step p bytes marks) × (map reply_to (ended_after step p bytes marks) ≡ (played_after step p bytes marks).standing.replies)
+abbrev PlayedKept : List ℕ → List Shortage → Parsed Configuration → Type 0
+PlayedKept bytes shortages p =
+    Each IsKeptTo (ended_after step p bytes shortages) × (map reply_to (ended_after step p bytes shortages) ≡ (played_after step p bytes shortages).state.replies)
 
-played-kept : (bytes : List ℕ) (marks : List Mark) (p : Parsed Configuration) → PlayedKept bytes marks p
-played-kept bytes marks Short = (tt, refl)
-played-kept bytes marks (Bad place) = (tt, refl)
-played-kept bytes marks (Whole config used) =
+played-kept : (bytes : List ℕ) (shortages : List Shortage) (p : Parsed Configuration) → PlayedKept bytes shortages p
+played-kept bytes shortages Short = (tt, refl)
+played-kept bytes shortages (Bad place) = (tt, refl)
+played-kept bytes shortages (Whole config used) =
     let t = trace_of items_limit used (drop used bytes) in
-    let r = play-kept config at_first t.items t.ending marks tt in
+    let r = play-kept config at_first t.items t.ending shortages tt in
     (r.kept, sym r.said)
 
-pub writes-kept : (bytes : List ℕ) (marks : List Mark) → All IsKeptTo (ended step bytes marks)
-writes-kept bytes marks = Each-all IsKeptTo (ended step bytes marks) (played-kept bytes marks (read_header bytes)).0
+pub writes-kept : (bytes : List ℕ) (shortages : List Shortage) → All IsKeptTo (ended step bytes shortages)
+writes-kept bytes shortages = Each-all IsKeptTo (ended step bytes shortages) (played-kept bytes shortages (read_header bytes)).0
 
-pub replies-are : (bytes : List ℕ) (marks : List Mark) → map reply_to (ended step bytes marks) ≡ (played step bytes marks).standing.replies
-replies-are bytes marks = (played-kept bytes marks (read_header bytes)).1
+pub replies-are : (bytes : List ℕ) (shortages : List Shortage) → map reply_to (ended step bytes shortages) ≡ (played step bytes shortages).state.replies
+replies-are bytes shortages = (played-kept bytes shortages (read_header bytes)).1

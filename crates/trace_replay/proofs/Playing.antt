@@ -18,11 +18,11 @@ use Rattle.trace_replay.specs.declared.fault.ReplayFault.{ReplayFault}
 use Rattle.trace_replay.specs.declared.summary.Summary.{Summary}
 use Rattle.trace_replay.specs.Faults.{fault_of}
 use Rattle.trace_replay.specs.Items.{BadRecord, BadHeader, Done, Torn, items_limit}
-use Rattle.trace_replay.specs.Standing.{Standing, at_first, fits}
+use Rattle.trace_replay.specs.ReplayState.{ReplayState, at_first, fits}
 use Rattle.trace_replay.specs.Played.{played_from, output_of, summary_of}
 use Rattle.trace_replay.specs.Replayed.{Replayed, IsCounted}
 use Rattle.trace_replay.specs.inner.Laws.{StandsAt}
-use Rattle.trace_replay.proofs.Laws.{LoopStands, MarksTell, known}
+use Rattle.trace_replay.proofs.Laws.{LoopStands, ShortagesTell, known}
 use Rattle.trace_replay.specs.inner.Players.{IsLoopAt, IsAt, left_of, HasPulled, HasMore, NeedsMore, EndsBad}
 use Rattle.trace_replay.specs.inner.Writing.{IsWritten, IsBegun, IsWriteFault}
 use Rattle.trace_replay.specs.inner.Machines.{IsStanding}
@@ -30,43 +30,43 @@ use Rattle.trace_replay.proofs.Sizes.{header-used}
 use Rattle.trace_replay.proofs.Steps.{begins, grows, play-unfit, play-bad, play-torn, play-done}
 use Rattle.trace_replay.proofs.Legally.{legal-none}
 use Rattle.trace_replay.proofs.Exits.{all-input, exit-at, exit-early, exit-done, exit-torn, exit-records, exit-read, exit-header, memory-header, header-bad, header-torn}
-use Rattle.trace_replay.proofs.Telling.{marks-tell}
+use Rattle.trace_replay.proofs.ShownShortages.{shortages-tell}
 
-pub tells : MarksTell step
-tells = marks-tell step ends-busy
+pub tells : ShortagesTell step
+tells = shortages-tell step ends-busy
 
 flushed : (taken given : Option (List ℕ)) (waits bytes : List ℕ) → IsWritten taken given waits bytes → waits ≡ [] → Appends taken given bytes
 flushed taken given waits bytes w none = subst (Appends taken given) (sym (append-nil w.pushed) ∙ ap (λ l. w.pushed ++ l) (sym none) ∙ w.all) w.written
 
-module _ (left rest taken given : Option (List ℕ)) (config : Configuration) (s : Standing) (n place : ℕ) (input waits : List ℕ)
+module _ (left rest taken given : Option (List ℕ)) (config : Configuration) (s : ReplayState) (n place : ℕ) (input waits : List ℕ)
     (l : IsLoopAt left rest taken given config s n place input waits) where
   -- other bytes wait, after others were pushed
   pub loop-written : (given' : Option (List ℕ)) (waits' : List ℕ) → IsWritten taken given' waits' (output_of s)
       → IsLoopAt left rest taken given' config s n place input waits'
-  loop-written given' waits' w = record { pulled = l.pulled; marks = l.marks; consumed = l.consumed; stands = l.stands; legal = l.legal; written = w }
+  loop-written given' waits' w = record { pulled = l.pulled; shortages = l.shortages; consumed = l.consumed; stands = l.stands; legal = l.legal; written = w }
 
   -- more was pulled
   pub loop-more : (rest' : Option (List ℕ)) (more input' : List ℕ) → input' ≡ input ++ more → Consumes rest rest' more
       → IsLoopAt left rest' taken given config s n place input' waits
   loop-more rest' more input' is consumed = record {
     pulled = l.pulled ++ more;
-    marks = l.marks;
+    shortages = l.shortages;
     consumed = Consumes-trans left rest rest' l.pulled more l.consumed consumed;
     legal = l.legal;
-    stands = subst (StandsAt step config (l.pulled ++ more) l.marks s n place) (sym is) (grows step config l.pulled l.marks s n place input more l.stands);
+    stands = subst (StandsAt step config (l.pulled ++ more) l.shortages s n place) (sym is) (grows step config l.pulled l.shortages s n place input more l.stands);
     written = l.written;
   }
 
   pub loop-kept : (rest' : Option (List ℕ)) → Keeps rest rest' → IsLoopAt left rest' taken given config s n place input waits
   loop-kept rest' kept =
-      record { pulled = l.pulled; marks = l.marks; consumed = Consumes-kept left rest rest' l.pulled l.consumed kept; stands = l.stands; legal = l.legal; written = l.written }
+      record { pulled = l.pulled; shortages = l.shortages; consumed = Consumes-kept left rest rest' l.pulled l.consumed kept; stands = l.stands; legal = l.legal; written = l.written }
 
   -- ---- the ends
 
   -- some of the output was written
   pub ends-begun : (given' : Option (List ℕ)) (e : ReplayFault) → IsBegun taken given' (output_of s) → IsWriteFault e → Replayed step left rest taken given' (Err e)
   ends-begun given' e b fault =
-      exit-early step left rest taken given' config l.pulled l.marks s n place input b.pushed (Err e) (why fault) l.consumed l.stands l.legal b.begins b.written
+      exit-early step left rest taken given' config l.pulled l.shortages s n place input b.pushed (Err e) (why fault) l.consumed l.stands l.legal b.begins b.written
     where
       failed : ReplayFault → Result Summary ReplayFault
       failed f = Err f
@@ -80,13 +80,13 @@ module _ (left rest taken given : Option (List ℕ)) (config : Configuration) (s
   ends-memory = ends-begun given ReplayFault.OutOfMemory (record { pushed = l.written.pushed; written = l.written.written; begins = (waits, l.written.all) }) (inr refl)
 
   module _ (none : waits ≡ []) where
-    pub stands : LoopStands step left rest taken given config l.pulled l.marks s n place input
+    pub stands : LoopStands step left rest taken given config l.pulled l.shortages s n place input
     stands = record { consumed = l.consumed; stands = l.stands; legal = l.legal; written = flushed taken given waits (output_of s) l.written none }
 
     -- all of it was written
     pub ends-bad : EndsBad config s n place input → Replayed step left rest taken given (Err (ReplayFault.BadRecord place))
     ends-bad bad =
-        exit-at step left rest taken given config l.pulled l.marks s n place input (known rest) (BadRecord place) (Err (ReplayFault.BadRecord place)) tells stands
+        exit-at step left rest taken given config l.pulled l.shortages s n place input (known rest) (BadRecord place) (Err (ReplayFault.BadRecord place)) tells stands
         (bad.ends (known rest)) (all-input left rest l.pulled l.consumed) tt (refl, refl)
 
     pub ends-read : NeedsMore n input → Replayed step left rest taken given (Err ReplayFault.ReadFault)
@@ -94,22 +94,22 @@ module _ (left rest taken given : Option (List ℕ)) (config : Configuration) (s
       where
         go : (i : List ℕ) (m : ℕ) → input ≡ i → n ≡ m → ((input ≡ []) ⊎ (0 < n)) → Replayed step left rest taken given (Err ReplayFault.ReadFault)
         go [] m e f some_or =
-            exit-read step left rest taken given config l.pulled l.marks s n place input Done tells stands
+            exit-read step left rest taken given config l.pulled l.shortages s n place input Done tells stands
             (ap (λ i. played_from step config s n place i []) e ∙ play-done step config s n place [])
         go (b ∷ bs) zero e f (inl none_in) = let absent : b ∷ bs ≡ [] = sym e ∙ none_in in cc
         go (b ∷ bs) zero e f (inr some) = absurd (omega (arith, f, some))
         go (b ∷ bs) (suc m) e f some_or =
-            exit-read step left rest taken given config l.pulled l.marks s n place input (Torn place) tells stands
+            exit-read step left rest taken given config l.pulled l.shortages s n place input (Torn place) tells stands
             (ap (λ i. played_from step config s n place i []) e ∙ ap (λ k. played_from step config s k place (b ∷ bs) []) f
             ∙ play-torn step config s m place b bs [] (sym (ap read_item e) ∙ needs.short))
 
     pub ends-done : IsAtEnd rest → input ≡ [] → Replayed step left rest taken given (Ok (summary_of s))
     ends-done end empty =
-        exit-done step left rest taken given config l.pulled l.marks s n place tells
-        (record { consumed = stands.consumed; stands = subst (StandsAt step config l.pulled l.marks s n place) empty l.stands; legal = l.legal; written = stands.written }) end
+        exit-done step left rest taken given config l.pulled l.shortages s n place tells
+        (record { consumed = stands.consumed; stands = subst (StandsAt step config l.pulled l.shortages s n place) empty l.stands; legal = l.legal; written = stands.written }) end
 
 -- nothing was pulled
-pub ends-filling : (left rest taken given : Option (List ℕ)) (config : Configuration) (s : Standing) (n place : ℕ) (input waits : List ℕ)
+pub ends-filling : (left rest taken given : Option (List ℕ)) (config : Configuration) (s : ReplayState) (n place : ℕ) (input waits : List ℕ)
     → IsLoopAt left rest taken given config s n place input waits → waits ≡ [] → (rest' : Option (List ℕ)) (f : FillFailed) → NeedsMore n input
     → (f ≡ FillFailed.Read → Keeps rest rest') → (f ≡ FillFailed.OutOfMemory → rest' ≡ rest) → Replayed step left rest' taken given (Err (fault_of f))
 ends-filling left rest taken given config s n place input waits l none rest' FillFailed.Read needs read memory =
@@ -124,13 +124,13 @@ counts-filling reads reads' writes writes' FillFailed.OutOfMemory same read memo
 
 -- ---- a bad item at the front
 
-pub unfit-ends : (config : Configuration) (s : Standing) (n place : ℕ) (input : List ℕ) (item : TraceItem) (used : ℕ)
+pub unfit-ends : (config : Configuration) (s : ReplayState) (n place : ℕ) (input : List ℕ) (item : TraceItem) (used : ℕ)
     → 0 < n → read_item input ≡ Whole item used → fits config s item ≡ false → EndsBad config s n place input
 unfit-ends config s zero place input item used some whole unfit = absurd (omega (arith, some))
 unfit-ends config s (suc n) place input item used some whole unfit =
     record { ends = λ more. play-unfit step config s n place input more item used [] whole unfit }
 
-pub bad-ends : (config : Configuration) (s : Standing) (n place : ℕ) (input : List ℕ) (fault : ℕ)
+pub bad-ends : (config : Configuration) (s : ReplayState) (n place : ℕ) (input : List ℕ) (fault : ℕ)
     → 0 < n → read_item input ≡ Bad fault → EndsBad config s n place input
 bad-ends config s zero place input fault some bad = absurd (omega (arith, some))
 bad-ends config s (suc n) place input fault some bad = record { ends = λ more. play-bad step config s n place fault input more [] bad }
@@ -151,7 +151,7 @@ some-came input input' more count len is test =
 pub none-needs : (n : ℕ) (input : List ℕ) → input ≡ [] → NeedsMore n input
 none-needs n input e = record { short = ap read_item e; open_end = inl e }
 
-pub ends-torn : (left rest taken given : Option (List ℕ)) (config : Configuration) (s : Standing) (n place : ℕ) (input waits : List ℕ)
+pub ends-torn : (left rest taken given : Option (List ℕ)) (config : Configuration) (s : ReplayState) (n place : ℕ) (input waits : List ℕ)
     → IsLoopAt left rest taken given config s n place input waits → waits ≡ [] → NeedsMore n input → IsAtEnd rest → 0 < length input
     → Replayed step left rest taken given (Err (ReplayFault.Torn place))
 ends-torn left rest taken given config s n place [] waits l none needs end some = absurd (omega (arith, some))
@@ -161,15 +161,15 @@ ends-torn left rest taken given config s zero place (b ∷ bs) waits l none need
     no-more (inl e) = cc
     no-more (inr e) = omega (arith, e)
 ends-torn left rest taken given config s (suc n) place (b ∷ bs) waits l none needs end some =
-    exit-torn step left rest taken given config l.pulled l.marks s n place b bs tells
+    exit-torn step left rest taken given config l.pulled l.shortages s n place b bs tells
     (stands left rest taken given config s (suc n) place (b ∷ bs) waits l none) end needs.short
 
-pub ends-records : (left rest taken given : Option (List ℕ)) (config : Configuration) (s : Standing) (n place : ℕ) (input waits : List ℕ)
+pub ends-records : (left rest taken given : Option (List ℕ)) (config : Configuration) (s : ReplayState) (n place : ℕ) (input waits : List ℕ)
     → IsLoopAt left rest taken given config s n place input waits → waits ≡ [] → n ≡ 0 → 0 < length input
     → Replayed step left rest taken given (Err ReplayFault.Records)
 ends-records left rest taken given config s n place [] waits l none zero-left some = absurd (omega (arith, some))
 ends-records left rest taken given config s zero place (b ∷ bs) waits l none zero-left some =
-    exit-records step left rest taken given config l.pulled l.marks s place b bs tells
+    exit-records step left rest taken given config l.pulled l.shortages s place b bs tells
     (stands left rest taken given config s zero place (b ∷ bs) waits l none)
 ends-records left rest taken given config s (suc n) place (b ∷ bs) waits l none zero-left some = absurd (omega (arith, zero-left))
 
@@ -223,7 +223,7 @@ begins-so left rest given config input used p consumed header machine summary in
       s = at_first;
       loop = record {
         pulled = input;
-        marks = [];
+        shortages = [];
         consumed = consumed;
         stands = stood;
         legal = legal-none config;
@@ -291,7 +291,7 @@ any-player rest given rest' given' p is = record {
   s = is.s;
   loop = record {
     pulled = is.loop.pulled;
-    marks = is.loop.marks;
+    shortages = is.loop.shortages;
     consumed = tt;
     stands = is.loop.stands;
     legal = is.loop.legal;

@@ -22,9 +22,9 @@ use Rattle.cmd_program.specs.Judging.{step, program, program_after}
 use Rattle.cmd_program.specs.Honest.{IsHonestReply}
 use Rattle.cmd_program.proofs.HonestPrograms.{IsHonest, program-honest}
 use Rattle.trace_replay.specs.Items.{Placed, Ending, BadRecord, trace_of, items_limit}
-use Rattle.trace_replay.specs.Standing.{Pending, Record, Standing, Mark, NoMark, is_of, waiting, without, replied, goes_on, next_step, gone_on, begun, noted, acted, noted_act, did, ran, fits, has_no_room, outcome_of, at_first}
-use Rattle.trace_replay.specs.Standing as standing
-use Rattle.trace_replay.specs.Played.{played, played_after, play, mark_for, marks_behind, replies_that, is_busy}
+use Rattle.trace_replay.specs.ReplayState.{Pending, AddressedReply, ReplayState, Shortage, NoShortage, is_of, waiting, without, replied, goes_on, next_step, gone_on, begun, noted, acted, noted_act, did, ran, fits, has_no_room, outcome_of, at_first}
+use Rattle.trace_replay.specs.ReplayState as state
+use Rattle.trace_replay.specs.Played.{played, played_after, play, shortage_for, shortages_behind, replies_that, is_busy}
 
 -- ---- programs that do not end BUSY
 
@@ -69,21 +69,21 @@ quiet-done (GivesUp (Some ask) ended) reply q e = cc
 abbrev its : Configuration → Pending → Program
 its config p = program_after config p.request p.outcomes
 
-record Quiet (config : Configuration) (s : Standing) : Type 0 where
+record Quiet (config : Configuration) (s : ReplayState) : Type 0 where
   waits : Each (λ (p : Pending). IsQuiet (its config p)) s.pending
-  said : Each (λ (r : Record). is_busy r.reply ≡ false) s.replies
+  said : Each (λ (r : AddressedReply). is_busy r.reply ≡ false) s.replies
 
 others : (config : Configuration) (initiator : ℕ) (ps : List Pending) → Each (λ (p : Pending). IsQuiet (its config p)) ps → Each (λ (p : Pending). IsQuiet (its config p)) (without initiator ps)
 others config initiator ps all =
     Each-by _ (without initiator ps) (λ p i. Each-in (λ (p : Pending). IsQuiet (its config p)) ps p all (In-filter (λ (p : Pending). not (is_of initiator p)) ps p i))
 
-quiet-goes : (config : Configuration) (s : Standing) (p : Pending) → Quiet config s → IsQuiet (its config p) → Quiet config (gone_on step config s p)
+quiet-goes : (config : Configuration) (s : ReplayState) (p : Pending) → Quiet config s → IsQuiet (its config p) → Quiet config (gone_on step config s p)
 quiet-goes config s p quiet q = go (next_step step config p) refl
   where
     go : (n : Step) → next_step step config p ≡ n → Quiet config (goes_on s p n)
     go (Step.Done reply) e = record {
       waits = others config p.initiator s.pending quiet.waits;
-      said = Each-append (λ (r : Record). is_busy r.reply ≡ false) s.replies _ quiet.said (quiet-done (its config p) reply q e, tt);
+      said = Each-append (λ (r : AddressedReply). is_busy r.reply ≡ false) s.replies _ quiet.said (quiet-done (its config p) reply q e, tt);
     }
     go (Step.Do unit act) e = record {
       waits = Each-append (λ (p : Pending). IsQuiet (its config p)) (without p.initiator s.pending) _ (others config p.initiator s.pending quiet.waits) (q, tt);
@@ -94,13 +94,13 @@ fold-last : (p : Program) (xs : List Outcome) (o : Outcome) → fold moved p (xs
 fold-last p [] o = refl
 fold-last p (x ∷ xs) o = fold-last (moved p x) xs o
 
-quiet-did : (config : Configuration) (s : Standing) (moment : ℕ) (p : Pending) → Quiet config s → IsQuiet (its config p) → Quiet config (did step config s moment p NoMark (next_step step config p))
+quiet-did : (config : Configuration) (s : ReplayState) (moment : ℕ) (p : Pending) → Quiet config s → IsQuiet (its config p) → Quiet config (did step config s moment p NoShortage (next_step step config p))
 quiet-did config s moment p quiet q = go (next_step step config p) refl
   where
-    go : (n : Step) → next_step step config p ≡ n → Quiet config (did step config s moment p NoMark n)
+    go : (n : Step) → next_step step config p ≡ n → Quiet config (did step config s moment p NoShortage n)
     go (Step.Done reply) e = quiet
     go (Step.Do unit act) e =
-        quiet-goes config (acted config s (Nexus p.initiator) unit moment act NoMark) (noted_act config s p unit moment act NoMark)
+        quiet-goes config (acted config s (Nexus p.initiator) unit moment act NoShortage) (noted_act config s p unit moment act NoShortage)
         (record { waits = quiet.waits; said = quiet.said })
         (subst IsQuiet (sym (fold-last (program config p.request) p.outcomes (outcome_of config s.entries (Nexus p.initiator) unit moment act)))
         (after (has_no_room config s.entries (Nexus p.initiator) unit act)))
@@ -109,14 +109,14 @@ quiet-did config s moment p quiet q = go (next_step step config p) refl
         after true = quiet-full (its config p) q
         after false = quiet-answered (its config p) unit act _ q e (answer-kind config s.entries unit (Nexus p.initiator) moment act)
 
-quiet-ran : (config : Configuration) (s : Standing) (initiator moment : ℕ) → Quiet config s → Quiet config (ran step config s moment NoMark (waiting initiator s.pending))
+quiet-ran : (config : Configuration) (s : ReplayState) (initiator moment : ℕ) → Quiet config s → Quiet config (ran step config s moment NoShortage (waiting initiator s.pending))
 quiet-ran config s initiator moment quiet = go (waiting initiator s.pending) refl
   where
-    go : (w : Option Pending) → waiting initiator s.pending ≡ w → Quiet config (ran step config s moment NoMark w)
+    go : (w : Option Pending) → waiting initiator s.pending ≡ w → Quiet config (ran step config s moment NoShortage w)
     go None e = quiet
     go (Some p) e = quiet-did config s moment p quiet (Each-in (λ (p : Pending). IsQuiet (its config p)) s.pending p quiet.waits (find-in (is_of initiator) s.pending p e))
 
-quiet-next : (config : Configuration) (s : Standing) (item : TraceItem) → Quiet config s → Quiet config (standing.next step config s item (mark_for item []))
+quiet-next : (config : Configuration) (s : ReplayState) (item : TraceItem) → Quiet config s → Quiet config (state.next step config s item (shortage_for item []))
 quiet-next config s (TraceItem.Begin initiator moment request) quiet =
     quiet-goes config (record s { items = s.items + 1 }) (record { initiator = initiator; request = request; outcomes = [] })
     (record { waits = quiet.waits; said = quiet.said }) (quiet-of (program config request) (program-honest config request))
@@ -124,35 +124,35 @@ quiet-next config s (TraceItem.Run initiator moment) quiet =
     quiet-ran config (record s { items = s.items + 1 }) initiator moment (record { waits = quiet.waits; said = quiet.said })
 quiet-next config s (TraceItem.Pump unit moment) quiet = record { waits = quiet.waits; said = quiet.said }
 
-none-behind : (item : TraceItem) → marks_behind item [] ≡ []
+none-behind : (item : TraceItem) → shortages_behind item [] ≡ []
 none-behind (TraceItem.Begin initiator moment request) = refl
 none-behind (TraceItem.Run initiator moment) = refl
 none-behind (TraceItem.Pump unit moment) = refl
 
-quiet-play : (config : Configuration) (s : Standing) (xs : List Placed) (ending : Ending) → Quiet config s → Quiet config (play step config s xs ending []).standing
+quiet-play : (config : Configuration) (s : ReplayState) (xs : List Placed) (ending : Ending) → Quiet config s → Quiet config (play step config s xs ending []).state
 quiet-play config s [] ending quiet = quiet
 quiet-play config s (x ∷ xs) ending quiet = go (fits config s x.item)
-    (subst (λ m. Quiet config (play step config (standing.next step config s x.item (mark_for x.item [])) xs ending m).standing) (sym (none-behind x.item))
-    (quiet-play config (standing.next step config s x.item (mark_for x.item [])) xs ending (quiet-next config s x.item quiet)))
+    (subst (λ m. Quiet config (play step config (state.next step config s x.item (shortage_for x.item [])) xs ending m).state) (sym (none-behind x.item))
+    (quiet-play config (state.next step config s x.item (shortage_for x.item [])) xs ending (quiet-next config s x.item quiet)))
   where
-    go : (t : Bool) → Quiet config (play step config (standing.next step config s x.item (mark_for x.item [])) xs ending (marks_behind x.item [])).standing
-        → Quiet config (if t then play step config (standing.next step config s x.item (mark_for x.item [])) xs ending (marks_behind x.item [])
-        else record { standing = s; ending = BadRecord x.place }).standing
+    go : (t : Bool) → Quiet config (play step config (state.next step config s x.item (shortage_for x.item [])) xs ending (shortages_behind x.item [])).state
+        → Quiet config (if t then play step config (state.next step config s x.item (shortage_for x.item [])) xs ending (shortages_behind x.item [])
+        else record { state = s; ending = BadRecord x.place }).state
     go true later = later
     go false later = quiet
 
-none-busy : (rs : List Record) → Each (λ (r : Record). is_busy r.reply ≡ false) rs → count_by (λ (r : Record). is_busy r.reply) rs ≡ 0
+none-busy : (rs : List AddressedReply) → Each (λ (r : AddressedReply). is_busy r.reply ≡ false) rs → count_by (λ (r : AddressedReply). is_busy r.reply) rs ≡ 0
 none-busy [] all = refl
 none-busy (r ∷ rs) all =
-    sum_by-cons (λ (r : Record). cond (is_busy r.reply) 1 0) r rs
-    ∙ ap (λ t. cond t 1 0 + count_by (λ (r : Record). is_busy r.reply) rs) all.0
-    ∙ (let rest : count_by (λ (r : Record). is_busy r.reply) rs ≡ 0 = none-busy rs all.1 in omega (arith, rest))
+    sum_by-cons (λ (r : AddressedReply). cond (is_busy r.reply) 1 0) r rs
+    ∙ ap (λ t. cond t 1 0 + count_by (λ (r : AddressedReply). is_busy r.reply) rs) all.0
+    ∙ (let rest : count_by (λ (r : AddressedReply). is_busy r.reply) rs ≡ 0 = none-busy rs all.1 in omega (arith, rest))
 
-pub quiet_law : (bytes : List ℕ) → replies_that is_busy (played step bytes []).standing ≡ 0
+pub quiet_law : (bytes : List ℕ) → replies_that is_busy (played step bytes []).state ≡ 0
 quiet_law bytes = go (read_header bytes)
   where
-    go : (p : Parsed Configuration) → replies_that is_busy (played_after step p bytes []).standing ≡ 0
+    go : (p : Parsed Configuration) → replies_that is_busy (played_after step p bytes []).state ≡ 0
     go Short = refl
     go (Bad place) = refl
-    go (Whole config used) = none-busy (played_after step (Whole config used) bytes []).standing.replies
+    go (Whole config used) = none-busy (played_after step (Whole config used) bytes []).state.replies
         (quiet-play config at_first (trace_of items_limit used (drop used bytes)).items (trace_of items_limit used (drop used bytes)).ending (record { waits = tt; said = tt })).said

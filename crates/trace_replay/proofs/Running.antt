@@ -11,11 +11,11 @@ use Rattle.cmd_program.specs.declared.step.Outcome.{Outcome}
 use Rattle.cmd_program.specs.Stepping.{gave_up, gives_up}
 use Rattle.trace_replay.specs.declared.units.Units.{Units}
 use Rattle.trace_replay.specs.declared.nexus.Nexus.{Nexus}
-use Rattle.trace_replay.specs.Standing.{Pending, Mark, NoMark, AtBegin, AtAct, AtStep, seq, has_no_room, entries_after, outcome_of, noted, noted_at_step, outcomes_at, entries_at}
+use Rattle.trace_replay.specs.ReplayState.{Pending, Shortage, NoShortage, AtBegin, AtAct, AtStep, seq, has_no_room, entries_after, outcome_of, noted, noted_at_step, outcomes_at, entries_at}
 use Rattle.cm_history.specs.Ends.{ends_operation}
 use Rattle.cm_history.specs.History.{past_of}
-use Rattle.trace_replay.specs.inner.Machines.{HaveCounted, HasActed, HasRun, WentOn, mark_of, is_at_act_of}
-use Rattle.trace_replay.proofs.Going.{gave-up-more, gave-up-none}
+use Rattle.trace_replay.specs.inner.Machines.{HaveCounted, HasActed, HasRun, WentOn, shortage_of, is_at_act_of}
+use Rattle.trace_replay.proofs.CommandSteps.{gave-up-more, gave-up-none}
 
 always : (b : Bool) → cond b true true ≡ true
 always true = refl
@@ -49,37 +49,37 @@ module _ (config : Configuration) (entries : List Entry) (p : Pending) (u moment
   abbrev later : List Entry
   later = entries_after config entries actor u moment act
 
-  -- its outcomes, and the mark
-  moved-on : (mark : Mark) (more outcomes : List Outcome) → (p.outcomes ++ found ∷ []) ++ more ≡ p.outcomes ++ outcomes → outcomes ≡ outcomes_at mark outcome
-      → WentOn config (noted (noted p (found ∷ [])) more) nexus.waiting reply → WentOn config (noted p (outcomes_at mark outcome)) nexus.waiting reply
-  moved-on mark more outcomes same is went =
+  -- its outcomes, and the shortage
+  moved-on : (shortage : Shortage) (more outcomes : List Outcome) → (p.outcomes ++ found ∷ []) ++ more ≡ p.outcomes ++ outcomes → outcomes ≡ outcomes_at shortage outcome
+      → WentOn config (noted (noted p (found ∷ [])) more) nexus.waiting reply → WentOn config (noted p (outcomes_at shortage outcome)) nexus.waiting reply
+  moved-on shortage more outcomes same is went =
       subst (λ os. WentOn config (record p { outcomes = os }) nexus.waiting reply) (same ∙ ap (λ l. p.outcomes ++ l) is) went
 
   pub has-run : (n : ℕ) → HasActed config entries p.initiator u moment act (gave_up p.outcomes) after n found → nexus.seq ≡ n
       → (wanted : Bool) → (gave_up (p.outcomes ++ found ∷ []) ≡ true → wanted ≡ false)
-      → WentOn config (noted (noted p (found ∷ [])) (noted_at_step (mark_of wanted))) nexus.waiting reply
+      → WentOn config (noted (noted p (found ∷ [])) (noted_at_step (shortage_of wanted))) nexus.waiting reply
       → HasRun config entries p u moment act after nexus reply
-  has-run n acted right wanted once went = go acted.mark acted.allowed acted.units (right ∙ acted.seq) acted.outcome wanted once went
+  has-run n acted right wanted once went = go acted.shortage acted.allowed acted.units (right ∙ acted.seq) acted.outcome wanted once went
     where
-      go : (mark : Mark) → is_at_act_of (gave_up p.outcomes) mark (ends_operation (past_of config u entries) actor act) ≡ true
-          → HaveCounted config (entries_at mark entries later) after → nexus.seq ≡ seq actor (entries_at mark entries later)
-          → outcomes_at mark outcome ≡ found ∷ [] → (wanted : Bool) → (gave_up (p.outcomes ++ found ∷ []) ≡ true → wanted ≡ false)
-          → WentOn config (noted (noted p (found ∷ [])) (noted_at_step (mark_of wanted))) nexus.waiting reply
+      go : (shortage : Shortage) → is_at_act_of (gave_up p.outcomes) shortage (ends_operation (past_of config u entries) actor act) ≡ true
+          → HaveCounted config (entries_at shortage entries later) after → nexus.seq ≡ seq actor (entries_at shortage entries later)
+          → outcomes_at shortage outcome ≡ found ∷ [] → (wanted : Bool) → (gave_up (p.outcomes ++ found ∷ []) ≡ true → wanted ≡ false)
+          → WentOn config (noted (noted p (found ∷ [])) (noted_at_step (shortage_of wanted))) nexus.waiting reply
           → HasRun config entries p u moment act after nexus reply
-      go NoMark allowed units n is false once went = record {
-        mark = NoMark;
+      go NoShortage allowed units n is false once went = record {
+        shortage = NoShortage;
         allowed = always (gave_up p.outcomes);
         units = units;
         seq = n;
-        went = moved-on NoMark [] (found ∷ []) (append-nil (p.outcomes ++ found ∷ [])) (sym is) went;
+        went = moved-on NoShortage [] (found ∷ []) (append-nil (p.outcomes ++ found ∷ [])) (sym is) went;
       }
-      go NoMark allowed units n is true once went =
+      go NoShortage allowed units n is true once went =
           let same : outcome ≡ found = cc in
           let goes : gave_up (p.outcomes ++ found ∷ []) ≡ true → ⊥ = λ e. let k = once e in cc in
           let first : gave_up p.outcomes ≡ false = not-before goes in
           let room = room-there config entries actor u moment act p.outcomes found same goes in
           record {
-            mark = AtStep;
+            shortage = AtStep;
             allowed = rw (first, room) refl;
             units = units;
             seq = n;
@@ -98,12 +98,12 @@ module _ (config : Configuration) (entries : List Entry) (p : Pending) (u moment
           let ends = right-of (gave_up p.outcomes) (ends_operation (past_of config u entries) actor act) allowed in
           let gone : wanted ≡ false = once (ap (λ o. gave_up (p.outcomes ++ o ∷ [])) none ∙ gave-up-none p.outcomes) in
           record {
-            mark = AtAct;
+            shortage = AtAct;
             allowed = rw (first, ends) refl;
             units = units;
             seq = n;
             went = moved-on AtAct [] (found ∷ []) (append-nil (p.outcomes ++ found ∷ [])) (sym is)
-                (subst (λ w. WentOn config (noted (noted p (found ∷ [])) (noted_at_step (mark_of w))) nexus.waiting reply) gone went);
+                (subst (λ w. WentOn config (noted (noted p (found ∷ [])) (noted_at_step (shortage_of w))) nexus.waiting reply) gone went);
           }
         where
           left-of : (a b : Bool) → (not a && not b) ≡ true → a ≡ false

@@ -9,7 +9,7 @@ use Rattle.byteorder.specs.Endian.{big_bytes}
 use Rattle.cm_frame.specs.declared.frame.Reply.{Reply}
 use Rattle.cm_frame.specs.Grammar.{reply_bytes, reply_body, data_in, data_limit}
 use Rattle.cmd_program.specs.Meaning.{IsOfLength}
-use Rattle.trace_replay.specs.Played.{record_bytes}
+use Rattle.trace_replay.specs.Played.{addressed_bytes}
 use Rattle.trace_replay.specs.declared.fault.ReplayFault.{ReplayFault}
 use Rattle.trace_replay.specs.Replayed.{IsCounted}
 use Rattle.trace_replay.specs.inner.Writing.{IsWritten, IsBegun, Writes, IsWriteFault, IsCountedBy}
@@ -129,5 +129,5 @@ data-few Reply.Full few = omega arith
 -- the tail was written, and then all of the record was
 pub writes-record : {A : Type 0} (r : Result A ReplayFault) (taken given : Option (List ℕ)) (waits bytes : List ℕ) (i : ℕ) (reply : Reply)
     → Writes taken given waits (((bytes ++ big_bytes 4 i) ++ take 6 (reply_bytes reply)) ++ drop 6 (reply_bytes reply)) r
-    → Writes taken given waits (bytes ++ record_bytes (record { initiator = i; reply = reply })) r
+    → Writes taken given waits (bytes ++ addressed_bytes (record { initiator = i; reply = reply })) r
 writes-record r taken given waits bytes i reply w = subst (λ l. Writes taken given waits l r) (record-joined bytes (big_bytes 4 i) (reply_bytes reply)) w

@@ -12,8 +12,8 @@ use Rattle.cmd_program.specs.declared.step.Step.{Step}
 use Rattle.cmd_program.specs.Stepping.{Stepping}
 use Rattle.cmd_program.specs.WriteEnds.{IsWriteNow, EndsAsPromised}
 use Rattle.trace_replay.specs.Items.{Placed, trace_of, items_limit}
-use Rattle.trace_replay.specs.Standing.{Pending, Record, Standing, Mark, AtBegin, at_first, waiting, next_step, next, fits, noted_at_step, noted_act}
-use Rattle.trace_replay.specs.Played.{mark_for, marks_behind}
+use Rattle.trace_replay.specs.ReplayState.{Pending, AddressedReply, ReplayState, Shortage, AtBegin, at_first, waiting, next_step, next, fits, noted_at_step, noted_act}
+use Rattle.trace_replay.specs.Played.{shortage_for, shortages_behind}
 
 -- a command with the outcomes of all its acts, and its reply
 pub record Ended : Type 0 where
@@ -31,46 +31,46 @@ abbrev pub ended_now : Stepping → Configuration → Pending → List Ended
 ended_now step config p = ended_by p (next_step step config p)
 
 -- a command may end at once
-abbrev pub ended_at_begin : Stepping → Configuration → ℕ → Request → Mark → List Ended
+abbrev pub ended_at_begin : Stepping → Configuration → ℕ → Request → Shortage → List Ended
 ended_at_begin step config initiator request AtBegin =
     (record { initiator = initiator; request = request; outcomes = Outcome.NoMemory ∷ []; reply = Reply.Busy }) ∷ []
-ended_at_begin step config initiator request mark =
-    ended_now step config (record { initiator = initiator; request = request; outcomes = noted_at_step mark })
+ended_at_begin step config initiator request shortage =
+    ended_now step config (record { initiator = initiator; request = request; outcomes = noted_at_step shortage })
 
 -- a command may end by what it notes of its act
-abbrev pub ended_at_act : Stepping → Configuration → Standing → ℕ → Mark → Pending → Step → List Ended
-ended_at_act step config s moment mark p (Step.Done reply) = []
-ended_at_act step config s moment mark p (Step.Do unit act) = ended_now step config (noted_act config s p unit moment act mark)
+abbrev pub ended_at_act : Stepping → Configuration → ReplayState → ℕ → Shortage → Pending → Step → List Ended
+ended_at_act step config s moment shortage p (Step.Done reply) = []
+ended_at_act step config s moment shortage p (Step.Do unit act) = ended_now step config (noted_act config s p unit moment act shortage)
 
-abbrev pub ended_at_run : Stepping → Configuration → Standing → ℕ → Mark → Option Pending → List Ended
-ended_at_run step config s moment mark None = []
-ended_at_run step config s moment mark (Some p) = ended_at_act step config s moment mark p (next_step step config p)
+abbrev pub ended_at_run : Stepping → Configuration → ReplayState → ℕ → Shortage → Option Pending → List Ended
+ended_at_run step config s moment shortage None = []
+ended_at_run step config s moment shortage (Some p) = ended_at_act step config s moment shortage p (next_step step config p)
 
 -- the command that the item ends, if it ends one
-abbrev pub ended_at : Stepping → Configuration → Standing → TraceItem → Mark → List Ended
-ended_at step config s (TraceItem.Begin initiator moment request) mark = ended_at_begin step config initiator request mark
-ended_at step config s (TraceItem.Run initiator moment) mark = ended_at_run step config s moment mark (waiting initiator s.pending)
-ended_at step config s (TraceItem.Pump unit moment) mark = []
+abbrev pub ended_at : Stepping → Configuration → ReplayState → TraceItem → Shortage → List Ended
+ended_at step config s (TraceItem.Begin initiator moment request) shortage = ended_at_begin step config initiator request shortage
+ended_at step config s (TraceItem.Run initiator moment) shortage = ended_at_run step config s moment shortage (waiting initiator s.pending)
+ended_at step config s (TraceItem.Pump unit moment) shortage = []
 
 -- those of the items one after another, up to the first that does not fit
-abbrev pub ended_in : Stepping → Configuration → Standing → List Placed → List Mark → List Ended
-ended_in step config s [] marks = []
-ended_in step config s (x ∷ xs) marks =
+abbrev pub ended_in : Stepping → Configuration → ReplayState → List Placed → List Shortage → List Ended
+ended_in step config s [] shortages = []
+ended_in step config s (x ∷ xs) shortages =
     if fits config s x.item
-    then ended_at step config s x.item (mark_for x.item marks)
-    ++ ended_in step config (next step config s x.item (mark_for x.item marks)) xs (marks_behind x.item marks)
+    then ended_at step config s x.item (shortage_for x.item shortages)
+    ++ ended_in step config (next step config s x.item (shortage_for x.item shortages)) xs (shortages_behind x.item shortages)
     else []
 
-abbrev pub ended_after : Stepping → Parsed Configuration → List ℕ → List Mark → List Ended
-ended_after step (Whole config used) bytes marks = ended_in step config at_first (trace_of items_limit used (drop used bytes)).items marks
-ended_after step _ bytes marks = []
+abbrev pub ended_after : Stepping → Parsed Configuration → List ℕ → List Shortage → List Ended
+ended_after step (Whole config used) bytes shortages = ended_in step config at_first (trace_of items_limit used (drop used bytes)).items shortages
+ended_after step _ bytes shortages = []
 
 -- those of a whole input
-abbrev pub ended : Stepping → List ℕ → List Mark → List Ended
-ended step bytes marks = ended_after step (read_header bytes) bytes marks
+abbrev pub ended : Stepping → List ℕ → List Shortage → List Ended
+ended step bytes shortages = ended_after step (read_header bytes) bytes shortages
 
 -- whom the reply is for
-abbrev pub reply_to : Ended → Record
+abbrev pub reply_to : Ended → AddressedReply
 reply_to e = record { initiator = e.initiator; reply = e.reply }
 
 -- a WRITE USING TOKEN without IMMED ends as promised

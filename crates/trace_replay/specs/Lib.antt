@@ -1,8 +1,8 @@
 pub mod Items
-pub mod Standing
+pub mod ReplayState
 pub mod Played
 pub mod Ended
-pub mod Marks
+pub mod Shortages
 pub mod Replayed
 pub mod Faults
 pub mod inner

@@ -11,63 +11,63 @@ use Rattle.cm_frame.specs.Reading.{read_header}
 use Rattle.cmd_program.specs.Stepping.{Stepping}
 use Rattle.trace_replay.specs.declared.summary.Summary.{Summary}
 use Rattle.trace_replay.specs.Items.{Ending, Torn, BadHeader, BadRecord, Placed, trace_of, items_limit}
-use Rattle.trace_replay.specs.Standing.{Standing, Record, Mark, NoMark, at_first, next, fits}
+use Rattle.trace_replay.specs.ReplayState.{ReplayState, AddressedReply, Shortage, NoShortage, at_first, next, fits}
 
 -- how things stand at the end, and why it is the end
 pub record Played : Type 0 where
-  pub standing : Standing
+  pub state : ReplayState
   pub ending : Ending
 
--- There is a mark for each Begin and each Run, and none for a Pump. Marks that are not there say nothing.
-abbrev pub first_mark : List Mark → Mark
-first_mark [] = NoMark
-first_mark (m ∷ marks) = m
+-- There is a shortage for each Begin and each Run, and none for a Pump. Shortages that are not there say nothing.
+abbrev pub first_shortage : List Shortage → Shortage
+first_shortage [] = NoShortage
+first_shortage (m ∷ shortages) = m
 
-abbrev pub later_marks : List Mark → List Mark
+abbrev pub later_marks : List Shortage → List Shortage
 later_marks [] = []
-later_marks (m ∷ marks) = marks
+later_marks (m ∷ shortages) = shortages
 
-abbrev pub mark_for : TraceItem → List Mark → Mark
-mark_for (TraceItem.Pump unit moment) marks = NoMark
-mark_for item marks = first_mark marks
+abbrev pub shortage_for : TraceItem → List Shortage → Shortage
+shortage_for (TraceItem.Pump unit moment) shortages = NoShortage
+shortage_for item shortages = first_shortage shortages
 
-abbrev pub marks_behind : TraceItem → List Mark → List Mark
-marks_behind (TraceItem.Pump unit moment) marks = marks
-marks_behind item marks = later_marks marks
+abbrev pub shortages_behind : TraceItem → List Shortage → List Shortage
+shortages_behind (TraceItem.Pump unit moment) shortages = shortages
+shortages_behind item shortages = later_marks shortages
 
 -- the items one after another, up to the first that does not fit
-abbrev pub play : Stepping → Configuration → Standing → List Placed → Ending → List Mark → Played
-play step config s [] ending marks = record { standing = s; ending = ending }
-play step config s (x ∷ xs) ending marks =
+abbrev pub play : Stepping → Configuration → ReplayState → List Placed → Ending → List Shortage → Played
+play step config s [] ending shortages = record { state = s; ending = ending }
+play step config s (x ∷ xs) ending shortages =
     if fits config s x.item
-    then play step config (next step config s x.item (mark_for x.item marks)) xs ending (marks_behind x.item marks)
-    else record { standing = s; ending = BadRecord x.place }
+    then play step config (next step config s x.item (shortage_for x.item shortages)) xs ending (shortages_behind x.item shortages)
+    else record { state = s; ending = BadRecord x.place }
 
 -- bytes that stand at a place, where `n` more items are allowed
-abbrev pub played_from : Stepping → Configuration → Standing → ℕ → ℕ → List ℕ → List Mark → Played
-played_from step config s n place bytes marks =
-    play step config s (trace_of n place bytes).items (trace_of n place bytes).ending marks
+abbrev pub played_from : Stepping → Configuration → ReplayState → ℕ → ℕ → List ℕ → List Shortage → Played
+played_from step config s n place bytes shortages =
+    play step config s (trace_of n place bytes).items (trace_of n place bytes).ending shortages
 
 abbrev pub never_began : Ending → Played
-never_began ending = record { standing = at_first; ending = ending }
+never_began ending = record { state = at_first; ending = ending }
 
-abbrev pub played_after : Stepping → Parsed Configuration → List ℕ → List Mark → Played
-played_after step (Whole config used) bytes marks = played_from step config at_first items_limit used (drop used bytes) marks
-played_after step Short bytes marks = never_began (Torn 0)
-played_after step (Bad place) bytes marks = never_began (BadHeader place)
+abbrev pub played_after : Stepping → Parsed Configuration → List ℕ → List Shortage → Played
+played_after step (Whole config used) bytes shortages = played_from step config at_first items_limit used (drop used bytes) shortages
+played_after step Short bytes shortages = never_began (Torn 0)
+played_after step (Bad place) bytes shortages = never_began (BadHeader place)
 
 -- a whole input: a header, and then items
-abbrev pub played : Stepping → List ℕ → List Mark → Played
-played step bytes marks = played_after step (read_header bytes) bytes marks
+abbrev pub played : Stepping → List ℕ → List Shortage → Played
+played step bytes shortages = played_after step (read_header bytes) bytes shortages
 
 -- ---- the output and the counts
 
 -- the initiator in four bytes, and the reply
-abbrev pub record_bytes : Record → List ℕ
-record_bytes r = big_bytes 4 r.initiator ++ reply_bytes r.reply
+abbrev pub addressed_bytes : AddressedReply → List ℕ
+addressed_bytes r = big_bytes 4 r.initiator ++ reply_bytes r.reply
 
-abbrev pub output_of : Standing → List ℕ
-output_of s = flat_map record_bytes s.replies
+abbrev pub output_of : ReplayState → List ℕ
+output_of s = flat_map addressed_bytes s.replies
 
 abbrev pub is_good : Reply → Bool
 is_good (Reply.Good bytes) = true
@@ -86,10 +86,10 @@ is_task_set_full Reply.Full = true
 is_task_set_full _ = false
 
 -- how many of the replies are such
-abbrev pub replies_that : (Reply → Bool) → Standing → ℕ
-replies_that test s = count_by (λ (r : Record). test r.reply) s.replies
+abbrev pub replies_that : (Reply → Bool) → ReplayState → ℕ
+replies_that test s = count_by (λ (r : AddressedReply). test r.reply) s.replies
 
-abbrev pub summary_of : Standing → Summary
+abbrev pub summary_of : ReplayState → Summary
 summary_of s = record {
   records = s.items;
   replies = length s.replies;

@@ -11,9 +11,9 @@ use Rattle.trace_replay.specs.declared.summary.Summary.{Summary}
 use Rattle.trace_replay.specs.declared.fault.ReplayFault.{ReplayFault}
 use Rattle.trace_replay.specs.declared.fault.ReplayFault.TheVariants.{ReadFault, WriteFault, OutOfMemory}
 use Rattle.trace_replay.specs.Items.{Done, Torn, BadHeader, BadRecord, Records, Ending}
-use Rattle.trace_replay.specs.Standing.{Mark}
+use Rattle.trace_replay.specs.ReplayState.{Shortage}
 use Rattle.trace_replay.specs.Played.{Played, played, output_of, summary_of}
-use Rattle.trace_replay.specs.Marks.{may_mark, met_want}
+use Rattle.trace_replay.specs.Shortages.{may_lack, met_want}
 
 -- The bytes that a replay is judged by are all that the source had left; where a pull failed, those that were pulled.
 abbrev pub IsInput : Option (List ℕ) → List ℕ → List ℕ → Result Summary ReplayFault → Type 0
@@ -28,56 +28,56 @@ IsReadSo rest _ = Unit {0}
 
 -- all replies of the trace were written, and it ended so
 abbrev pub EndsSo : Played → List ℕ → Ending → Type 0
-EndsSo p pushed ending = (p.ending ≡ ending) × (pushed ≡ output_of p.standing)
+EndsSo p pushed ending = (p.ending ≡ ending) × (pushed ≡ output_of p.state)
 
 -- by its answer, what was written and how the trace ended
 abbrev pub IsAnswer : Played → List ℕ → Result Summary ReplayFault → Type 0
-IsAnswer p pushed (Ok summary) = EndsSo p pushed Done × (summary ≡ summary_of p.standing)
+IsAnswer p pushed (Ok summary) = EndsSo p pushed Done × (summary ≡ summary_of p.state)
 IsAnswer p pushed (Err (ReplayFault.Torn place)) = EndsSo p pushed (Torn place)
 IsAnswer p pushed (Err (ReplayFault.BadHeader place)) = EndsSo p pushed (BadHeader place)
 IsAnswer p pushed (Err (ReplayFault.BadRecord place)) = EndsSo p pushed (BadRecord place)
 IsAnswer p pushed (Err ReplayFault.Records) = EndsSo p pushed Records
-IsAnswer p pushed (Err ReadFault) = pushed ≡ output_of p.standing
-IsAnswer p pushed (Err WriteFault) = IsBeginning pushed (output_of p.standing)
-IsAnswer p pushed (Err OutOfMemory) = IsBeginning pushed (output_of p.standing)
+IsAnswer p pushed (Err ReadFault) = pushed ≡ output_of p.state
+IsAnswer p pushed (Err WriteFault) = IsBeginning pushed (output_of p.state)
+IsAnswer p pushed (Err OutOfMemory) = IsBeginning pushed (output_of p.state)
 
 -- The answer is that of the trace where memory is never refused, or a reply or a waiting command shows that memory was refused.
 abbrev pub IsCompleteBy : Played → Played → List ℕ → Result Summary ReplayFault → Type 0
-IsCompleteBy free marked pushed (Err WriteFault) = Unit {0}
-IsCompleteBy free marked pushed (Err OutOfMemory) = Unit {0}
-IsCompleteBy free marked pushed answer = IsAnswer free pushed answer ⊎ IsTrue (met_want marked.standing)
+IsCompleteBy free short pushed (Err WriteFault) = Unit {0}
+IsCompleteBy free short pushed (Err OutOfMemory) = Unit {0}
+IsCompleteBy free short pushed answer = IsAnswer free pushed answer ⊎ IsTrue (met_want short.state)
 
 -- what was played is a legal history
 abbrev pub IsHistory : List ℕ → Played → Type 0
-IsHistory bytes p = (config : Configuration) (used : ℕ) → read_header bytes ≡ Whole config used → IsLegal config p.standing.entries
+IsHistory bytes p = (config : Configuration) (used : ℕ) → read_header bytes ≡ Whole config used → IsLegal config p.state.entries
 
 -- The items of a beginning of what was pulled: they are a legal history, and their output begins with what was pushed.
-pub record HasPlayedFirst (step : Stepping) (pulled : List ℕ) (marks : List Mark) (pushed : List ℕ) : Type 0 where
+pub record HasPlayedFirst (step : Stepping) (pulled : List ℕ) (shortages : List Shortage) (pushed : List ℕ) : Type 0 where
   pub front : List ℕ
   pub begins : IsBeginning front pulled
-  pub legal : IsHistory front (played step front marks)
-  pub output : IsBeginning pushed (output_of (played step front marks).standing)
+  pub legal : IsHistory front (played step front shortages)
+  pub output : IsBeginning pushed (output_of (played step front shortages).state)
 
 -- All that was played is a legal history. Where a push failed or memory was wanted, that is said of the first items.
-abbrev pub IsLegalBy : Stepping → List ℕ → List ℕ → List Mark → List ℕ → Result Summary ReplayFault → Type 0
-IsLegalBy step bytes pulled marks pushed (Err WriteFault) = HasPlayedFirst step pulled marks pushed
-IsLegalBy step bytes pulled marks pushed (Err OutOfMemory) = HasPlayedFirst step pulled marks pushed
-IsLegalBy step bytes pulled marks pushed _ = IsHistory bytes (played step bytes marks)
+abbrev pub IsLegalBy : Stepping → List ℕ → List ℕ → List Shortage → List ℕ → Result Summary ReplayFault → Type 0
+IsLegalBy step bytes pulled shortages pushed (Err WriteFault) = HasPlayedFirst step pulled shortages pushed
+IsLegalBy step bytes pulled shortages pushed (Err OutOfMemory) = HasPlayedFirst step pulled shortages pushed
+IsLegalBy step bytes pulled shortages pushed _ = IsHistory bytes (played step bytes shortages)
 
--- The bytes, the marks, what was pulled and what was pushed, such that the answer is that of the trace.
+-- The bytes, the shortages, what was pulled and what was pushed, such that the answer is that of the trace.
 pub record Replayed (step : Stepping) (left rest taken given : Option (List ℕ)) (answer : Result Summary ReplayFault) : Type 0 where
   pub bytes : List ℕ
-  pub marks : List Mark
+  pub shortages : List Shortage
   pub pulled : List ℕ
   pub pushed : List ℕ
   pub input : IsInput left pulled bytes answer
   pub consumed : Consumes left rest pulled
   pub read : IsReadSo rest answer
   pub output : Appends taken given pushed
-  pub allowed : IsTrue (may_mark step bytes marks)
-  pub ending : IsAnswer (played step bytes marks) pushed answer
-  pub legal : IsLegalBy step bytes pulled marks pushed answer
-  pub complete : IsCompleteBy (played step bytes []) (played step bytes marks) pushed answer
+  pub allowed : IsTrue (may_lack step bytes shortages)
+  pub ending : IsAnswer (played step bytes shortages) pushed answer
+  pub legal : IsLegalBy step bytes pulled shortages pushed answer
+  pub complete : IsCompleteBy (played step bytes []) (played step bytes shortages) pushed answer
 
 -- ---- the faults of the outside
 

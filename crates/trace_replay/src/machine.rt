@@ -1,6 +1,6 @@
 ghost use Rattle.std.specs.Prelude.{◌≡◌, ℕ, length, IfOk};
 ghost use Rattle.cm_base.specs.Configuration.{Configuration};
-ghost use Rattle.trace_replay.specs.Standing.{Standing, at_first};
+ghost use Rattle.trace_replay.specs.ReplayState.{ReplayState, at_first};
 ghost use Rattle.trace_replay.specs.inner.Machines.{IsStanding, IsEffect, Stands, effect_of};
 
 use crate::nexus::Nexus;
@@ -55,7 +55,7 @@ impl Machine {
 
     /// How many acts were done.
     pub(crate) fn steps(&self) -> u64
-        ensures { (config : Configuration) (s : Standing) → IsStanding config s self.now
+        ensures { (config : Configuration) (s : ReplayState) → IsStanding config s self.now
             → result ≡ length s.entries }
     {
         self.units.stamp()
@@ -64,7 +64,7 @@ impl Machine {
     /// Plays an item. `OutOfMemory` leaves the machine of no use.
     pub(crate) fn play(&mut self, item: TraceItem) -> Result<Effect, OutOfMemory>
         requires { Stands self.old }
-        ensures { (config : Configuration) (s : Standing) → IsStanding config s self.old
+        ensures { (config : Configuration) (s : ReplayState) → IsStanding config s self.old
             → IfOk result (λ effect. IsEffect config s item effect self.new) }
     {
         match item {
@@ -80,7 +80,7 @@ impl Machine {
 
     fn begin(&mut self, initiator: u32, request: Request) -> Result<Effect, OutOfMemory>
         requires { Stands self.old }
-        ensures { (config : Configuration) (s : Standing) (moment : ℕ) → IsStanding config s self.old
+        ensures { (config : Configuration) (s : ReplayState) (moment : ℕ) → IsStanding config s self.old
             → IfOk result (λ effect. IsEffect config s (TraceItem.Begin initiator moment request) effect self.new) }
     {
         let nexus = self.nexuses.entry(initiator)?.or_insert(Nexus::idle());
@@ -93,7 +93,7 @@ impl Machine {
 
     fn run(&mut self, initiator: u32, moment: u64) -> Result<Effect, OutOfMemory>
         requires { Stands self.old }
-        ensures { (config : Configuration) (s : Standing) → IsStanding config s self.old
+        ensures { (config : Configuration) (s : ReplayState) → IsStanding config s self.old
             → IfOk result (λ effect. IsEffect config s (TraceItem.Run initiator moment) effect self.new) }
     {
         let Some(nexus) = self.nexuses.get_mut(&initiator) else {
@@ -115,7 +115,7 @@ impl Machine {
 
     fn pump(&mut self, unit: u16, moment: u64) -> Result<Effect, OutOfMemory>
         requires { Stands self.old }
-        ensures { (config : Configuration) (s : Standing) → IsStanding config s self.old
+        ensures { (config : Configuration) (s : ReplayState) → IsStanding config s self.old
             → IfOk result (λ effect. IsEffect config s (TraceItem.Pump unit moment) effect self.new) }
     {
         if !self.config.is_configured(unit) {

@@ -4,10 +4,10 @@ ghost use Rattle.cm_history.specs.declared.act.Actor.{Actor};
 ghost use Rattle.cm_history.specs.declared.act.Entry.{Entry};
 ghost use Rattle.cmd_program.specs.Meaning.{IsAskable, IsWritable};
 ghost use Rattle.cmd_program.specs.Stepping.{gives_up, gave_up};
-ghost use Rattle.cmd_machine.specs.Standing.{IsSoundAt};
+ghost use Rattle.cmd_machine.specs.Rest.{IsSoundAt};
 ghost use Rattle.any_cmds.specs.Meaning.{IsSoundAny};
-ghost use Rattle.trace_replay.specs.Standing.{Pending, Mark, seq, noted, noted_at_step};
-ghost use Rattle.trace_replay.specs.inner.Machines.{HaveCounted, IsCommandOf, IsCommand, IsWaiting, IsNext, WentOn, HasBegun, MayAct, HasActed, MayRun, HasRun, mark_of};
+ghost use Rattle.trace_replay.specs.ReplayState.{Pending, Shortage, seq, noted, noted_at_step};
+ghost use Rattle.trace_replay.specs.inner.Machines.{HaveCounted, IsCommandOf, IsCommand, IsWaiting, IsNext, WentOn, HasBegun, MayAct, HasActed, MayRun, HasRun, shortage_of};
 
 use crate::units::Units;
 use any_cmds::{AnyCommand, begin_any};
@@ -106,7 +106,7 @@ impl Nexus {
         ensures seq { self.new.seq ≡ self.old.seq }
         ensures went { (p : Pending) → IsCommandOf config.now command given_up p
             → (wanted : Bool) × (gave_up p.outcomes ≡ true → wanted ≡ false)
-            × WentOn config.now (noted p (noted_at_step (mark_of wanted))) self.new.waiting result }
+            × WentOn config.now (noted p (noted_at_step (shortage_of wanted))) self.new.waiting result }
     {
         let (step, gave_up) = next_step(alloc, config, &mut command, given_up);
         match step {
@@ -136,7 +136,7 @@ impl Nexus {
     ) -> Option<Reply>
         requires { self.old.waiting ≡ None }
         ensures seq { self.new.seq ≡ self.old.seq }
-        ensures begun { (mark : Mark) × HasBegun config.now initiator request mark self.new.waiting result }
+        ensures begun { (shortage : Shortage) × HasBegun config.now initiator request shortage self.new.waiting result }
     {
         match begin_any(alloc, config, initiator, request) {
             Ok(command) => self.go_on(alloc, config, command, false),

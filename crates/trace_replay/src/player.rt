@@ -4,7 +4,7 @@ ghost use Rattle.cm_base.specs.Configuration.{Configuration};
 ghost use Rattle.cm_base.specs.declared.parsed.Parsed.TheVariants.{Whole, Short};
 ghost use Rattle.cm_frame.specs.Reading.{read_header, read_item, HasItem};
 ghost use Rattle.cmd_program.specs.Judging.{step};
-ghost use Rattle.trace_replay.specs.Standing.{Standing};
+ghost use Rattle.trace_replay.specs.ReplayState.{ReplayState};
 ghost use Rattle.trace_replay.specs.Replayed.{Replayed, IsCounted};
 ghost use Rattle.trace_replay.specs.inner.Machines.{IsStanding};
 ghost use Rattle.trace_replay.specs.inner.Counting.{HasRoom, with_item};
@@ -45,7 +45,7 @@ pub(crate) struct Found {
 
 /// The fault of an item that may not stand at its place, when all replies were pushed.
 fn bad_record<O: Sink>(place: u64, waits: &mut OutputBuffer, output: &mut O) -> ReplayFault
-    ensures ended { (left rest taken : Option (List ℕ)) (config : Configuration) (s : Standing) (n : ℕ) (input : List ℕ)
+    ensures ended { (left rest taken : Option (List ℕ)) (config : Configuration) (s : ReplayState) (n : ℕ) (input : List ℕ)
         → IsLoopAt left rest taken (O.taken output.old) config s n place input waits.old
         → EndsBad config s n place input
         → Replayed step left rest taken (O.taken output.new) (Err result) }
@@ -271,7 +271,7 @@ impl Player {
         requires item { HasItem self.old.input used }
         requires place { self.old.place + used < 2 ^ 64 }
         requires room { HasRoom self.old.summary }
-        ensures { (config : Configuration) (s : Standing) → IsStanding config s self.old.machine
+        ensures { (config : Configuration) (s : ReplayState) → IsStanding config s self.old.machine
             → self.new ≡ record self.old {
               input = drop used self.old.input;
               place = self.old.place + used;

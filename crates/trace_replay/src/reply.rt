@@ -1,7 +1,7 @@
 ghost use Rattle.std.specs.Prelude.{◌≡◌, ◌++◌, [], ℕ, List, Option, drop, OnOk, OnErr, IfErr, MatchResult};
 ghost use Rattle.cm_frame.specs.Grammar.{reply_bytes};
 ghost use Rattle.cmd_program.specs.Meaning.{IsOfLength};
-ghost use Rattle.trace_replay.specs.Played.{record_bytes};
+ghost use Rattle.trace_replay.specs.Played.{addressed_bytes};
 ghost use Rattle.trace_replay.specs.inner.Writing.{IsWritten, IsBegun, Writes, IsCountedBy};
 
 use crate::fault::ReplayFault;
@@ -10,7 +10,7 @@ use cm_frame::{Reply, reply_head};
 
 /// From so many bytes on, data is pushed from where it stands, and replies that were gathered are
 /// pushed.
-const PIECE: usize = 65_536;
+const CHUNK: usize = 65_536;
 
 /// Pushes all bytes that wait.
 pub(crate) fn flush<O: Sink>(waits: &mut OutputBuffer, output: &mut O) -> Result<(), ReplayFault>
@@ -47,7 +47,7 @@ fn write_data<O: Sink>(
     ensures counted { (reads : ℕ)
         → IsCountedBy reads reads (O.write_faults output.old) (O.write_faults output.new) result }
 {
-    if part.len() < PIECE {
+    if part.len() < CHUNK {
         return gather(waits, part);
     }
     flush(waits, output)?;
@@ -75,14 +75,14 @@ fn write_tail<O: Sink>(
 }
 
 /// Pushes the bytes that wait, where they are many.
-fn relieve<O: Sink>(waits: &mut OutputBuffer, output: &mut O) -> Result<(), ReplayFault>
+fn flush_long<O: Sink>(waits: &mut OutputBuffer, output: &mut O) -> Result<(), ReplayFault>
     ensures written { (taken : Option (List ℕ)) (bytes : List ℕ)
         → IsWritten taken (O.taken output.old) waits.old bytes
         → Writes taken (O.taken output.new) waits.new bytes result }
     ensures counted { (reads : ℕ)
         → IsCountedBy reads reads (O.write_faults output.old) (O.write_faults output.new) result }
 {
-    if waits.len() < PIECE {
+    if waits.len() < CHUNK {
         return Ok(());
     }
     flush(waits, output)
@@ -99,12 +99,12 @@ pub(crate) fn write_reply<O: Sink>(
     ensures written { (taken : Option (List ℕ)) (bytes : List ℕ)
         → IsWritten taken (O.taken output.old) waits.old bytes
         → Writes taken (O.taken output.new) waits.new
-        (bytes ++ record_bytes (record { initiator = initiator; reply = reply.now })) result }
+        (bytes ++ addressed_bytes (record { initiator = initiator; reply = reply.now })) result }
     ensures counted { (reads : ℕ)
         → IsCountedBy reads reads (O.write_faults output.old) (O.write_faults output.new) result }
 {
     gather(waits, &initiator.to_be_bytes())?;
     gather(waits, &reply_head(reply))?;
     write_tail(waits, output, reply)?;
-    relieve(waits, output)
+    flush_long(waits, output)
 }

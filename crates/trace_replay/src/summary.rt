@@ -1,6 +1,6 @@
 ghost use Rattle.std.specs.Prelude.{◌≡◌};
 ghost use Rattle.cmd_program.specs.Meaning.{IsOfLength};
-ghost use Rattle.trace_replay.specs.Standing.{at_first};
+ghost use Rattle.trace_replay.specs.ReplayState.{at_first};
 ghost use Rattle.trace_replay.specs.Played.{summary_of};
 ghost use Rattle.trace_replay.specs.inner.Counting.{HasRoom, with_item, with_reply};
 

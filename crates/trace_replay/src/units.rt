@@ -3,7 +3,7 @@ ghost use Rattle.cm_base.specs.Configuration.{Configuration};
 ghost use Rattle.cm_history.specs.declared.act.Entry.{Entry};
 ghost use Rattle.cm_history.specs.Forms.{HasForm};
 ghost use Rattle.trace_replay.specs.inner.Machines.{HaveDone, HaveCounted, DoesAct, MayDo, MayPump};
-ghost use Rattle.trace_replay.specs.Standing.{entries_after};
+ghost use Rattle.trace_replay.specs.ReplayState.{entries_after};
 
 use cm_base::{Config, OutOfMemory};
 use cm_history::{Act, ActRefused, Actor, Answer};

@@ -9,7 +9,7 @@ ghost use Rattle.cmd_program.specs.ExtendedCopy.{closing, captured, left_of};
 ghost use Rattle.xcopy_exec.specs.declared.stage.Stage.{Stage};
 ghost use Rattle.std.specs.Option.{option_map};
 ghost use Rattle.cmd_machine.specs.Last.{by_last, IsLastOf};
-ghost use Rattle.cmd_machine.specs.Standing.{standing, IsSoundAt};
+ghost use Rattle.cmd_machine.specs.Rest.{rest_of, IsSoundAt};
 ghost use Rattle.xcopy_exec.specs.Meaning.{by_phase, by_stage, given, tally, move, ahead, later, IsAhead, IsWithin, IsPutting, IsSoundPhase, move_bytes};
 
 use crate::open_record::{Counted, OpenRecord};
@@ -54,7 +54,7 @@ impl ListCopy {
 
     /// The phase after the segments, which a refusal may have ended. It takes no memory.
     pub(crate) fn ended(self, ended_by: Option<Sense>) -> CopyCommand
-        ensures program { (config : Configuration) → standing by_phase config result ≡ closing (given self) (tally self.counted) ended_by }
+        ensures program { (config : Configuration) → rest_of by_phase config result ≡ closing (given self) (tally self.counted) ended_by }
         ensures sound { (config : Configuration) → self.unit < length config.units → IsSoundAt IsSoundPhase config result }
     {
         if self.is_recorded() {
@@ -68,7 +68,7 @@ impl ListCopy {
     }
 
     /// The segment that is to be done next, if there is one.
-    fn at_hand(&self) -> Option<Segment>
+    fn current(&self) -> Option<Segment>
         ensures { result ≡ slice_get self.now.list.segments self.now.counted.segments }
     {
         self.list
@@ -85,7 +85,7 @@ impl ListCopy {
         ensures sound { (config : Configuration) → IsAhead config self.old → IsAhead config self.new }
         ensures some { (segment : Segment) → slice_get self.new.list.segments self.new.counted.segments ≡ Some segment → 0 < segment.count }
     {
-        while let Some(segment) = self.at_hand() {
+        while let Some(segment) = self.current() {
             if segment.count > 0 {
                 return;
             }
@@ -94,13 +94,13 @@ impl ListCopy {
     }
 
     /// The phase in which the next segment is begun. It takes no memory.
-    pub(crate) fn onward(mut self) -> CopyCommand
+    pub(crate) fn next_phase(mut self) -> CopyCommand
         requires { length self.list.segments ≤ 64 }
-        ensures program { (config : Configuration) → standing by_phase config result ≡ ahead config self }
+        ensures program { (config : Configuration) → rest_of by_phase config result ≡ ahead config self }
         ensures sound { (config : Configuration) → IsAhead config self → IsSoundAt IsSoundPhase config result }
     {
         self.skip_empty();
-        match self.at_hand() {
+        match self.current() {
             Some(segment) => CommandOf::At(CopyPhase::Copying(Stage::Capturing {
                 copy: self,
                 segment,
@@ -112,19 +112,19 @@ impl ListCopy {
     /// The phase after the Open was answered. It takes no memory.
     pub(crate) fn opened(self, answer: Answer) -> CopyCommand
         requires { length self.list.segments ≤ 64 }
-        ensures program { (config : Configuration) → standing by_phase config result ≡ go_on_by (by_stage config (Stage.Opening self)) answer }
+        ensures program { (config : Configuration) → rest_of by_phase config result ≡ go_on_by (by_stage config (Stage.Opening self)) answer }
         ensures sound { (config : Configuration) → IsAhead config self → IsSoundAt IsSoundPhase config result }
     {
         match answer {
             Answer::Refused(sense) => CommandOf::Ended(Ended::Refused(sense)),
-            _ => self.onward(),
+            _ => self.next_phase(),
         }
     }
 
     /// The phase in which the blocks of a segment, which were answered, are put. It takes no memory.
     pub(crate) fn putting(self, segment: Segment, blocks: BlockList) -> CopyCommand
         requires { 0 < segment.count }
-        ensures program { (config : Configuration) → standing by_phase config result
+        ensures program { (config : Configuration) → rest_of by_phase config result
             ≡ captured (given self) (move config self segment) (later config self) (tally self.counted) (Answer.Blocks blocks) }
         ensures sound { (config : Configuration) → IsWithin config self segment (move_bytes config (move config self segment))
             → AreBlocksOf config (move config self segment).source segment.count blocks → IsSoundAt IsSoundPhase config result }
@@ -143,14 +143,14 @@ impl ListCopy {
     /// The phase after a piece was put, and there may be more. It takes no memory.
     fn piece_done(mut self, segment: Segment, pieces: Pieces) -> CopyCommand
         requires { (config : Configuration) × IsPutting config self segment pieces }
-        ensures program { (answer : Answer) → ((sense : SenseCode) → answer ≡ Answer.Refused sense → ⊥) → (config : Configuration) → standing by_phase config result
+        ensures program { (answer : Answer) → ((sense : SenseCode) → answer ≡ Answer.Refused sense → ⊥) → (config : Configuration) → rest_of by_phase config result
             ≡ go_on_by (by_stage config (Stage.Putting self segment pieces)) answer }
         ensures sound { (config : Configuration) → IsPutting config self segment pieces → IsSoundAt IsSoundPhase config result }
     {
         self.counted.bytes += pieces.count() as u32 * pieces.blocks.block_length();
         if pieces.left == 0 {
             self.counted.segments += 1;
-            return self.onward();
+            return self.next_phase();
         }
         CommandOf::At(CopyPhase::Copying(Stage::Putting {
             copy: self,
@@ -162,7 +162,7 @@ impl ListCopy {
     /// The phase after the Put of a piece was answered. It takes no memory.
     pub(crate) fn put(self, segment: Segment, pieces: Pieces, answer: Answer) -> CopyCommand
         requires { (config : Configuration) × IsPutting config self segment pieces }
-        ensures program { (config : Configuration) → standing by_phase config result
+        ensures program { (config : Configuration) → rest_of by_phase config result
             ≡ go_on_by (by_stage config (Stage.Putting self segment pieces)) answer }
         ensures sound { (config : Configuration) → IsPutting config self segment pieces → IsSoundAt IsSoundPhase config result }
     {

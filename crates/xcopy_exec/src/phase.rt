@@ -1,7 +1,7 @@
 ghost use Rattle.std.specs.Prelude.{◌≡◌};
 ghost use Rattle.cmd_program.specs.Kinds.{is_copy_command};
 
-use crate::recall::{Asked, Told};
+use crate::recall::{RecallQuery, Told};
 use crate::stage::Stage;
 use crate::{extended, recall};
 use cm_base::{Config, OutOfMemory};
@@ -15,7 +15,7 @@ use std::alloc::Global;
 /// How far an EXTENDED COPY(LID1) or RECEIVE COPY STATUS(LID1) has come.
 #[derive(Drop)]
 pub enum CopyPhase {
-    Recalling(Asked),
+    Recalling(RecallQuery),
     Recalled(Told),
     Copying(Stage),
 }
@@ -40,7 +40,7 @@ pub fn is_copy_command(cdb: &Cdb) -> bool
 impl Phase for CopyPhase {
     ghost use Rattle.cmd_program.specs.Kinds.{is_copy_command};
     ghost use Rattle.xcopy_exec.specs.Meaning.{by_phase, IsSoundPhase};
-    ghost use Rattle.xcopy_exec.specs.Going.{phase-goes-on};
+    ghost use Rattle.xcopy_exec.specs.UnderWay.{phase-goes-on};
 
     ghost kind = { is_copy_command };
 

@@ -8,7 +8,7 @@ ghost use Rattle.std.specs.Option.{option_map};
 ghost use Rattle.cmd_program.specs.declared.step.Outcome.{Outcome};
 ghost use Rattle.cmd_machine.specs.Ends.{by_ended};
 ghost use Rattle.cmd_machine.specs.Last.{by_last, IsLastOf};
-ghost use Rattle.cmd_machine.specs.Standing.{standing, IsSoundAt, last_ask};
+ghost use Rattle.cmd_machine.specs.Rest.{rest_of, IsSoundAt, last_ask};
 ghost use Rattle.xcopy_exec.specs.Meaning.{by_phase, by_stage, IsSoundPhase, IsSoundStage};
 
 use crate::faults::place;
@@ -74,7 +74,7 @@ pub(crate) fn copy_ended(ended_by: Option<Sense>) -> Ended
 
 /// The end of a copy whose record was closed.
 fn closed(ended_by: Option<Sense>, answer: Answer) -> CopyCommand
-    ensures program { (config : Configuration) → standing by_phase config result ≡ unless_refused (copy_reply ended_by) answer }
+    ensures program { (config : Configuration) → rest_of by_phase config result ≡ unless_refused (copy_reply ended_by) answer }
     ensures sound { (config : Configuration) → IsSoundAt IsSoundPhase config result }
 {
     match answer {
@@ -121,7 +121,7 @@ impl Stage {
     pub(crate) fn after(self, config: &Config, answer: Answer) -> CopyCommand
         requires sound { IsSoundStage config.now self }
         requires follows { MayFollow config.now (next (by_stage config.now self)) (Outcome.Answered answer) }
-        ensures program { standing by_phase config.now result ≡ go_on_by (by_stage config.now self) answer }
+        ensures program { rest_of by_phase config.now result ≡ go_on_by (by_stage config.now self) answer }
         ensures sound { IsSoundAt IsSoundPhase config.now result }
     {
         let _ = config;

@@ -3,7 +3,7 @@ ghost use Rattle.std.specs.Prelude.{◌≡◌, ℕ, true};
 ghost use Rattle.cm_base.specs.Configuration.{Configuration};
 ghost use Rattle.cm_history.specs.Forms.{HasForm, AreBlocksOf, IsRod, IsReport};
 ghost use Rattle.cmd_program.specs.Meaning.{MayFollow};
-ghost use Rattle.cmd_machine.specs.Standing.{IsSoundAt};
+ghost use Rattle.cmd_machine.specs.Rest.{IsSoundAt};
 ghost use Rattle.any_cmds.specs.Meaning.{IsSoundAny};
 ghost use Rattle.any_cmds.proofs.Meaning.{IsCommand};
 

@@ -11,7 +11,7 @@ use Rattle.cm_history.specs.Deeds.{last_stamp}
 use Rattle.cm_history.specs.Ends.{ends_operation}
 use Rattle.cm_history.specs.History.{on, past_of, answer}
 use Rattle.cm_history.specs.declared.refused.ActRefused.{ActRefused}
-use Rattle.unit_core.specs.Standing as unit
+use Rattle.unit_core.specs.ReplayState as unit
 use Rattle.std.specs.Ordering.{nat_cmp}
 use Rattle.std.specs.BTreeMap.{get}
 use Rattle.cm_frame.specs.declared.frame.Request.{Request}
@@ -23,7 +23,7 @@ use Rattle.cmd_program.specs.Stepping.{gave_up}
 use Rattle.cmd_program.specs.Meaning.{IsAskedOf, IsOfLength, IsOutcomeOf}
 use Rattle.cmd_program.specs.Judging.{step}
 use Rattle.cmd_machine.specs.declared.command.CommandOf.{CommandOf}
-use Rattle.cmd_machine.specs.Standing.{StandsFor, IsSoundAt}
+use Rattle.cmd_machine.specs.Rest.{StandsFor, IsSoundAt}
 use Rattle.any_cmds.specs.declared.phase.AnyPhase.{AnyPhase}
 use Rattle.any_cmds.specs.Meaning.{by_any, IsSoundAny}
 use Rattle.trace_replay.specs.declared.units.Units.{Units}
@@ -31,9 +31,9 @@ use Rattle.trace_replay.specs.declared.nexus.Waiting.{Waiting}
 use Rattle.trace_replay.specs.declared.nexus.Nexus.{Nexus}
 use Rattle.trace_replay.specs.declared.machine.Machine.{Machine}
 use Rattle.trace_replay.specs.declared.machine.Effect.{Effect}
-use Rattle.trace_replay.specs.Standing.{Pending, Record, Standing, Mark, NoMark, AtBegin, AtAct, AtStep, waiting, seq, new_entry, has_no_room, entries_after, outcome_of, noted, noted_at_step, outcomes_at, entries_at, next_step, next, fits}
-use Rattle.trace_replay.specs.Played.{mark_for}
-use Rattle.trace_replay.specs.Marks.{is_no_mark, allowed_at_act, is_allowed}
+use Rattle.trace_replay.specs.ReplayState.{Pending, AddressedReply, ReplayState, Shortage, NoShortage, AtBegin, AtAct, AtStep, waiting, seq, new_entry, has_no_room, entries_after, outcome_of, noted, noted_at_step, outcomes_at, entries_at, next_step, next, fits}
+use Rattle.trace_replay.specs.Played.{shortage_for}
+use Rattle.trace_replay.specs.Shortages.{is_no_shortage, allowed_at_act, is_allowed}
 
 -- ---- units
 
@@ -41,7 +41,7 @@ use Rattle.trace_replay.specs.Marks.{is_no_mark, allowed_at_act, is_allowed}
 pub record HaveDone (config : Configuration) (entries : List Entry) (units : Units) : Type 0 where
   pub limits : AreUnits config.units
   pub count : length units.units.items ≡ length config.units
-  pub each : (u : ℕ) (value : unit.Standing) → slice_get units.units.items u ≡ Some value
+  pub each : (u : ℕ) (value : unit.ReplayState) → slice_get units.units.items u ≡ Some value
       → value ≡ record { config = config; unit = u; entries = on u entries }
   pub stamp : units.stamp ≡ length entries
   pub legal : IsLegal config entries
@@ -105,16 +105,16 @@ pub record IsWaiting (config : Configuration) (w : Waiting) (p : Pending) : Type
   pub asks : next_step step config p ≡ Step.Do w.unit w.act
   pub askable : IsAskedOf config w.unit w.act
 
--- the mark of a step at which memory was wanted, or not
-abbrev pub mark_of : Bool → Mark
-mark_of wanted = if wanted then AtStep else NoMark
+-- the shortage of a step at which memory was wanted, or not
+abbrev pub shortage_of : Bool → Shortage
+shortage_of wanted = if wanted then AtStep else NoShortage
 
 -- the next step of a command, which gave up where it wanted memory for it
 pub record IsNext (config : Configuration) (c : CommandOf AnyPhase) (p : Pending) (next : Step) (given : Bool) : Type 0 where
   pub wanted : Bool
   pub once : gave_up p.outcomes ≡ true → wanted ≡ false
-  pub command : IsCommandOf config c given (noted p (noted_at_step (mark_of wanted)))
-  pub is : next ≡ next_step step config (noted p (noted_at_step (mark_of wanted)))
+  pub command : IsCommandOf config c given (noted p (noted_at_step (shortage_of wanted)))
+  pub is : next ≡ next_step step config (noted p (noted_at_step (shortage_of wanted)))
 
 -- the command waits, or was answered
 abbrev pub WentOn : Configuration → Pending → Option Waiting → Option Reply → Type 0
@@ -123,19 +123,19 @@ WentOn config p (Some w) None = IsWaiting config w p
 WentOn config p None (Some reply) = (next_step step config p ≡ Step.Done reply) × IsOfLength reply
 WentOn config p (Some w) (Some reply) = ⊥
 
--- a mark that may stand at an act, by whether the command gave up before and whether the act ends an operation
-abbrev pub is_at_act_of : Bool → Mark → Bool → Bool
-is_at_act_of given NoMark ends = true
+-- a shortage that may stand at an act, by whether the command gave up before and whether the act ends an operation
+abbrev pub is_at_act_of : Bool → Shortage → Bool → Bool
+is_at_act_of given NoShortage ends = true
 is_at_act_of given AtAct ends = not given && not ends
-is_at_act_of given mark ends = false
+is_at_act_of given shortage ends = false
 
 -- the act of a command was done, or memory was wanted for it, and this is its outcome
 pub record HasActed (config : Configuration) (entries : List Entry) (initiator u moment : ℕ) (act : Act) (given : Bool) (after : Units) (n : ℕ) (found : Outcome) : Type 0 where
-  pub mark : Mark
-  pub allowed : is_at_act_of given mark (ends_operation (past_of config u entries) (Actor.Nexus initiator) act) ≡ true
-  pub units : HaveCounted config (entries_at mark entries (entries_after config entries (Actor.Nexus initiator) u moment act)) after
-  pub seq : n ≡ seq (Actor.Nexus initiator) (entries_at mark entries (entries_after config entries (Actor.Nexus initiator) u moment act))
-  pub outcome : outcomes_at mark (outcome_of config entries (Actor.Nexus initiator) u moment act) ≡ found ∷ []
+  pub shortage : Shortage
+  pub allowed : is_at_act_of given shortage (ends_operation (past_of config u entries) (Actor.Nexus initiator) act) ≡ true
+  pub units : HaveCounted config (entries_at shortage entries (entries_after config entries (Actor.Nexus initiator) u moment act)) after
+  pub seq : n ≡ seq (Actor.Nexus initiator) (entries_at shortage entries (entries_after config entries (Actor.Nexus initiator) u moment act))
+  pub outcome : outcomes_at shortage (outcome_of config entries (Actor.Nexus initiator) u moment act) ≡ found ∷ []
   pub follows : IsOutcomeOf config u act found
 
 -- some entries were done, and a nexus with so many of them may ask the unit for the act
@@ -154,20 +154,20 @@ pub record MayRun (config : Configuration) (units : Units) (n initiator : ℕ) (
   pub seq : n ≡ seq (Actor.Nexus initiator) entries
   pub waiting : IsWaiting config w p
 
--- the command was run, with such a mark
+-- the command was run, with such a shortage
 pub record HasRun (config : Configuration) (entries : List Entry) (p : Pending) (u moment : ℕ) (act : Act) (after : Units) (nexus : Nexus) (reply : Option Reply) : Type 0 where
-  pub mark : Mark
-  pub allowed : (if gave_up p.outcomes then is_no_mark mark else allowed_at_act config entries (Actor.Nexus p.initiator) mark (Step.Do u act)) ≡ true
-  pub units : HaveCounted config (entries_at mark entries (entries_after config entries (Actor.Nexus p.initiator) u moment act)) after
-  pub seq : nexus.seq ≡ seq (Actor.Nexus p.initiator) (entries_at mark entries (entries_after config entries (Actor.Nexus p.initiator) u moment act))
-  pub went : WentOn config (noted p (outcomes_at mark (outcome_of config entries (Actor.Nexus p.initiator) u moment act))) nexus.waiting reply
+  pub shortage : Shortage
+  pub allowed : (if gave_up p.outcomes then is_no_shortage shortage else allowed_at_act config entries (Actor.Nexus p.initiator) shortage (Step.Do u act)) ≡ true
+  pub units : HaveCounted config (entries_at shortage entries (entries_after config entries (Actor.Nexus p.initiator) u moment act)) after
+  pub seq : nexus.seq ≡ seq (Actor.Nexus p.initiator) (entries_at shortage entries (entries_after config entries (Actor.Nexus p.initiator) u moment act))
+  pub went : WentOn config (noted p (outcomes_at shortage (outcome_of config entries (Actor.Nexus p.initiator) u moment act))) nexus.waiting reply
 
--- the command was begun, with such a mark
-abbrev pub HasBegun : Configuration → ℕ → Request → Mark → Option Waiting → Option Reply → Type 0
+-- the command was begun, with such a shortage
+abbrev pub HasBegun : Configuration → ℕ → Request → Shortage → Option Waiting → Option Reply → Type 0
 HasBegun config initiator request AtBegin waiting reply = (waiting ≡ None) × (reply ≡ Some Reply.Busy)
 HasBegun config initiator request AtAct waiting reply = ⊥
-HasBegun config initiator request mark waiting reply =
-    WentOn config (record { initiator = initiator; request = request; outcomes = noted_at_step mark }) waiting reply
+HasBegun config initiator request shortage waiting reply =
+    WentOn config (record { initiator = initiator; request = request; outcomes = noted_at_step shortage }) waiting reply
 
 -- ---- all of it
 
@@ -183,20 +183,20 @@ abbrev pub IsNexus : Configuration → List Entry → ℕ → Option Pending →
 IsNexus config entries i found None = (seq (Actor.Nexus i) entries ≡ 0) × (found ≡ None)
 IsNexus config entries i found (Some nexus) = (nexus.seq ≡ seq (Actor.Nexus i) entries) × WaitsFor config nexus.waiting found
 
-pub record IsStanding (config : Configuration) (s : Standing) (m : Machine) : Type 0 where
+pub record IsStanding (config : Configuration) (s : ReplayState) (m : Machine) : Type 0 where
   pub told : m.config ≡ config
   pub units : HaveCounted config s.entries m.units
   pub nexuses : (i : ℕ) → IsNexus config s.entries i (waiting i s.pending) (get nat_cmp m.nexuses i)
 
--- the item was played, with such a mark, and these are its replies
-pub record HasPlayed (config : Configuration) (s : Standing) (item : TraceItem) (replies : List Record) (m : Machine) : Type 0 where
+-- the item was played, with such a shortage, and these are its replies
+pub record HasPlayed (config : Configuration) (s : ReplayState) (item : TraceItem) (replies : List AddressedReply) (m : Machine) : Type 0 where
   pub fit : fits config s item ≡ true
-  pub mark : Mark
-  pub allowed : is_allowed step config s item (mark_for item (mark ∷ [])) ≡ true
-  pub standing : IsStanding config (next step config s item (mark_for item (mark ∷ []))) m
-  pub replied : (next step config s item (mark_for item (mark ∷ []))).replies ≡ s.replies ++ replies
+  pub shortage : Shortage
+  pub allowed : is_allowed step config s item (shortage_for item (shortage ∷ [])) ≡ true
+  pub state : IsStanding config (next step config s item (shortage_for item (shortage ∷ []))) m
+  pub replied : (next step config s item (shortage_for item (shortage ∷ []))).replies ≡ s.replies ++ replies
 
-abbrev pub IsEffect : Configuration → Standing → TraceItem → Effect → Machine → Type 0
+abbrev pub IsEffect : Configuration → ReplayState → TraceItem → Effect → Machine → Type 0
 IsEffect config s item Effect.Unfit m = fits config s item ≡ false
 IsEffect config s item Effect.Quiet m = HasPlayed config s item [] m
 IsEffect config s item (Effect.Answers initiator reply) m =
@@ -209,5 +209,5 @@ effect_of initiator (Some reply) = Effect.Answers initiator reply
 -- it stands for something that was played
 pub record Stands (m : Machine) : Type 0 where
   pub config : Configuration
-  pub s : Standing
+  pub s : ReplayState
   pub is : IsStanding config s m

@@ -9,7 +9,7 @@ use Rattle.cmd_program.specs.Judging.{step}
 use Rattle.trace_replay.specs.declared.player.Player.{Player}
 use Rattle.trace_replay.specs.declared.player.Found.{Found}
 use Rattle.trace_replay.specs.Items.{BadRecord, items_limit}
-use Rattle.trace_replay.specs.Standing.{Standing, Mark}
+use Rattle.trace_replay.specs.ReplayState.{ReplayState, Shortage}
 use Rattle.trace_replay.specs.Played.{played_from, output_of, summary_of}
 use Rattle.trace_replay.specs.inner.Laws.{StandsAt}
 use Rattle.trace_replay.specs.inner.Machines.{IsStanding}
@@ -17,16 +17,16 @@ use Rattle.trace_replay.specs.inner.Writing.{IsWritten}
 
 -- what was pulled and written, and how things stand, where `n` more items are allowed, the bytes of `input` were pulled
 -- and not used, and those of `output` were not pushed
-pub record IsLoopAt (left rest taken given : Option (List ℕ)) (config : Configuration) (s : Standing) (n place : ℕ) (input output : List ℕ) : Type 0 where
+pub record IsLoopAt (left rest taken given : Option (List ℕ)) (config : Configuration) (s : ReplayState) (n place : ℕ) (input output : List ℕ) : Type 0 where
   pub pulled : List ℕ
-  pub marks : List Mark
+  pub shortages : List Shortage
   pub consumed : Consumes left rest pulled
-  pub stands : StandsAt step config pulled marks s n place input
+  pub stands : StandsAt step config pulled shortages s n place input
   pub legal : IsLegal config s.entries
   pub written : IsWritten taken given output (output_of s)
 
 -- nothing was counted beyond its limit
-pub record AreFew (s : Standing) : Type 0 where
+pub record AreFew (s : ReplayState) : Type 0 where
   pub items : s.items ≤ items_limit
   pub replies : length s.replies ≤ s.items
   pub bytes : length (output_of s) ≤ 8_388_618 * s.items
@@ -37,7 +37,7 @@ left_of p = items_limit - p.summary.records
 
 pub record IsAt (left rest taken given : Option (List ℕ)) (p : Player) : Type 0 where
   pub config : Configuration
-  pub s : Standing
+  pub s : ReplayState
   pub loop : IsLoopAt left rest taken given config s (left_of p) p.place p.input p.output
   pub machine : IsStanding config s p.machine
   pub summary : p.summary ≡ summary_of s
@@ -54,8 +54,8 @@ pub record NeedsMore (n : ℕ) (input : List ℕ) : Type 0 where
   pub open_end : (input ≡ []) ⊎ (0 < n)
 
 -- the item at the front may not stand there, whatever comes behind it
-pub record EndsBad (config : Configuration) (s : Standing) (n place : ℕ) (input : List ℕ) : Type 0 where
-  pub ends : (more : List ℕ) → played_from step config s n place (input ++ more) [] ≡ record { standing = s; ending = BadRecord place }
+pub record EndsBad (config : Configuration) (s : ReplayState) (n place : ℕ) (input : List ℕ) : Type 0 where
+  pub ends : (more : List ℕ) → played_from step config s n place (input ++ more) [] ≡ record { state = s; ending = BadRecord place }
 
 -- all replies were pushed, and more was pulled or the input is at its end
 pub record HasPulled (left rest taken given : Option (List ℕ)) (before : List ℕ) (p : Player) (more : Bool) : Type 0 where

@@ -2,7 +2,7 @@ use Rattle.std.proofs.Common.{◌≡◌, ◌+◌, ◌*◌, [], ◌∷◌, ◌++�
 use Rattle.byteorder.specs.Endian.{big_bytes}
 use Rattle.cm_base.specs.Fields.{zeros}
 use Rattle.lba_ranges.proofs.Rows.{take-get}
-use Rattle.cmd_program.specs.Told.{run_bytes, runs_bytes}
+use Rattle.cmd_program.specs.AnswerBytes.{run_bytes, runs_bytes}
 use Rattle.plain_cmds.proofs.MapRuns.{runs-push, all-told}
 use Rattle.plain_cmds.proofs.map_status.status_data.Goals as goal
 

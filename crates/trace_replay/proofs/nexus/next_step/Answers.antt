@@ -1,7 +1,7 @@
 use Rattle.std.proofs.Common.{◌++◌, ◌∷◌, []}
 use Rattle.cmd_program.specs.declared.step.Outcome.{Outcome}
 use Rattle.cmd_program.specs.Judging.{step}
-use Rattle.trace_replay.proofs.Going.{none-follows, gave-up-none, next-there, next-wanted}
+use Rattle.trace_replay.proofs.CommandSteps.{none-follows, gave-up-none, next-there, next-wanted}
 use Rattle.trace_replay.proofs.nexus.next_step.Goals as goal
 
 pub note-requires-clause-notable : goal.note-requires-clause-notable

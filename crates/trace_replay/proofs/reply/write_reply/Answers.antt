@@ -17,11 +17,11 @@ returns-in_err-write_tail-clause-counted g c = λ reads.
 pub returns-clause-written : goal.returns-clause-written
 returns-clause-written g c = λ taken bytes w.
     let headed = written-headed taken _ bytes _ _ _ _ _ c.args.initiator c.args.reply.now c.in_ok-gather.ensures.ok c.in_ok-gather-2.ensures.ok c.to_be_bytes.ensures (head-first c.reply_head.result c.args.reply.now c.reply_head.type_inv.1.0.1 c.reply_head.ensures) w in
-    writes-record _ taken _ _ bytes c.args.initiator c.args.reply.now (c.relieve.ensures.written taken _ (c.in_ok-write_tail.ensures.written taken _ headed))
+    writes-record _ taken _ _ bytes c.args.initiator c.args.reply.now (c.flush_long.ensures.written taken _ (c.in_ok-write_tail.ensures.written taken _ headed))
 
 pub returns-clause-counted : goal.returns-clause-counted
 returns-clause-counted g c = λ reads.
-    counted-later c.relieve.result reads reads reads _ _ _ refl (c.in_ok-write_tail.ensures.counted reads).1 (c.relieve.ensures.counted reads)
+    counted-later c.flush_long.result reads reads reads _ _ _ refl (c.in_ok-write_tail.ensures.counted reads).1 (c.flush_long.ensures.counted reads)
 
 pub reply_head-requires : goal.reply_head-requires
 reply_head-requires g c = data-few c.args.reply.now c.requires

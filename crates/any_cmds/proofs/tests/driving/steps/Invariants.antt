@@ -1,4 +1,4 @@
-use Rattle.cmd_machine.specs.Standing.{IsSoundAt}
+use Rattle.cmd_machine.specs.Rest.{IsSoundAt}
 use Rattle.any_cmds.specs.Meaning.{IsSoundAny}
 use Rattle.any_cmds.proofs.Meaning.{IsCommand}
 use Rattle.any_cmds.proofs.tests.driving.steps.Given as goal

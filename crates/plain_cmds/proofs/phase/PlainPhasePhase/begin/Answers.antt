@@ -2,7 +2,7 @@ use Rattle.std.proofs.Common.{rules, ◌≡◌, take, ap, subst}
 use Rattle.std.specs.Prelude.{IfOk}
 use Rattle.cmd_program.specs.Program.{good}
 use Rattle.cmd_program.specs.Judging.{program_of}
-use Rattle.cmd_machine.specs.Standing.{standing}
+use Rattle.cmd_machine.specs.Rest.{rest_of}
 use Rattle.plain_cmds.specs.Meaning.{by_phase}
 use Rattle.plain_cmds.proofs.phase.PlainPhasePhase.begin.Goals as goal
 
@@ -26,7 +26,7 @@ returns-in-ReadCapacity16-clause-program c =
     let config = c.args.config.now in
     let same : good (take c.in-ReadCapacity16.length c.read_capacity16.result) ≡ program_of config c.args.request.unit c.args.request.out c.args.cdb =
     rw c.in-ReadCapacity16.is (ap (λ l. good (take c.in-ReadCapacity16.length l)) c.read_capacity16.ensures) in
-    subst (λ program. IfOk c.told.result (λ c. standing by_phase config c ≡ program)) same (c.told.ensures.program config)
+    subst (λ program. IfOk c.told.result (λ c. rest_of by_phase config c ≡ program)) same (c.told.ensures.program config)
 
 pub returns-in-ReadCapacity16-clause-sound : goal.returns-in-ReadCapacity16-clause-sound
 returns-in-ReadCapacity16-clause-sound c = c.told.ensures.sound c.args.config.now

@@ -1,5 +1,5 @@
 use Rattle.std.proofs.Common.{refl, []}
-use Rattle.trace_replay.proofs.Going.{begun}
+use Rattle.trace_replay.proofs.CommandSteps.{begun}
 use Rattle.trace_replay.proofs.nexus.Nexus.begin.Goals as goal
 
 pub go_on-requires-clause-stands : goal.go_on-requires-clause-stands

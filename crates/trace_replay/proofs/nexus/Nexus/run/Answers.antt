@@ -2,9 +2,9 @@ use Rattle.std.proofs.Common.{ap, sym, ◌∙◌, subst, ◌∷◌, []}
 use Rattle.std.specs.Prelude.{◌||◌}
 use Rattle.cmd_program.specs.Meaning.{MayFollow}
 use Rattle.cmd_program.specs.Stepping.{gives_up, gave_up}
-use Rattle.trace_replay.specs.Standing.{noted}
+use Rattle.trace_replay.specs.ReplayState.{noted}
 use Rattle.trace_replay.specs.inner.Machines.{HasActed}
-use Rattle.trace_replay.proofs.Going.{gave-up-more}
+use Rattle.trace_replay.proofs.CommandSteps.{gave-up-more}
 use Rattle.trace_replay.proofs.Running.{has-run}
 use Rattle.trace_replay.proofs.nexus.Nexus.run.Goals as goal
 

@@ -20,7 +20,7 @@ pub count_reply-requires-clause-room : goal.count_reply-requires-clause-room
 count_reply-requires-clause-room g c =
     let is = c.requires.playing in
     let effect = subst (λ e. IsEffect is.config is.s c.args.found.item e c.play.new.self) c.in-Answers.is (c.in_ok-play.ensures is.config is.s is.machine) in
-    rw (c.pass-in-Answers.ensures is.config _ effect.0.standing) (room-item _ is.s _ is.summary is.few)
+    rw (c.pass-in-Answers.ensures is.config _ effect.0.state) (room-item _ is.s _ is.summary is.few)
 
 pub returns-in-Unfit-clause-played : goal.returns-in-Unfit-clause-played
 returns-in-Unfit-clause-played g c = λ left rest taken is.
@@ -32,14 +32,14 @@ pub returns-in-Quiet-clause-played : goal.returns-in-Quiet-clause-played
 returns-in-Quiet-clause-played g c = λ left rest taken is.
     let h = subst (λ e. IsEffect is.config is.s c.args.found.item e c.play.new.self) c.in-Quiet.is (c.in_ok-play.ensures is.config is.s is.machine) in
     quiet-at left rest taken _ c.args.self.now is c.args.found.item c.args.found.used c.requires.left c.requires.found c.play.new.self h c.pass.new.self
-    (c.pass.ensures is.config _ h.standing)
+    (c.pass.ensures is.config _ h.state)
 
 pub returns-in-Answers-clause-played : goal.returns-in-Answers-clause-played
 returns-in-Answers-clause-played g c = λ left rest taken is.
     let effect = subst (λ e. IsEffect is.config is.s c.args.found.item e c.play.new.self) c.in-Answers.is (c.in_ok-play.ensures is.config is.s is.machine) in
-    let new = c.pass-in-Answers.ensures is.config _ effect.0.standing in
+    let new = c.pass-in-Answers.ensures is.config _ effect.0.state in
     replied-at left rest taken _ c.args.self.now is c.args.found.item c.args.found.used c.requires.left c.requires.found c.play.new.self
     (record { initiator = c.in-Answers.initiator; reply = c.in-Answers.reply }) effect.0 effect.1 _ c.pass-in-Answers.new.self new _ _ c.count_reply.ensures
     c.write_reply.result
     (c.write_reply.ensures.written taken _
-    (passed-waits left rest taken _ c.args.self.now is c.args.found.item c.args.found.used c.requires.left c.requires.found c.play.new.self effect.0.mark c.pass-in-Answers.new.self new))
+    (passed-waits left rest taken _ c.args.self.now is c.args.found.item c.args.found.used c.requires.left c.requires.found c.play.new.self effect.0.shortage c.pass-in-Answers.new.self new))

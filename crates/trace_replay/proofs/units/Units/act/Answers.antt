@@ -1,4 +1,4 @@
-use Rattle.trace_replay.proofs.Doing.{does-counted}
+use Rattle.trace_replay.proofs.UnitActs.{does-counted}
 use Rattle.trace_replay.proofs.units.Units.act.Goals as goal
 
 pub returns-clause-done : goal.returns-clause-done

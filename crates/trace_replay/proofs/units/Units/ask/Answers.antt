@@ -2,7 +2,7 @@ use Rattle.std.proofs.Common.{refl, arith, ap, ◌≡◌, ◌<◌, length, subst
 use Rattle.std.specs.Prelude.{Some, slice_get}
 use Rattle.cm_history.specs.Limits.{within_limits}
 use Rattle.std.proofs.lemmas.Result.{err_from_is_err_and}
-use Rattle.trace_replay.proofs.Doing.{done-more, done-refused, stamp-fits, answer-is, refuses, room-left, one-config, form-is, seq-below, unit-at}
+use Rattle.trace_replay.proofs.UnitActs.{done-more, done-refused, stamp-fits, answer-is, refuses, room-left, one-config, form-is, seq-below, unit-at}
 use Rattle.trace_replay.proofs.units.Units.ask.Goals as goal
 
 pub overflow_add-self : goal.overflow_add-self

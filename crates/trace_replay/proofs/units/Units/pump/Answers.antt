@@ -1,5 +1,5 @@
 use Rattle.std.proofs.Common.{refl, arith, ◌<◌, length}
-use Rattle.trace_replay.proofs.Doing.{counted-pump, counted-same, after-full}
+use Rattle.trace_replay.proofs.UnitActs.{counted-pump, counted-same, after-full}
 use Rattle.cm_history.specs.declared.act.Act.{Act}
 use Rattle.cm_history.specs.declared.act.Actor.{Actor}
 use Rattle.trace_replay.specs.inner.Machines.{HaveCounted}

@@ -10,13 +10,13 @@ use Rattle.cmd_program.specs.Meaning.{MayFollow}
 use Rattle.cmd_program.specs.Judging.{step}
 use Rattle.cm_frame.specs.declared.frame.Reply.{Reply}
 use Rattle.cmd_machine.specs.declared.command.CommandOf.{CommandOf}
-use Rattle.cmd_machine.specs.Standing.{StandsFor}
+use Rattle.cmd_machine.specs.Rest.{StandsFor}
 use Rattle.any_cmds.specs.declared.phase.AnyPhase.{AnyPhase}
 use Rattle.any_cmds.specs.Meaning.{by_any}
 use Rattle.trace_replay.specs.declared.nexus.Waiting.{Waiting}
-use Rattle.trace_replay.specs.Standing.{Pending, Mark, NoMark, AtStep, noted, noted_at_step, next_step}
-use Rattle.trace_replay.specs.inner.Machines.{IsCommandOf, IsNext, WentOn, HasBegun, mark_of}
-use Rattle.trace_replay.proofs.Telling.{any-append}
+use Rattle.trace_replay.specs.ReplayState.{Pending, Shortage, NoShortage, AtStep, noted, noted_at_step, next_step}
+use Rattle.trace_replay.specs.inner.Machines.{IsCommandOf, IsNext, WentOn, HasBegun, shortage_of}
+use Rattle.trace_replay.proofs.ShownShortages.{any-append}
 
 pub none-follows : (config : Configuration) (s : Step) → MayFollow config s Outcome.NoMemory
 none-follows config (Step.Do unit act) = tt
@@ -62,14 +62,14 @@ next-wanted config c p next first stands same = record {
   is = same;
 }
 
--- a command that was begun goes on, with one of two marks
+-- a command that was begun goes on, with one of two shortages
 pub begun : (config : Configuration) (initiator : ℕ) (request : Request) (waits : Option Waiting) (reply : Option Reply)
     → ((wanted : Bool) × (gave_up [] ≡ true → wanted ≡ false)
-    × WentOn config (noted (record { initiator = initiator; request = request; outcomes = [] }) (noted_at_step (mark_of wanted))) waits reply)
-    → (mark : Mark) × HasBegun config initiator request mark waits reply
+    × WentOn config (noted (record { initiator = initiator; request = request; outcomes = [] }) (noted_at_step (shortage_of wanted))) waits reply)
+    → (shortage : Shortage) × HasBegun config initiator request shortage waits reply
 begun config initiator request waits reply went = go went.0 went.2
   where
-    go : (wanted : Bool) → WentOn config (noted (record { initiator = initiator; request = request; outcomes = [] }) (noted_at_step (mark_of wanted))) waits reply
-        → (mark : Mark) × HasBegun config initiator request mark waits reply
+    go : (wanted : Bool) → WentOn config (noted (record { initiator = initiator; request = request; outcomes = [] }) (noted_at_step (shortage_of wanted))) waits reply
+        → (shortage : Shortage) × HasBegun config initiator request shortage waits reply
     go true w = (AtStep, w)
-    go false w = (NoMark, w)
+    go false w = (NoShortage, w)

@@ -23,11 +23,11 @@ pub record Pending : Type 0 where
   pub outcomes : List Outcome
 
 -- a reply, and whom it is for
-pub record Record : Type 0 where
+pub record AddressedReply : Type 0 where
   pub initiator : ℕ
   pub reply : Reply
 
-pub record Standing : Type 0 where
+pub record ReplayState : Type 0 where
   -- how many items were played
   pub items : ℕ
   -- the history, the oldest entry first
@@ -35,18 +35,18 @@ pub record Standing : Type 0 where
   -- at most one command of each initiator
   pub pending : List Pending
   -- the replies so far, in order
-  pub replies : List Record
+  pub replies : List AddressedReply
 
 -- before the first item
-abbrev pub at_first : Standing
+abbrev pub at_first : ReplayState
 at_first = record { items = 0; entries = []; pending = []; replies = [] }
 
 -- where memory was refused at a Begin or Run: nowhere, at the beginning of its command, at its act, or at its next step
-pub data Mark : Type 0 where
-  NoMark : Mark
-  AtBegin : Mark
-  AtAct : Mark
-  AtStep : Mark
+pub data Shortage : Type 0 where
+  NoShortage : Shortage
+  AtBegin : Shortage
+  AtAct : Shortage
+  AtStep : Shortage
 
 -- ---- pending commands
 
@@ -88,79 +88,79 @@ outcome_of config entries actor unit moment act =
 -- ---- one item
 
 -- a reply of the initiator's command, which then waits no more
-abbrev pub replied : Standing → ℕ → Reply → Standing
+abbrev pub replied : ReplayState → ℕ → Reply → ReplayState
 replied s initiator reply = record s {
   pending = without initiator s.pending;
   replies = s.replies ++ (record { initiator = initiator; reply = reply }) ∷ [];
 }
 
 -- by its next step a command is answered, or waits
-abbrev pub goes_on : Standing → Pending → Step → Standing
+abbrev pub goes_on : ReplayState → Pending → Step → ReplayState
 goes_on s p (Step.Done reply) = replied s p.initiator reply
 goes_on s p (Step.Do unit act) = record s { pending = without p.initiator s.pending ++ p ∷ [] }
 
 abbrev pub next_step : Stepping → Configuration → Pending → Step
 next_step step config p = step config p.initiator p.request p.outcomes
 
-abbrev pub gone_on : Stepping → Configuration → Standing → Pending → Standing
+abbrev pub gone_on : Stepping → Configuration → ReplayState → Pending → ReplayState
 gone_on step config s p = goes_on s p (next_step step config p)
 
 -- where the next step finds no memory the command gives up
-abbrev pub noted_at_step : Mark → List Outcome
+abbrev pub noted_at_step : Shortage → List Outcome
 noted_at_step AtStep = Outcome.NoMemory ∷ []
 noted_at_step _ = []
 
-abbrev pub begun : Stepping → Configuration → Standing → ℕ → Request → Mark → Standing
+abbrev pub begun : Stepping → Configuration → ReplayState → ℕ → Request → Shortage → ReplayState
 begun step config s initiator request AtBegin = replied s initiator Reply.Busy
-begun step config s initiator request mark =
-    gone_on step config s (record { initiator = initiator; request = request; outcomes = noted_at_step mark })
+begun step config s initiator request shortage =
+    gone_on step config s (record { initiator = initiator; request = request; outcomes = noted_at_step shortage })
 
 -- the command with more outcomes
 abbrev pub noted : Pending → List Outcome → Pending
 noted p more = record p { outcomes = p.outcomes ++ more }
 
 -- the outcomes of the command's act; only where memory is refused there, it is not done
-abbrev pub outcomes_at : Mark → Outcome → List Outcome
+abbrev pub outcomes_at : Shortage → Outcome → List Outcome
 outcomes_at AtAct outcome = Outcome.NoMemory ∷ []
-outcomes_at mark outcome = outcome ∷ noted_at_step mark
+outcomes_at shortage outcome = outcome ∷ noted_at_step shortage
 
-abbrev pub entries_at : Mark → List Entry → List Entry → List Entry
+abbrev pub entries_at : Shortage → List Entry → List Entry → List Entry
 entries_at AtAct before after = before
-entries_at mark before after = after
+entries_at shortage before after = after
 
 -- the act is done, where memory was there for it
-abbrev pub acted : Configuration → Standing → Actor → ℕ → ℕ → Act → Mark → Standing
-acted config s actor unit moment act mark =
-    record s { entries = entries_at mark s.entries (entries_after config s.entries actor unit moment act) }
+abbrev pub acted : Configuration → ReplayState → Actor → ℕ → ℕ → Act → Shortage → ReplayState
+acted config s actor unit moment act shortage =
+    record s { entries = entries_at shortage s.entries (entries_after config s.entries actor unit moment act) }
 
 -- what the command notes of its act
-abbrev pub noted_act : Configuration → Standing → Pending → ℕ → ℕ → Act → Mark → Pending
-noted_act config s p unit moment act mark =
-    noted p (outcomes_at mark (outcome_of config s.entries (Nexus p.initiator) unit moment act))
+abbrev pub noted_act : Configuration → ReplayState → Pending → ℕ → ℕ → Act → Shortage → Pending
+noted_act config s p unit moment act shortage =
+    noted p (outcomes_at shortage (outcome_of config s.entries (Nexus p.initiator) unit moment act))
 
 -- the act that the command asks for is done, and the command goes on
-abbrev pub did : Stepping → Configuration → Standing → ℕ → Pending → Mark → Step → Standing
-did step config s moment p mark (Step.Done reply) = s
-did step config s moment p mark (Step.Do unit act) =
-    gone_on step config (acted config s (Nexus p.initiator) unit moment act mark) (noted_act config s p unit moment act mark)
+abbrev pub did : Stepping → Configuration → ReplayState → ℕ → Pending → Shortage → Step → ReplayState
+did step config s moment p shortage (Step.Done reply) = s
+did step config s moment p shortage (Step.Do unit act) =
+    gone_on step config (acted config s (Nexus p.initiator) unit moment act shortage) (noted_act config s p unit moment act shortage)
 
-abbrev pub ran : Stepping → Configuration → Standing → ℕ → Mark → Option Pending → Standing
-ran step config s moment mark None = s
-ran step config s moment mark (Some p) = did step config s moment p mark (next_step step config p)
+abbrev pub ran : Stepping → Configuration → ReplayState → ℕ → Shortage → Option Pending → ReplayState
+ran step config s moment shortage None = s
+ran step config s moment shortage (Some p) = did step config s moment p shortage (next_step step config p)
 
 -- what the item does
-abbrev pub changed : Stepping → Configuration → Standing → TraceItem → Mark → Standing
-changed step config s (TraceItem.Begin initiator moment request) mark = begun step config s initiator request mark
-changed step config s (TraceItem.Run initiator moment) mark = ran step config s moment mark (waiting initiator s.pending)
-changed step config s (TraceItem.Pump unit moment) mark =
+abbrev pub changed : Stepping → Configuration → ReplayState → TraceItem → Shortage → ReplayState
+changed step config s (TraceItem.Begin initiator moment request) shortage = begun step config s initiator request shortage
+changed step config s (TraceItem.Run initiator moment) shortage = ran step config s moment shortage (waiting initiator s.pending)
+changed step config s (TraceItem.Pump unit moment) shortage =
     record s { entries = entries_after config s.entries (Actor.Pump unit) unit moment Act.Pump }
 
 -- after one more item
-abbrev pub next : Stepping → Configuration → Standing → TraceItem → Mark → Standing
-next step config s item mark = changed step config (record s { items = s.items + 1 }) item mark
+abbrev pub next : Stepping → Configuration → ReplayState → TraceItem → Shortage → ReplayState
+next step config s item shortage = changed step config (record s { items = s.items + 1 }) item shortage
 
 -- A Begin fits where no command of its initiator waits, a Run where one does, and a Pump where its unit is there.
-abbrev pub fits : Configuration → Standing → TraceItem → Bool
+abbrev pub fits : Configuration → ReplayState → TraceItem → Bool
 fits config s (TraceItem.Begin initiator moment request) = not (is_some (waiting initiator s.pending))
 fits config s (TraceItem.Run initiator moment) = is_some (waiting initiator s.pending)
 fits config s (TraceItem.Pump unit moment) = nat_lt unit (length config.units)

@@ -1,6 +1,6 @@
 -- No phase of such a command has given up
 use Rattle.cm_base.specs.Configuration.{Configuration}
-use Rattle.cmd_machine.specs.Standing.{IsUnderWay}
+use Rattle.cmd_machine.specs.Rest.{IsUnderWay}
 use Rattle.plain_cmds.specs.declared.phase.PlainPhase.{PlainPhase}
 use Rattle.plain_cmds.specs.Meaning.{by_phase}
 
@@ -9,6 +9,6 @@ phase-goes-on config (PlainPhase.Reading unit lba count) = tt
 phase-goes-on config (PlainPhase.Read list) = tt
 phase-goes-on config (PlainPhase.Writing unit lba list) = tt
 phase-goes-on config (PlainPhase.Unmapping unit ranges) = tt
-phase-goes-on config (PlainPhase.Mapping unit lba room) = tt
-phase-goes-on config (PlainPhase.Mapped room runs) = tt
-phase-goes-on config (PlainPhase.Told bytes) = tt
+phase-goes-on config (PlainPhase.Mapping unit lba allocation) = tt
+phase-goes-on config (PlainPhase.Mapped allocation runs) = tt
+phase-goes-on config (PlainPhase.Ready bytes) = tt
