@@ -39,3 +39,8 @@ class File:
     models: list = dataclasses.field(default_factory=list)  # what contracts see of types, each with the type's name
     inner: list = dataclasses.field(default_factory=list)  # views and invariants
     named: dict = dataclasses.field(default_factory=dict)  # the items, by their names and those of their constructors
+
+    @property
+    def is_inner(self):
+        """It has definitions that only the crate's own functions need."""
+        return self.module[:1] == ("inner",)

@@ -83,7 +83,7 @@ class Headline:
         public = self.reached | tree.reached(tree.public())
         named = {where: tree.reached(roots()) for where, roots in self.places()}
         for crate in tree.crates:
-            files = [file for file in tree.files if file.crate == crate and file.is_specs]
+            files = [file for file in tree.files if file.crate == crate and file.is_specs and not file.is_inner]
             found = [(file, [item for item in file.items if item not in public]) for file in files]
             items = [item for _, some in found for item in some]
             if items:
@@ -91,6 +91,12 @@ class Headline:
                 lines += [line for file, some in found for line in unreached_of(file, some, named)]
             total += lines_of(items)
         return [*lines, "", f"{total} lines of definitions that no public clause reaches"]
+
+    def misplaced(self):
+        """Those of specs/inner/ that a public clause reaches: they belong beside the others."""
+        public = self.reached | self.tree.reached(self.tree.public())
+        files = [file for file in self.tree.files if file.is_specs and file.is_inner]
+        return [f"{file.path}: {item.name}" for file in files for item in file.items if item in public]
 
     def places(self):
         """Where a definition may be named that no public clause reaches, and what is named there."""

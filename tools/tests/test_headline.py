@@ -267,6 +267,17 @@ class MadeUp(unittest.TestCase):
             ],
         )
 
+    def test_inner_definitions_that_are_reached(self):
+        inner = self.tree.top / "crates/high/specs/inner"
+        inner.mkdir()
+        paints = self.tree.top / "crates/high/specs/Paints.antt"
+        (inner / "Paints.antt").write_text(paints.read_text(encoding="utf-8"), encoding="utf-8")
+        code = self.tree.top / "crates/high/src/lib.rt"
+        text = code.read_text(encoding="utf-8")
+        code.write_text(text.replace("high.specs.Paints", "high.specs.inner.Paints"), encoding="utf-8")
+        self.tree = Tree(self.tree.top)
+        self.assertIn("crates/high/specs/inner/Paints.antt: IsPainted", self.headline().misplaced())
+
     def test_what_no_public_clause_reaches(self):
         self.assertEqual(
             self.headline().unreached(),
@@ -296,7 +307,7 @@ class Here(unittest.TestCase):
     def test_what_is_reached(self):
         for path, name in [
             ("crates/trace_replay/specs/Played.antt", "played"),
-            ("crates/trace_replay/specs/Standing.antt", "next"),
+            ("crates/trace_replay/specs/ReplayState.antt", "next"),
             ("crates/cm_history/specs/Answers.antt", "answer_after"),
             ("crates/cm_history/specs/Laws.antt", "TokenPromise"),
             ("crates/cm_history/specs/Laws.antt", "CountPromise"),
@@ -308,9 +319,9 @@ class Here(unittest.TestCase):
 
     def test_what_is_not_reached(self):
         for path, name in [
-            ("crates/trace_replay/specs/Counting.antt", "with_item"),
-            ("crates/unit_core/specs/Agreeing.antt", "Agrees"),
-            ("crates/lba_ranges/specs/HeldBlocks.antt", "items_of"),
+            ("crates/trace_replay/specs/inner/Counting.antt", "with_item"),
+            ("crates/unit_core/specs/inner/Agreeing.antt", "Agrees"),
+            ("crates/lba_ranges/specs/inner/HeldBlocks.antt", "items_of"),
         ]:
             self.assertIn(name, {item.name for file in self.tree.files if file.path == path for item in file.items})
             self.assertNotIn((path, name), self.reached)
@@ -322,12 +333,9 @@ class Here(unittest.TestCase):
                 if self.tree.is_specs_path(path) and not is_module:
                     self.assertIsNotNone(self.tree.imported_item(path), (file.path, path))
 
-    def test_modules_that_no_public_clause_cites(self):
-        public = self.tree.reached(self.tree.public())
-        silent = [file for file in self.tree.files if "No public clause cites this module" in file.sentence]
-        self.assertTrue(silent)
-        for file in silent:
-            self.assertEqual(names(item for item in file.items if item in public), set(), file.path)
+    def test_helpers_stand_apart(self):
+        self.assertEqual(self.headline.unreached()[-1], "0 lines of definitions that no public clause reaches")
+        self.assertEqual(self.headline.misplaced(), [])
 
 
 class Wrong(unittest.TestCase):

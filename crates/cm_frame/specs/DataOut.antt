@@ -1,4 +1,4 @@
--- The bytes before a data-out, and how much of it has come. No public clause cites this module.
+-- The bytes before a data-out, and how much of it has come.
 use Rattle.std.specs.Prelude.{◌≡◌, ℕ, ◌≤◌, List, length, Option, Some, None}
 use Rattle.cm_base.specs.Fields.{byte, field}
 use Rattle.cm_frame.specs.Grammar.{data_limit}

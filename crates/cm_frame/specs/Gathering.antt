@@ -1,4 +1,4 @@
--- What was gathered of a long item. No public clause cites this module.
+-- What was gathered of a long item.
 use Rattle.std.specs.Prelude.{◌≡◌, ℕ, ◌<◌, List, [], ◌++◌, length, Option, Some, None}
 use Rattle.cm_frame.specs.declared.long_item.LongItem.{LongItem}
 use Rattle.cm_frame.specs.DataOut.{so_far}

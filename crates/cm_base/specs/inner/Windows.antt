@@ -1,4 +1,4 @@
--- What is read of a window of an input. No public clause cites this module.
+-- What is read of a window of an input.
 use Rattle.std.specs.Prelude.{ℕ, ◌-◌, List, slice_range, vec_len}
 use Rattle.cm_base.specs.declared.window.Window.{Window}
 

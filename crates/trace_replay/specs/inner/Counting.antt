@@ -1,4 +1,4 @@
--- How a replay counts what it did. No public clause cites this module.
+-- How a replay counts what it did.
 use Rattle.std.specs.Prelude.{ℕ, ◌+◌, ◌^◌, ◌<◌, length, Bool, if◌then◌else◌}
 use Rattle.cm_frame.specs.declared.frame.Reply.{Reply}
 use Rattle.cm_frame.specs.Grammar.{reply_bytes}

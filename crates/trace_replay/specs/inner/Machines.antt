@@ -1,4 +1,4 @@
--- How what a replay keeps stands for what was played. No public clause cites this module.
+-- How what a replay keeps stands for what was played.
 use Rattle.std.specs.Prelude.{◌≡◌, ℕ, ◌-◌, ◌^◌, ◌<◌, ◌≤◌, List, [], ◌∷◌, ◌++◌, length, slice_get, slice_index, Option, Some, None, Result, Ok, Err, Bool, true, false, ◌&&◌, not, if◌then◌else◌, All}
 use Rattle.cm_base.specs.Configuration.{Configuration, AreUnits}
 use Rattle.cm_history.specs.declared.act.Act.{Act}

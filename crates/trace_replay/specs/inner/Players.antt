@@ -1,4 +1,4 @@
--- How a player stands for what was pulled and written. No public clause cites this module.
+-- How a player stands for what was pulled and written.
 use Rattle.std.specs.Prelude.{◌≡◌, ℕ, ◌+◌, ◌-◌, ◌*◌, ◌<◌, ◌≤◌, List, [], ◌++◌, length, Option, Some, None, Bool, true, false, ◌⊎◌}
 use Rattle.std.specs.Io.KnownBytes.{Consumes, IsAtEnd}
 use Rattle.cm_base.specs.Configuration.{Configuration}

@@ -1,4 +1,4 @@
--- What was written so far, and what waits to be written. No public clause cites this module.
+-- What was written so far, and what waits to be written.
 use Rattle.std.specs.Prelude.{◌≡◌, ℕ, List, ◌++◌, Option, Result, Ok, Err, ◌⊎◌}
 use Rattle.std.specs.Io.KnownBytes.{Appends}
 use Rattle.cm_base.specs.Outside.{IsBeginning}
