@@ -22,7 +22,7 @@ use Rattle.cm_history.specs.History.{on, one_more, past_of, answer}
 use Rattle.cm_history.specs.Room.{is_full}
 use Rattle.cm_history.proofs.Locality.{past_of-on}
 use Rattle.cm_history.specs.declared.refused.ActRefused.{ActRefused}
-use Rattle.unit_core.specs.ReplayState as unit
+use Rattle.unit_core.specs.UnitState as unit
 use Rattle.unit_core.specs.Acting as acting
 use Rattle.trace_replay.specs.declared.units.Units.{Units}
 use Rattle.trace_replay.specs.ReplayState.{seq, new_entry, has_no_room, entries_after}
@@ -99,7 +99,7 @@ seq-other actor entries e other =
 
 -- ---- an act of one of the units
 
-abbrev its : Configuration → List Entry → ℕ → unit.ReplayState
+abbrev its : Configuration → List Entry → ℕ → unit.UnitState
 its config entries u = record { config = config; unit = u; entries = on u entries }
 
 same-past : (config : Configuration) (entries : List Entry) (u : ℕ) → acting.past (its config entries u) ≡ past_of config u entries
@@ -109,7 +109,7 @@ not-last : (a b : Bool) → (a || b) ≡ false → a ≡ false
 not-last true b e = cc
 not-last false b e = refl
 
-module _ (config : Configuration) (entries : List Entry) (units : Units) (u : ℕ) (value : unit.ReplayState) (actor : Actor) (act : Act)
+module _ (config : Configuration) (entries : List Entry) (units : Units) (u : ℕ) (value : unit.UnitState) (actor : Actor) (act : Act)
     (have : HaveDone config entries units) (at : slice_get units.units.items u ≡ Some value) where
   is-its : value ≡ its config entries u
   is-its = have.each u value at
@@ -135,11 +135,11 @@ module _ (config : Configuration) (entries : List Entry) (units : Units) (u : �
 
   pub answer-is : (moment : ℕ) (found : Answer) → found ≡ answer value.config value.entries value.unit actor moment act → found ≡ answer config entries u actor moment act
   answer-is moment found is =
-      is ∙ ap (λ (v : unit.ReplayState). answer v.config v.entries v.unit actor moment act) is-its
+      is ∙ ap (λ (v : unit.UnitState). answer v.config v.entries v.unit actor moment act) is-its
       ∙ ap (λ p. answer_after config u p actor moment act) (same-past config entries u)
 
   pub form-is : (found : Answer) → HasForm value.config value.unit act found → HasForm config u act found
-  form-is found has = subst (λ (v : unit.ReplayState). HasForm v.config v.unit act found) is-its has
+  form-is found has = subst (λ (v : unit.UnitState). HasForm v.config v.unit act found) is-its has
 
   pub refuses : (refused : ActRefused) → (refused ≡ ActRefused.Full → acting.is_full_at value actor units.stamp act ≡ true)
       → (refused ≡ ActRefused.OutOfMemory → acting.ends_operation_at value actor act ≡ false) → Refuses config entries u actor act refused
@@ -148,7 +148,7 @@ module _ (config : Configuration) (entries : List Entry) (units : Units) (u : �
       sym (ap (λ p. ends_operation p actor act) (same-past config entries u)) ∙ sym (ap (λ v. acting.ends_operation_at v actor act) is-its) ∙ ends refl
 
   -- the unit is as it was
-  pub done-refused : (units' : Units) (value' : unit.ReplayState) → units'.units.items ≡ slice_set units.units.items u value' → units'.stamp ≡ units.stamp
+  pub done-refused : (units' : Units) (value' : unit.UnitState) → units'.units.items ≡ slice_set units.units.items u value' → units'.stamp ≡ units.stamp
       → value' ≡ value → HaveDone config entries units'
   done-refused units' value' list stamp same =
       let all : units'.units.items ≡ units.units.items = list ∙ ap (slice_set units.units.items u) same ∙ set-same units.units.items u value at in
@@ -163,7 +163,7 @@ module _ (config : Configuration) (entries : List Entry) (units : Units) (u : �
       }
 
   -- the unit has one more entry
-  pub done-more : (units' : Units) (value' : unit.ReplayState) (n moment : ℕ) → units'.units.items ≡ slice_set units.units.items u value' → units'.stamp ≡ units.stamp + 1
+  pub done-more : (units' : Units) (value' : unit.UnitState) (n moment : ℕ) → units'.units.items ≡ slice_set units.units.items u value' → units'.stamp ≡ units.stamp + 1
       → value' ≡ record value { entries = value.entries ++ acting.entry_at value actor n units.stamp moment act ∷ [] }
       → u < length config.units → within_limits config u act ≡ true → may_ask u actor act ≡ true
       → n ≡ seq actor entries → HaveDone config (entries ++ new_entry entries actor u moment act ∷ []) units'
@@ -188,11 +188,11 @@ module _ (config : Configuration) (entries : List Entry) (units : Units) (u : �
 
       grown-so : value' ≡ its config (entries ++ new_entry entries actor u moment act ∷ []) u
       grown-so =
-          grown ∙ ap (λ (v : unit.ReplayState). record v { entries = v.entries ++ acting.entry_at v actor n units.stamp moment act ∷ [] }) is-its
+          grown ∙ ap (λ (v : unit.UnitState). record v { entries = v.entries ++ acting.entry_at v actor n units.stamp moment act ∷ [] }) is-its
           ∙ ap (λ e. record (its config entries u) { entries = on u entries ++ e ∷ [] }) new
           ∙ ap (λ l. record (its config entries u) { entries = l }) (sym (on-same u entries (new_entry entries actor u moment act) (eq-eqb u u refl)))
 
-      each : (v : ℕ) (w : unit.ReplayState) → slice_get units'.units.items v ≡ Some w → ((u ≡ v) ⊎ (u ≡ v → ⊥))
+      each : (v : ℕ) (w : unit.UnitState) → slice_get units'.units.items v ≡ Some w → ((u ≡ v) ⊎ (u ≡ v → ⊥))
           → w ≡ its config (entries ++ new_entry entries actor u moment act ∷ []) v
       each v w e (inl same) =
           let put : slice_get units'.units.items u ≡ Some value' = ap (λ l. slice_get l u) list ∙ get-set units.units.items u value' value at in
@@ -212,7 +212,7 @@ pub does-refused : (Have : List Entry → Type 0) (config : Configuration) (entr
 does-refused Have config entries u actor n moment act r refused is have why = subst (DoesAct Have config entries u actor n moment act) (sym is) (have, why)
 
 -- the unit that a look-up by index found
-pub unit-at : (config : Configuration) (entries : List Entry) (units : Units) (u place : ℕ) (value : unit.ReplayState) → HaveDone config entries units → u < length config.units
+pub unit-at : (config : Configuration) (entries : List Entry) (units : Units) (u place : ℕ) (value : unit.UnitState) → HaveDone config entries units → u < length config.units
     → place ≡ u → value ≡ slice_index_or units.units.items place value → slice_get units.units.items u ≡ Some value
 unit-at config entries units u place value have configured is found =
     let within : u < length units.units.items = omega (arith, have.count, configured) in
@@ -312,9 +312,9 @@ one-config config other entries more units u have have' within = go (slice_get u
     here : u < length units.units.items
     here = omega (arith, have'.count, within)
 
-    go : (found : Option unit.ReplayState) → slice_get units.units.items u ≡ found → other ≡ config
+    go : (found : Option unit.UnitState) → slice_get units.units.items u ≡ found → other ≡ config
     go None e = absurd (none-within units.units.items u here e)
-    go (Some value) e = ap (λ (v : unit.ReplayState). v.config) (sym (have'.each u value e) ∙ have.each u value e)
+    go (Some value) e = ap (λ (v : unit.UnitState). v.config) (sym (have'.each u value e) ∙ have.each u value e)
 
 -- ---- one more unit
 
