@@ -21,6 +21,7 @@ use Rattle.cm_history.specs.Legal.{IsLegal}
 
 -- a token; its list only while it is live
 pub record TokenImage : Type 0 where
+  pub serial : ℕ
   pub blocks : ℕ
   pub timeout : ℕ
   pub last_use : ℕ
@@ -46,6 +47,7 @@ pub record Image : Type 0 where
 
 abbrev pub token_image : UnitConfig → Token → TokenImage
 token_image unit t = record {
+  serial = t.serial;
   blocks = total t.ranges;
   timeout = t.timeout;
   last_use = t.last_use;
@@ -72,6 +74,13 @@ image unit past = record {
   tokens = map (token_image unit) (tokens past);
   kept = map operation_image (kept past);
 }
+
+-- No answer depends on the last use and the timeout of a token that is live no more.
+abbrev pub trim : TokenImage → TokenImage
+trim t = if is_live t.fate then t else record t { timeout = 0; last_use = 0 }
+
+abbrev pub trimmed : Image → Image
+trimmed i = record i { tokens = map trim i.tokens }
 
 -- ---- images say all that the answers depend on
 

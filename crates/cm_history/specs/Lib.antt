@@ -19,6 +19,8 @@ pub mod Refusing
 pub mod Completeness
 pub mod Merged
 pub mod Image
+pub mod Asked
+pub mod Folding
 pub mod PlainWritings
 pub mod PlainHolds
 pub mod PlainOutcomes

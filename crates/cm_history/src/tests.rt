@@ -415,6 +415,16 @@ fn laws_can_be_called(rt: HostRuntime) -> Result<(), Fail> {
     kind_law(&config, &history, 0);
     refused_law(&config, &history, 0);
     write_law(&config, &history, 0);
+    fold_law(
+        &config,
+        &history,
+        &history,
+        0,
+        Actor::Nexus(1),
+        0,
+        &Act::Pump,
+    );
+    standing_law(&config, 0);
     assert_eq!(rt; history.len(), 1);
     Ok(())
 }
@@ -429,5 +439,20 @@ fn a_history_grows_at_its_end(rt: HostRuntime) -> Result<(), Fail> {
     assert_eq!(rt; history.len(), 2);
     assert!(rt; matches!(history.pop(), Some(Entry { seq: 1, .. })));
     assert!(rt; history.at(0).seq == 0 && history.spare() == 0);
+    Ok(())
+}
+
+/// The other entries stay, and so does the room behind them.
+#[test]
+fn the_first_entries_are_dropped(rt: HostRuntime) -> Result<(), Fail> {
+    let config = one_unit(&rt)?;
+    let mut history = four_writes(&rt, &config)?;
+    if history.len() != 4 {
+        return Err(Fail::new("not four entries"));
+    }
+    history.reserve(2)?;
+    history.drop_first(3);
+    assert_eq!(rt; history.len(), 1);
+    assert!(rt; history.at(0).seq == 3 && history.spare() == 2);
     Ok(())
 }

@@ -28,7 +28,7 @@ use Rattle.copy_jobs.specs.Reports as reports
 use Rattle.rod_store.specs.declared.kept.Kept.{Kept}
 use Rattle.rod_store.specs.Kept as store
 use Rattle.unit_core.specs.Tables.{key_of, work_of, job_of, jobs_of, kept_of, serial_or_none}
-use Rattle.unit_core.proofs.Finding.{any-some, find-map, find-same, filter-map, filter-same}
+use Rattle.cm_history.proofs.Finding.{any-some, find-map, find-same, filter-map, filter-same}
 use Rattle.unit_core.proofs.Jobs.{IsNexus, IsOwn, own-nexus, job-key, job-runs_as, is-next-key, is-next-pump, found-job, work-background}
 use Rattle.unit_core.proofs.Tokens.{live-standing}
 use Rattle.unit_core.proofs.Planned.{IsKnown, own-of}

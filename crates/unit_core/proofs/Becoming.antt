@@ -22,56 +22,8 @@ use Rattle.copy_jobs.specs.declared.job.Work.TheVariants.{Populated, Writing, Co
 use Rattle.copy_jobs.specs.Jobs.{started, opened, made}
 use Rattle.copy_jobs.specs.Changes.{moved_by, stopped_by, terminated, closed_by}
 use Rattle.unit_core.specs.Tables.{key_of, work_of, job_of, serial_or_none}
-use Rattle.unit_core.proofs.Serving.{Moves, Stops, Ends, Closes, left-running, token-runs}
-
--- ---- how long a list of writings is
-
-pub length-paired : (bs : List ℕ) (xs : List Held) → length bs ≡ length xs → length (paired bs xs) ≡ length xs
-length-paired [] [] e = refl
-length-paired [] (x ∷ xs) e = cc
-length-paired (b ∷ bs) [] e = cc
-length-paired (b ∷ bs) (x ∷ xs) e = ap suc (length-paired bs xs (omega arith))
-
--- a Start that may be asked has as many blocks as its rod
-pub start-total : (config : Configuration) (unit id : ℕ) (background : Bool) (ranges : List Range) (rod : HeldBlocks)
-    → within_limits config unit (Act.Start id background ranges rod) ≡ true → total ranges ≡ length rod.items
-start-total config unit id background ranges rod e =
-    go (not (is_overlapping ranges)) (total ranges == length rod.items) (nat_le (length rod.items) 1_048_576) (fits_unit config unit rod) refl e
-  where
-    go : (a b c d : Bool) → (total ranges == length rod.items) ≡ b → (a && b && c && d) ≡ true → total ranges ≡ length rod.items
-    go a true c d same e = grind (arith, nat_tests)
-    go true false c d same e = cc
-    go false false c d same e = cc
-
--- at most 1,048,576 blocks
-pub start-few : (config : Configuration) (unit id : ℕ) (background : Bool) (ranges : List Range) (rod : HeldBlocks)
-    → within_limits config unit (Act.Start id background ranges rod) ≡ true → length rod.items ≤ 1_048_576
-start-few config unit id background ranges rod e =
-    go (not (is_overlapping ranges)) (total ranges == length rod.items) (nat_le (length rod.items) 1_048_576) (fits_unit config unit rod) refl e
-  where
-    go : (a b c d : Bool) → nat_le (length rod.items) 1_048_576 ≡ c → (a && b && c && d) ≡ true → length rod.items ≤ 1_048_576
-    go a b true d same e = grind (arith, nat_tests)
-    go true true false d same e = cc
-    go true false false d same e = cc
-    go false b false d same e = cc
-
--- and the unit's block length
-pub start-alike : (config : Configuration) (unit id : ℕ) (background : Bool) (ranges : List Range) (rod : HeldBlocks)
-    → within_limits config unit (Act.Start id background ranges rod) ≡ true → rod.block_length ≡ (unit_of config unit).block_length
-start-alike config unit id background ranges rod e =
-    go (not (is_overlapping ranges)) (total ranges == length rod.items) (nat_le (length rod.items) 1_048_576) (rod.block_length == (unit_of config unit).block_length) refl e
-  where
-    go : (a b c d : Bool) → (rod.block_length == (unit_of config unit).block_length) ≡ d → (a && b && c && d) ≡ true → rod.block_length ≡ (unit_of config unit).block_length
-    go a b c true same e = grind (arith, nat_tests)
-    go true true true false same e = cc
-    go true true false false same e = cc
-    go true false c false same e = cc
-    go false b c false same e = cc
-
-pub start-length : (config : Configuration) (unit id : ℕ) (background : Bool) (ranges : List Range) (rod : HeldBlocks)
-    → within_limits config unit (Act.Start id background ranges rod) ≡ true → length (list_of (Act.Start id background ranges rod)) ≡ length rod.items
-start-length config unit id background ranges rod e =
-    length-paired (blocks_of ranges) rod.items (length-blocks_of ranges ∙ start-total config unit id background ranges rod e)
+use Rattle.cm_history.proofs.Starts.{start-total, start-few, start-alike, start-length}
+use Rattle.cm_history.proofs.Serving.{Moves, Stops, Ends, Closes, left-running, token-runs}
 
 -- ---- a deed that serves
 

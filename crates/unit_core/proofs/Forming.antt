@@ -34,12 +34,13 @@ use Rattle.cm_history.proofs.Lists.{In, Each, Each-in, Each-by, Each-map, Each-a
 use Rattle.cm_history.proofs.Counts.{IsPast, IsBegun, begun, made-after}
 use Rattle.cm_history.proofs.Records.{kept_in}
 use Rattle.cm_history.proofs.Made.{Has, IsMade, all-made}
-use Rattle.unit_core.specs.Agreeing.{IsAsked, AllAsked, IsRecord}
+use Rattle.cm_history.specs.Asked.{IsAsked, AllAsked}
+use Rattle.unit_core.specs.Agreeing.{IsRecord}
 use Rattle.unit_core.proofs.Bools.{and_first, and_second}
-use Rattle.unit_core.proofs.Finding.{find-passes}
+use Rattle.cm_history.proofs.Finding.{find-passes}
 use Rattle.unit_core.proofs.Operating.{IsMadeBy, all-made_by}
-use Rattle.unit_core.proofs.Serving.{few-written}
-use Rattle.unit_core.proofs.Becoming.{start-few, start-length}
+use Rattle.cm_history.proofs.Serving.{few-written}
+use Rattle.cm_history.proofs.Starts.{start-few, start-length}
 use Rattle.unit_core.proofs.Planned.{IsKnown}
 use Rattle.unit_core.proofs.Steps.{known-of}
 use Rattle.unit_core.proofs.Wording.{form-is}

@@ -22,9 +22,9 @@ use Rattle.copy_jobs.specs.Keys as keys
 use Rattle.copy_jobs.specs.Jobs as jobs
 use Rattle.copy_jobs.specs.Pieces as next
 use Rattle.unit_core.specs.Tables.{number_of, is_copy, key_of, work_of, job_of, jobs_of}
-use Rattle.unit_core.proofs.Finding.{find-filter, find-map, find-same, any-filter, any-map, any-same, filter-map, filter-same}
+use Rattle.cm_history.proofs.Finding.{find-filter, find-map, find-same, any-filter, any-map, any-same, filter-map, filter-same}
 use Rattle.unit_core.proofs.Operating.{IsMadeBy, all-made_by}
-use Rattle.unit_core.specs.Agreeing.{AllAsked}
+use Rattle.cm_history.specs.Asked.{AllAsked}
 use Rattle.unit_core.proofs.Bools.{and-assoc, eqb-turned}
 use Rattle.std.proofs.lemmas.List.{length-map}
 

@@ -22,9 +22,9 @@ use Rattle.copy_jobs.specs.Jobs as jobs
 use Rattle.copy_jobs.specs.Keeping as keeping
 use Rattle.copy_jobs.specs.Changes.{change}
 use Rattle.unit_core.specs.Tables.{job_of, jobs_of}
-use Rattle.unit_core.proofs.Finding.{find-map, filter-map, filter-same, map-append, map-map, map-same}
+use Rattle.cm_history.proofs.Finding.{find-map, filter-map, filter-same, map-append, map-map, map-same}
 use Rattle.unit_core.proofs.Jobs.{IsNexus, IsOwn, own-nexus, job-runs, job-key}
-use Rattle.unit_core.proofs.Serving.{served-or-not}
+use Rattle.cm_history.proofs.Serving.{served-or-not}
 use Rattle.unit_core.proofs.Bools.{and_second}
 
 -- ---- a deed that makes an operation

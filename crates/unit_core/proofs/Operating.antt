@@ -8,7 +8,7 @@ use Rattle.cm_history.specs.declared.act.Actor.{Actor}
 use Rattle.cm_history.specs.declared.answer.Answer.{Answer}
 use Rattle.cm_history.specs.declared.answer.OpState.{OpState}
 use Rattle.cm_history.specs.Deeds.{Deed, is_refusal, is_answered}
-use Rattle.unit_core.specs.Agreeing.{IsAsked, AllAsked}
+use Rattle.cm_history.specs.Asked.{IsAsked, AllAsked}
 use Rattle.lba_ranges.specs.Denoted.{is_within}
 use Rattle.scsi_sense.specs.Codes.{operation_in_progress, lba_out_of_range, insufficient_resources}
 use Rattle.cm_history.specs.Tokens.{is_populate, tokens}

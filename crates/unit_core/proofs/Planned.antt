@@ -31,7 +31,7 @@ use Rattle.unit_core.specs.declared.block_change.BlockChange.{BlockChange}
 use Rattle.unit_core.specs.declared.job_change.JobChange.{JobChange}
 use Rattle.unit_core.specs.declared.token_change.TokenChange.{TokenChange}
 use Rattle.cm_history.specs.Ends.{ends_operation}
-use Rattle.unit_core.specs.Agreeing.{AllAsked}
+use Rattle.cm_history.specs.Asked.{AllAsked}
 use Rattle.unit_core.specs.BlockChanges.{writings_of, MayChange}
 use Rattle.unit_core.specs.JobChanges.{MayJob}
 use Rattle.unit_core.specs.TokenChanges.{Redeems}

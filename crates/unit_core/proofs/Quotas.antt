@@ -18,7 +18,7 @@ use Rattle.cm_history.specs.Deeds.{Deed, is_refusal}
 use Rattle.cm_history.specs.Operations.{Operation, is_failure, would_serve, next_piece}
 use Rattle.cm_history.specs.Blocks.{held, mapped, mapped_with}
 use Rattle.cm_history.specs.Answers.{answer_after, answer_write, answer_unmap, put_at, wrote_of, writings, piece_of, deed}
-use Rattle.unit_core.proofs.Serving.{Serves, how-serves}
+use Rattle.cm_history.proofs.Serving.{Serves, how-serves}
 
 -- what would be mapped after the writings is within the quota
 abbrev Within : UnitConfig → (ℕ → Held) → List Writing → Type 0

@@ -20,10 +20,10 @@ use Rattle.copy_jobs.specs.Jobs as jobs
 use Rattle.copy_jobs.specs.Keeping as keeping
 use Rattle.copy_jobs.specs.Changes.{change}
 use Rattle.unit_core.specs.Tables.{work_of, job_of, jobs_of}
-use Rattle.unit_core.specs.Agreeing.{IsAsked}
-use Rattle.unit_core.proofs.Serving.{IsPaced, all-paced, few-written, Serves, token-runs, paced-after}
+use Rattle.cm_history.specs.Asked.{IsAsked}
+use Rattle.cm_history.proofs.Serving.{IsPaced, all-paced, few-written, Serves, token-runs, paced-after}
 use Rattle.unit_core.proofs.Jobs.{IsOwn}
-use Rattle.unit_core.proofs.Becoming.{start-length}
+use Rattle.cm_history.proofs.Starts.{start-length}
 use Rattle.unit_core.proofs.Bools.{off}
 
 sum-filter : {X : Type 0} (f : X → ℕ) (p : X → Bool) (xs : List X) → sum_by f (filter p xs) ≡ sum_by (λ x. if p x then f x else 0) xs

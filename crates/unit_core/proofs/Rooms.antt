@@ -18,9 +18,9 @@ use Rattle.cm_history.proofs.Lists.{Each, Each-in, find-none}
 use Rattle.cm_history.proofs.Counts.{IsBegun, begun}
 use Rattle.cm_history.proofs.Records.{kept_in, making_serves, and_first}
 use Rattle.copy_jobs.specs.Jobs as jobs
-use Rattle.unit_core.specs.Agreeing.{IsAsked}
+use Rattle.cm_history.specs.Asked.{IsAsked}
 use Rattle.unit_core.specs.Tables.{job_of, jobs_of, work_of}
-use Rattle.unit_core.proofs.Serving.{IsPaced, all-paced, serving}
+use Rattle.cm_history.proofs.Serving.{IsPaced, all-paced, serving}
 use Rattle.unit_core.proofs.Jobs.{IsOwn, maker-nexus}
 use Rattle.unit_core.proofs.Keeping.{made-jobs, same-jobs, serving-jobs, found-own, served-there, served-runs, own_key, serves-none}
 use Rattle.unit_core.proofs.Reserving.{reserved-is, keep-reserves, change-reserves, serving-reserves}

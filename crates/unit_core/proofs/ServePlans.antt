@@ -35,8 +35,8 @@ use Rattle.unit_core.specs.BlockChanges.{writings_of, MayChange, MayPut}
 use Rattle.unit_core.specs.JobChanges.{jobs_after, MayJob, grows}
 use Rattle.unit_core.specs.Tables.{key_of, is_copy, job_of, jobs_of}
 use Rattle.unit_core.specs.Planning.{quiet, IsDeed, IsPlan, takes_none, piece_plan}
-use Rattle.unit_core.proofs.Finding.{find-passes, any-found}
-use Rattle.unit_core.proofs.Serving.{Moves, Stops, Ends, Closes}
+use Rattle.cm_history.proofs.Finding.{find-passes, any-found}
+use Rattle.cm_history.proofs.Serving.{Moves, Stops, Ends, Closes}
 use Rattle.unit_core.proofs.Jobs.{IsOwn}
 use Rattle.unit_core.proofs.Keeping.{own_key, served-there, served-runs, serving-jobs, found-own}
 use Rattle.unit_core.proofs.Becoming.{moves-work, stops-work, ends-work, closes-work}

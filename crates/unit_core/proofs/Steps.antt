@@ -15,7 +15,8 @@ use Rattle.cm_history.proofs.CountLaw.{past-is}
 use Rattle.copy_jobs.specs.declared.job.Job.{Job}
 use Rattle.rod_store.specs.Store.{Store}
 use Rattle.unit_core.specs.declared.plan.Plan.{Plan}
-use Rattle.unit_core.specs.Agreeing.{IsAsked, TokensAgree, JobsAgree, CountersAgree, KeepsRoom, IsRecord, Agrees}
+use Rattle.cm_history.specs.Asked.{IsAsked}
+use Rattle.unit_core.specs.Agreeing.{TokensAgree, JobsAgree, CountersAgree, KeepsRoom, IsRecord, Agrees}
 use Rattle.unit_core.specs.BlockChanges.{writings_of}
 use Rattle.unit_core.specs.JobChanges.{jobs_after}
 use Rattle.unit_core.specs.TokenChanges.{tokens_after}

@@ -18,7 +18,7 @@ use Rattle.rod_store.specs.declared.kept.Kept.{Kept}
 use Rattle.rod_store.specs.declared.kept.Standing.{Standing}
 use Rattle.rod_store.specs.Kept as store
 use Rattle.unit_core.specs.Tables.{standing_of, kept_of, tokens_of}
-use Rattle.unit_core.proofs.Finding.{filter-map, filter-same, map-append, map-map, map-same, all-map, all-same}
+use Rattle.cm_history.proofs.Finding.{filter-map, filter-same, map-append, map-map, map-same, all-map, all-same}
 use Rattle.unit_core.proofs.Bools.{and_first, eqb-turned}
 
 -- ---- one token

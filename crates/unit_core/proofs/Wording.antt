@@ -46,11 +46,11 @@ use Rattle.unit_core.specs.Planning.{quiet, IsPlan, WritesPiece}
 use Rattle.lba_ranges.proofs.Rows.{length-blocks_of}
 use Rattle.unit_core.specs.declared.block_change.BlockChange.{BlockChange}
 use Rattle.unit_core.proofs.Operating.{starts_within}
-use Rattle.unit_core.proofs.Finding.{find-passes, find-map}
-use Rattle.unit_core.proofs.Serving.{few-written, length-next}
+use Rattle.cm_history.proofs.Finding.{find-passes, find-map}
+use Rattle.cm_history.proofs.Serving.{few-written, length-next}
 use Rattle.unit_core.proofs.Jobs.{IsNexus, IsOwn, own-nexus, found-job, is-next-key, is-next-pump, work-foreground, work-background}
 use Rattle.unit_core.proofs.Keeping.{own_key, served-there}
-use Rattle.unit_core.proofs.Becoming.{start-total, start-length, start-alike, start-few, length-paired}
+use Rattle.cm_history.proofs.Starts.{start-total, start-length, start-alike, start-few, length-paired}
 use Rattle.unit_core.proofs.Asking.{asker, found-key, job-report, job-result}
 use Rattle.unit_core.proofs.Planned.{IsKnown, own-of, plain-plan, refused-plan}
 use Rattle.unit_core.proofs.ServePlans.{IsPieceOf, IsForPiece}

@@ -1,5 +1,5 @@
 -- What a unit keeps beside its record, and how that agrees with the record
-use Rattle.std.specs.Prelude.{◌≡◌, ℕ, ◌+◌, ◌<◌, ◌≤◌, List, [], ◌∷◌, length, true, ⊤}
+use Rattle.std.specs.Prelude.{◌≡◌, ℕ, ◌+◌, ◌<◌, ◌≤◌, List, length}
 use Rattle.cm_base.specs.Configuration.{Configuration, IsUnit}
 use Rattle.cm_base.specs.Units.{unit_of}
 use Rattle.cm_base.specs.declared.config.UnitConfig.{UnitConfig}
@@ -10,20 +10,10 @@ use Rattle.cm_history.specs.Deeds.{Deed, last_stamp, moment}
 use Rattle.cm_history.specs.Blocks.{held, mapped}
 use Rattle.cm_history.specs.Room.{payload, reserved}
 use Rattle.cm_history.specs.History.{on, past_of}
-use Rattle.cm_history.specs.Limits.{within_limits}
-use Rattle.cm_history.specs.Legal.{may_ask}
+use Rattle.cm_history.specs.Asked.{AllAsked}
 use Rattle.rod_store.specs.Store.{Store}
 use Rattle.copy_jobs.specs.declared.job.Job.{Job}
 use Rattle.unit_core.specs.Tables.{tokens_of, jobs_of}
-
--- the act was one that may be asked
-pub record IsAsked (config : Configuration) (unit : ℕ) (d : Deed) : Type 0 where
-  pub limits : within_limits config unit d.entry.act ≡ true
-  pub asked : may_ask unit d.entry.actor d.entry.act ≡ true
-
-abbrev pub AllAsked : Configuration → ℕ → List Deed → Type 0
-AllAsked config unit [] = ⊤
-AllAsked config unit (d ∷ past) = IsAsked config unit d × AllAsked config unit past
 
 -- the blocks hold what the past says
 pub record BlocksAgree (unit : UnitConfig) (past : List Deed) (own_blocks own_length : ℕ) (holds : ℕ → Held) : Type 0 where

@@ -20,7 +20,7 @@ use Rattle.rod_store.specs.declared.kept.Kept.{Kept}
 use Rattle.cm_history.specs.Answers.{answer_after}
 use Rattle.cm_history.specs.Ends.{ends_operation}
 use Rattle.unit_core.specs.Acting.{MayRedeem}
-use Rattle.unit_core.specs.Agreeing.{IsAsked}
+use Rattle.cm_history.specs.Asked.{IsAsked}
 use Rattle.unit_core.specs.TokenChanges.{MayToken, tokens_after}
 use Rattle.unit_core.proofs.Reserving.{reserved-is}
 use Rattle.unit_core.proofs.Rooms.{full-serving, need-served, reserved-step}
