@@ -13,7 +13,7 @@ use Rattle.cm_history.specs.declared.act.Act.{Act}
 use Rattle.cm_history.specs.declared.act.Actor.{Actor}
 use Rattle.cm_history.specs.declared.act.Entry.{Entry}
 use Rattle.cm_history.specs.declared.answer.Answer.{Answer}
-use Rattle.cm_history.specs.Senses.{out_of_range, in_use, too_many, no_such_operation}
+use Rattle.scsi_sense.specs.Codes.{lba_out_of_range, operation_in_progress, insufficient_resources, invalid_field_in_cdb}
 use Rattle.cm_history.specs.Deeds.{Deed, moment, is_refusal, is_answered}
 use Rattle.cm_history.specs.Blocks.{held, cut}
 use Rattle.cm_history.specs.Tokens.{tokens, token_after, made_token}
@@ -96,8 +96,8 @@ answer-image config unit past actor now (Act.Start id background ranges rod) is 
     rw (busy-image config unit past actor OfToken id is, running-image config unit past is) refl
 answer-image config unit past actor now (Act.Advance id) is =
     let u = unit_of config unit in
-    ap (progress_of u (now_of (image u past).blocks) (Answer.Refused no_such_operation)) (would-image config unit past actor (Act.Advance id) is)
-    ∙ progress-image u past (now_of (image u past).blocks) (Answer.Refused no_such_operation) (would_serve past actor (Act.Advance id))
+    ap (progress_of u (now_of (image u past).blocks) (Answer.Refused invalid_field_in_cdb)) (would-image config unit past actor (Act.Advance id) is)
+    ∙ progress-image u past (now_of (image u past).blocks) (Answer.Refused invalid_field_in_cdb) (would_serve past actor (Act.Advance id))
     (λ ws. mapped-with-same u (now_of (image u past).blocks) (held past) ws (held-image u past)) (start-advance config unit past actor id is)
 answer-image config unit past actor now Act.Pump is =
     let u = unit_of config unit in
@@ -134,7 +134,7 @@ populate-within : (u : UnitConfig) (past : List Deed) (actor : Actor) (id : ℕ)
     → not (is_refusal (answer_populate u past actor id ranges)) ≡ true → is_within u.blocks ranges ≡ true
 populate-within u past actor id ranges e = go (is_busy past actor OfToken id) (is_within u.blocks ranges) (nat_le (2 ^ 48) (length (tokens past))) e
   where
-    go : (a b c : Bool) → not (is_refusal (if a then Answer.Refused in_use else if not b then Answer.Refused out_of_range else if c then Answer.Refused too_many else Answer.Made (length (tokens past)))) ≡ true
+    go : (a b c : Bool) → not (is_refusal (if a then Answer.Refused operation_in_progress else if not b then Answer.Refused lba_out_of_range else if c then Answer.Refused insufficient_resources else Answer.Made (length (tokens past)))) ≡ true
         → b ≡ true
     go true b c x = cc
     go false false c x = cc

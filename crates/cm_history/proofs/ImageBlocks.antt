@@ -11,9 +11,9 @@ use Rattle.lba_ranges.specs.Writings.{Held, Writing, after}
 use Rattle.lba_ranges.proofs.WritingLemmas.{mapped-same}
 use Rattle.cm_history.specs.Blocks.{cut, mapped_with}
 use Rattle.cm_history.specs.declared.answer.Answer.{Answer}
-use Rattle.cm_history.specs.Senses.{out_of_range}
+use Rattle.scsi_sense.specs.Codes.{lba_out_of_range}
 use Rattle.cm_history.specs.Bounds.{told_runs, run_blocks}
-use Rattle.cm_history.specs.Status.{run_length, runs}
+use Rattle.cm_history.specs.Status.{run_length, map_runs}
 use Rattle.cm_history.specs.Answers.{answer_read, answer_write, answer_status, put_at}
 use Rattle.cm_history.proofs.Imaging.{now_of}
 use Rattle.cm_history.proofs.Finding.{map-append}
@@ -70,7 +70,7 @@ run_length-le f kind block (suc room) = go (beq (is_some (f block)) kind) (run_l
     go true h = omega arith
     go false h = omega arith
 
-runs-same : (f g : ℕ → Held) (n block left : ℕ) → Alike f g block left → runs f n block left ≡ runs g n block left
+runs-same : (f g : ℕ → Held) (n block left : ℕ) → Alike f g block left → map_runs f n block left ≡ map_runs g n block left
 runs-same f g zero block left same = refl
 runs-same f g (suc n) block zero same = refl
 runs-same f g (suc n) block (suc left) same =
@@ -80,21 +80,21 @@ runs-same f g (suc n) block (suc left) same =
     let count = run_length f kind block room in
     let few : count ≤ room = run_length-le f kind block room in
     let counts : run_length f kind block room ≡ run_length g kind block room = run_length-same f g kind block room (λ b low high. same b low (omega arith)) in
-    let later : runs f n (block + count) (suc left - count) ≡ runs g n (block + count) (suc left - count) =
+    let later : map_runs f n (block + count) (suc left - count) ≡ map_runs g n (block + count) (suc left - count) =
     runs-same f g n (block + count) (suc left - count) (λ b low high. same b (omega arith) (omega arith)) in
     ap (λ l. record { lba = block; count = count; mapped = kind } ∷ l) later
-    ∙ ap (λ c. record { lba = block; count = c; mapped = kind } ∷ runs g n (block + c) (suc left - c)) counts
+    ∙ ap (λ c. record { lba = block; count = c; mapped = kind } ∷ map_runs g n (block + c) (suc left - c)) counts
     ∙ ap (λ (h : Held). record { lba = block; count = run_length g (is_some h) block room; mapped = is_some h }
-    ∷ runs g n (block + run_length g (is_some h) block room) (suc left - run_length g (is_some h) block room)) here
+    ∷ map_runs g n (block + run_length g (is_some h) block room) (suc left - run_length g (is_some h) block room)) here
 
 pub status-same : (unit : UnitConfig) (f g : ℕ → Held) (lba : ℕ) → SameBelow unit.blocks f g → answer_status unit f lba ≡ answer_status unit g lba
 status-same unit f g lba same = go (cases_lt lba unit.blocks)
   where
     go : (lba < unit.blocks) ⊎ (unit.blocks ≤ lba) → answer_status unit f lba ≡ answer_status unit g lba
     go (inl low) =
-        let alike : runs f told_runs lba (unit.blocks - lba) ≡ runs g told_runs lba (unit.blocks - lba) =
+        let alike : map_runs f told_runs lba (unit.blocks - lba) ≡ map_runs g told_runs lba (unit.blocks - lba) =
         runs-same f g told_runs lba (unit.blocks - lba) (λ b from to. same b (omega arith)) in
-        ap (λ l. if nat_lt lba unit.blocks then Answer.Status l else Answer.Refused out_of_range) alike
+        ap (λ l. if nat_lt lba unit.blocks then Answer.Status l else Answer.Refused lba_out_of_range) alike
     go (inr high) = let no' : nat_lt lba unit.blocks ≡ false = grind (arith, nat_tests) in rw no' refl
 
 -- ---- what ranges within the unit hold

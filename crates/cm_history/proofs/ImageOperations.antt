@@ -11,8 +11,8 @@ use Rattle.cm_history.specs.declared.act.Act.{Act}
 use Rattle.cm_history.specs.declared.act.Actor.{Actor}
 use Rattle.cm_history.specs.declared.answer.Answer.{Answer}
 use Rattle.cm_history.specs.declared.answer.OpState.{OpState}
-use Rattle.cm_history.specs.Bounds.{kept_records}
-use Rattle.cm_history.specs.Senses.{over_quota}
+use Rattle.cm_history.specs.Bounds.{kept_operations}
+use Rattle.scsi_sense.specs.Codes.{space_allocation_failed}
 use Rattle.cm_history.specs.Deeds.{Deed, same_actor}
 use Rattle.cm_history.specs.Blocks.{held, mapped_with}
 use Rattle.cm_history.specs.Operations.{Operation, Form, OfToken, OfCopy, same_form, form_of, id_of, is_foreground, is_background, list_of, written, count_of, count, is_failure, was_stopped, is_ending, was_ended, result_of, state_of, state, is_running_copy, is_running_state, is_running_as, is_running, has_key, serves, operation_after, made_operation, operations, running, fits, would_serve, next_piece, has_ended, same_key, without_first_ended, with_room, keep, kept}
@@ -146,9 +146,9 @@ pub progress-image : (unit : UnitConfig) (past : List Deed) (now : ℕ → Held)
     → progress_of unit now otherwise (option_map operation_image w) ≡ progress unit past otherwise w
 progress-image unit past now otherwise None same start = refl
 progress-image unit past now otherwise (Some o) same start =
-    ap (λ n. if nat_lt unit.quota n then Answer.Progress (OpState.Failed over_quota) (count o) else
+    ap (λ n. if nat_lt unit.quota n then Answer.Progress (OpState.Failed space_allocation_failed) (count o) else
     Answer.Progress (if length (next_piece o) == length (operation_image o).unwritten then OpState.Done else OpState.Running) (count o + length (next_piece o))) (same (next_piece o))
-    ∙ ap (λ t. if nat_lt unit.quota (mapped_with unit (held past) (next_piece o)) then Answer.Progress (OpState.Failed over_quota) (count o) else
+    ∙ ap (λ t. if nat_lt unit.quota (mapped_with unit (held past) (next_piece o)) then Answer.Progress (OpState.Failed space_allocation_failed) (count o) else
     Answer.Progress (if t then OpState.Done else OpState.Running) (count o + length (next_piece o))) (sym (last-image o start.1 start.0 (length (next_piece o))))
 
 pub piece-image : (w : Option Operation) → piece_by (option_map operation_image w) ≡ piece_of w
@@ -172,9 +172,9 @@ served-state d o (Act.Start id background ranges rod) is runs begun =
     ap (λ n. n == all) (length-append (written o) d.wrote)
     ∙ eq-plus (length (written o)) (length d.wrote) all (few-written o begun)
     ∙ ap (λ n. length d.wrote == n) (sym (length-drop (length (written o)) (list_of o.made.entry.act))) in
-    ap (λ t. if t then OpState.Failed over_quota else if is_ending d.entry.act || was_ended o.servers then OpState.Terminated else if length (written o ++ d.wrote) == all then OpState.Done else OpState.Running) stopped
-    ∙ ap (λ t. if is_failure d.answer then OpState.Failed over_quota else if t then OpState.Terminated else if length (written o ++ d.wrote) == all then OpState.Done else OpState.Running) ended
-    ∙ ap (λ t. if is_failure d.answer then OpState.Failed over_quota else if is_ending d.entry.act then OpState.Terminated else if t then OpState.Done else OpState.Running) done
+    ap (λ t. if t then OpState.Failed space_allocation_failed else if is_ending d.entry.act || was_ended o.servers then OpState.Terminated else if length (written o ++ d.wrote) == all then OpState.Done else OpState.Running) stopped
+    ∙ ap (λ t. if is_failure d.answer then OpState.Failed space_allocation_failed else if t then OpState.Terminated else if length (written o ++ d.wrote) == all then OpState.Done else OpState.Running) ended
+    ∙ ap (λ t. if is_failure d.answer then OpState.Failed space_allocation_failed else if is_ending d.entry.act then OpState.Terminated else if t then OpState.Done else OpState.Running) done
 served-state d o (Act.Open id) is runs begun = sym (ap (state_of o) is)
 served-state d o _ is runs begun = cc
 
@@ -343,8 +343,8 @@ without-image (o ∷ os) =
 
 room-image : (os : List Operation) → map operation_image (with_room os) ≡ with_room_by (map operation_image os)
 room-image os =
-    go (length os == kept_records)
-    ∙ ap (λ n. if n == kept_records then without_first_by (map operation_image os) else map operation_image os) (sym (length-map operation_image os))
+    go (length os == kept_operations)
+    ∙ ap (λ n. if n == kept_operations then without_first_by (map operation_image os) else map operation_image os) (sym (length-map operation_image os))
   where
     go : (t : Bool) → map operation_image (if t then without_first_ended os else os) ≡ (if t then without_first_by (map operation_image os) else map operation_image os)
     go true = without-image os

@@ -13,17 +13,17 @@ use Rattle.rod_token.specs.TokenText.{token_text}
 use Rattle.cm_history.specs.declared.act.Act.{Act}
 use Rattle.cm_history.specs.declared.answer.Answer.{Answer}
 use Rattle.cm_history.specs.Bounds.{live_tokens}
-use Rattle.cm_history.specs.Senses.{wrong_unit, altered}
+use Rattle.scsi_sense.specs.Codes.{remote_token_usage_not_supported, token_corrupt}
 use Rattle.cm_history.specs.Deeds.{Deed, is_answered}
 use Rattle.cm_history.specs.Blocks.{held, cut}
-use Rattle.cm_history.specs.Tokens.{Token, Fate, Live, Expired, Evicted, Deleted, token_after, made_token, is_live, is_over, is_live_at, makes_room, is_populate, is_delete_of, is_redeem_of}
+use Rattle.cm_history.specs.Tokens.{Token, Fate, Live, Expired, Evicted, Deleted, token_after, made_token, is_live, is_over, is_live_at, gives_way, is_populate, is_delete_of, is_redeem_of}
 use Rattle.cm_history.specs.Redeeming.{are_alike, fate_at, answer_by_fate, redeemed}
 use Rattle.cm_history.specs.Image.{token_image}
 use Rattle.cm_history.proofs.Imaging.{live_by, older_by, makes_room_by, ended_as, token_by, made_by, fate_by, fate_answer, redeem_by}
 use Rattle.cm_history.proofs.Finding.{filter-map, all-map}
 use Rattle.cm_history.proofs.Made.{length-map}
 
-makes-room-image : (u : UnitConfig) (now : ℕ) (ts : List Token) (t : Token) → makes_room_by now (map (token_image u) ts) (token_image u t) ≡ makes_room now ts t
+makes-room-image : (u : UnitConfig) (now : ℕ) (ts : List Token) (t : Token) → makes_room_by now (map (token_image u) ts) (token_image u t) ≡ gives_way now ts t
 makes-room-image u now ts t =
     let live : filter (live_by now) (map (token_image u) ts) ≡ map (token_image u) (filter (is_live_at now) ts) = filter-map (token_image u) (live_by now) ts in
     ap (λ l. (length l == live_tokens) && list_all (older_by (token_image u t)) l) live
@@ -34,7 +34,7 @@ makes-room-image u now ts t =
 pub token-image-after : (u : UnitConfig) (d : Deed) (ts : List Token) (t : Token)
     → token_image u (token_after d ts t) ≡ token_by d.moment (is_answered d) d.entry.act (map (token_image u) ts) (token_image u t)
 token-image-after u d ts t =
-    go (is_live t.fate) refl (is_over d.moment t) (is_delete_of t.serial d.entry.act) (makes_room d.moment ts t) (is_redeem_of t.serial d.entry.act && is_answered d)
+    go (is_live t.fate) refl (is_over d.moment t) (is_delete_of t.serial d.entry.act) (gives_way d.moment ts t) (is_redeem_of t.serial d.entry.act && is_answered d)
     ∙ ap (λ b. if not (is_live t.fate) then token_image u t else
     if is_over d.moment t then ended_as Expired (token_image u t) else
     if is_delete_of t.serial d.entry.act then ended_as Deleted (token_image u t) else
@@ -95,8 +95,8 @@ pub redeem-image : (config : Configuration) (unit now : ℕ) (text : List ℕ) (
     → redeemed config unit now text target o ≡ redeem_by config unit now text target (option_map (token_image (unit_of config unit)) o)
 redeem-image config unit now text target None = refl
 redeem-image config unit now text target (Some t) =
-    ap (λ a. if not (are_alike (unit_of config unit) (unit_of config target)) then Answer.Refused wrong_unit else
-    if not (bytes_eq text (token_text config unit t.serial (total t.ranges))) then Answer.Refused altered else a)
+    ap (λ a. if not (are_alike (unit_of config unit) (unit_of config target)) then Answer.Refused remote_token_usage_not_supported else
+    if not (bytes_eq text (token_text config unit t.serial (total t.ranges))) then Answer.Refused token_corrupt else a)
     (sym (fate-image (unit_of config unit) now t t.fate refl))
 
 pub get-map : {X Y : Type 0} (f : X → Y) (xs : List X) (n : ℕ) → slice_get (map f xs) n ≡ option_map f (slice_get xs n)

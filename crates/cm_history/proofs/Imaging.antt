@@ -16,8 +16,8 @@ use Rattle.cm_history.specs.declared.act.CopyState.{CopyState}
 use Rattle.cm_history.specs.declared.act.Entry.{Entry}
 use Rattle.cm_history.specs.declared.answer.Answer.{Answer}
 use Rattle.cm_history.specs.declared.answer.OpState.{OpState}
-use Rattle.cm_history.specs.Bounds.{piece_blocks, live_tokens, kept_records, running_operations}
-use Rattle.cm_history.specs.Senses.{out_of_range, over_quota, in_use, too_many, no_such_operation, not_made, wrong_unit, altered, deleted, evicted, expired}
+use Rattle.cm_history.specs.Bounds.{piece_blocks, live_tokens, kept_operations, running_operations}
+use Rattle.scsi_sense.specs.Codes.{lba_out_of_range, space_allocation_failed, operation_in_progress, insufficient_resources, invalid_field_in_cdb, token_unknown, remote_token_usage_not_supported, token_corrupt, token_deleted, token_cancelled, token_expired}
 use Rattle.cm_history.specs.Deeds.{is_refusal, same_actor}
 use Rattle.cm_history.specs.Blocks.{cut, mapped_with}
 use Rattle.cm_history.specs.Tokens.{Fate, Live, Expired, Evicted, Deleted, is_live, is_populate, is_delete_of, is_redeem_of}
@@ -81,20 +81,20 @@ fate_by now t fate = fate
 
 -- the list of a live token is there
 abbrev pub rod_answer : Option HeldBlocks → Answer
-rod_answer None = Answer.Refused not_made
+rod_answer None = Answer.Refused token_unknown
 rod_answer (Some rod) = Answer.Rod rod
 
 abbrev pub fate_answer : TokenImage → Fate → Answer
-fate_answer t Deleted = Answer.Refused deleted
-fate_answer t Evicted = Answer.Refused evicted
-fate_answer t Expired = Answer.Refused expired
+fate_answer t Deleted = Answer.Refused token_deleted
+fate_answer t Evicted = Answer.Refused token_cancelled
+fate_answer t Expired = Answer.Refused token_expired
 fate_answer t Live = rod_answer t.rod
 
 abbrev pub redeem_by : Configuration → ℕ → ℕ → List ℕ → ℕ → Option TokenImage → Answer
-redeem_by config unit now text target None = Answer.Refused not_made
+redeem_by config unit now text target None = Answer.Refused token_unknown
 redeem_by config unit now text target (Some t) =
-    if not (are_alike (unit_of config unit) (unit_of config target)) then Answer.Refused wrong_unit else
-    if not (bytes_eq text (token_text config unit t.serial t.blocks)) then Answer.Refused altered else
+    if not (are_alike (unit_of config unit) (unit_of config target)) then Answer.Refused remote_token_usage_not_supported else
+    if not (bytes_eq text (token_text config unit t.serial t.blocks)) then Answer.Refused token_corrupt else
     fate_answer t (fate_by now t t.fate)
 
 -- ---- operations
@@ -138,45 +138,45 @@ piece_by (Some o) = take piece_blocks o.unwritten
 
 abbrev pub populate_by : UnitConfig → Image → Actor → ℕ → List Range → Answer
 populate_by unit i actor id ranges =
-    if busy_by i actor OfToken id then Answer.Refused in_use else
-    if not (is_within unit.blocks ranges) then Answer.Refused out_of_range else
-    if nat_le (2 ^ 48) (length i.tokens) then Answer.Refused too_many else
+    if busy_by i actor OfToken id then Answer.Refused operation_in_progress else
+    if not (is_within unit.blocks ranges) then Answer.Refused lba_out_of_range else
+    if nat_le (2 ^ 48) (length i.tokens) then Answer.Refused insufficient_resources else
     Answer.Made (length i.tokens)
 
 abbrev pub start_by : UnitConfig → Image → Actor → ℕ → List Range → HeldBlocks → Answer
 start_by unit i actor id ranges rod =
-    if busy_by i actor OfToken id then Answer.Refused in_use else
-    if not (is_within unit.blocks ranges) then Answer.Refused out_of_range else
-    if crowded_by i then Answer.Refused too_many else
+    if busy_by i actor OfToken id then Answer.Refused operation_in_progress else
+    if not (is_within unit.blocks ranges) then Answer.Refused lba_out_of_range else
+    if crowded_by i then Answer.Refused insufficient_resources else
     Answer.Progress (if length rod.items == 0 then OpState.Done else OpState.Running) 0
 
 abbrev pub open_by : Image → Actor → ℕ → Answer
 open_by i actor id =
-    if busy_by i actor OfCopy id then Answer.Refused in_use else
-    if crowded_by i then Answer.Refused too_many else
+    if busy_by i actor OfCopy id then Answer.Refused operation_in_progress else
+    if crowded_by i then Answer.Refused insufficient_resources else
     Answer.Done
 
 abbrev pub progress_of : UnitConfig → (ℕ → Held) → Answer → Option OperationImage → Answer
 progress_of unit now otherwise None = otherwise
 progress_of unit now otherwise (Some o) =
     let piece = take piece_blocks o.unwritten in
-    if nat_lt unit.quota (mapped_with unit now piece) then Answer.Progress (OpState.Failed over_quota) o.report.count else
+    if nat_lt unit.quota (mapped_with unit now piece) then Answer.Progress (OpState.Failed space_allocation_failed) o.report.count else
     Answer.Progress (if length piece == length o.unwritten then OpState.Done else OpState.Running) (o.report.count + length piece)
 
 abbrev pub end_by : Option OperationImage → Answer
-end_by None = Answer.Refused no_such_operation
+end_by None = Answer.Refused invalid_field_in_cdb
 end_by (Some o) = Answer.Progress OpState.Terminated o.report.count
 
 abbrev pub done_by : Option OperationImage → Answer
-done_by None = Answer.Refused no_such_operation
+done_by None = Answer.Refused invalid_field_in_cdb
 done_by (Some o) = Answer.Done
 
 abbrev pub report_by : Option OperationImage → Answer
-report_by None = Answer.Refused no_such_operation
+report_by None = Answer.Refused invalid_field_in_cdb
 report_by (Some o) = Answer.Report o.report
 
 abbrev pub recall_by : Option OperationImage → Answer
-recall_by None = Answer.Refused no_such_operation
+recall_by None = Answer.Refused invalid_field_in_cdb
 recall_by (Some o) = Answer.Copy o.result
 
 -- the answer to an act at a moment, of a unit with this image
@@ -191,7 +191,7 @@ answer_by config unit i actor now (Act.Redeem text target) =
 answer_by config unit i actor now (Act.Delete serial) = Answer.Done
 answer_by config unit i actor now (Act.Start id background ranges rod) = start_by (unit_of config unit) i actor id ranges rod
 answer_by config unit i actor now (Act.Advance id) =
-    progress_of (unit_of config unit) (now_of i.blocks) (Answer.Refused no_such_operation) (served_by i actor (Act.Advance id))
+    progress_of (unit_of config unit) (now_of i.blocks) (Answer.Refused invalid_field_in_cdb) (served_by i actor (Act.Advance id))
 answer_by config unit i actor now Act.Pump = progress_of (unit_of config unit) (now_of i.blocks) Answer.Idle (served_by i actor Act.Pump)
 answer_by config unit i actor now (Act.End id) = end_by (served_by i actor (Act.End id))
 answer_by config unit i actor now (Act.Abort id) = done_by (served_by i actor (Act.Abort id))
@@ -216,7 +216,7 @@ writings_by i actor _ = []
 abbrev pub state_by : Answer → List Writing → Act → OperationImage → Form → OpState
 state_by answer wrote act o OfCopy = o.report.state
 state_by answer wrote act o OfToken =
-    if is_failure answer then OpState.Failed over_quota else
+    if is_failure answer then OpState.Failed space_allocation_failed else
     if is_ending act then OpState.Terminated else
     if length wrote == length o.unwritten then OpState.Done else OpState.Running
 
@@ -244,7 +244,7 @@ without_first_by [] = []
 without_first_by (o ∷ os) = if ended_by o then os else o ∷ without_first_by os
 
 abbrev pub with_room_by : List OperationImage → List OperationImage
-with_room_by records = if length records == kept_records then without_first_by records else records
+with_room_by records = if length records == kept_operations then without_first_by records else records
 
 abbrev pub keep_by : List OperationImage → OperationImage → List OperationImage
 keep_by records o = with_room_by (filter (λ r. not (ended_by r && same_key_by o r)) records) ++ o ∷ []
