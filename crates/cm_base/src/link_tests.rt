@@ -1,4 +1,4 @@
-ghost use Rattle.std.specs.Prelude.{IfOk};
+ghost use Rattle.std.specs.Prelude.{◌≡◌, ◌+◌, [], length, IfOk, OnOk};
 ghost use Rattle.cm_base.specs.Memory.{IsFresh};
 
 use super::*;
@@ -53,35 +53,57 @@ fn link_of(rt: &HostRuntime, bytes: &[u8]) -> Result<MemoryLink, Fail>
 #[test]
 fn a_link_has_two_sides(rt: HostRuntime) -> Result<(), Fail> {
     let mut link = link_of(&rt, b"read")?;
-    let mut bytes = [0; 4];
-    assert_eq!(rt; link.pull(&mut bytes), Ok(2));
+    let (mut first, mut last) = ([0; 4], [0; 4]);
+    assert_eq!(rt; link.pull(&mut first), Ok(2));
     assert_eq!(rt; push_all(&mut link, b"write"), Ok(()));
-    assert_eq!(rt; link.pull(&mut bytes), Err(ReadFailed));
+    assert_eq!(rt; link.pull(&mut last), Err(ReadFailed));
     assert_eq!(rt; push_all(&mut link, b"again"), Err(WriteFailed));
-    assert_eq!(rt; link.pull(&mut bytes[2..]), Ok(2));
-    assert_eq!(rt; link.pull(&mut bytes), Ok(0));
-    assert_eq!(rt; &bytes, b"read");
+    assert_eq!(rt; link.pull(&mut last), Ok(2));
+    assert_eq!(rt; link.pull(&mut last), Ok(0));
+    assert_eq!(rt; &first, b"re\0\0");
+    assert_eq!(rt; &last, b"ad\0\0");
     assert_eq!(rt; link.taken(), b"write".as_slice());
     Ok(())
 }
 
-/// Two links are handed out in order, around an accept that fails, and given back the other way round.
+/// A listener with two links, whose second accept fails.
+fn two_links(rt: &HostRuntime) -> Result<MemoryListener, Fail>
+    ensures { IfOk result (λ l. l.gone ≡ []) }
+{
+    let mut links = LinkList::empty(rt.alloc());
+    links.push(link_of(rt, b"first")?)?;
+    links.push(link_of(rt, b"second")?)?;
+    let failing = CallList::copy(rt.alloc(), &[2])?;
+    Ok(MemoryListener::new(rt.alloc(), links, failing)?)
+}
+
+/// Replies so on the next link, and gives it back.
+fn reply(listener: &mut MemoryListener, bytes: &[u8]) -> Result<(), Fail>
+    ensures { OnOk result (length listener.new.gone ≡ length listener.old.gone + 1) }
+{
+    let mut link = listener.accept()?;
+    push_all(&mut link, bytes)?;
+    listener.done(link);
+    Ok(())
+}
+
+/// Whether the next accept fails.
+fn fails(listener: &mut MemoryListener) -> bool
+    ensures { listener.new.gone ≡ listener.old.gone }
+{
+    listener.accept().is_err()
+}
+
+/// Two links are handed out in order, around an accept that fails, and given back.
 #[test]
 fn links_are_handed_out_and_given_back(rt: HostRuntime) -> Result<(), Fail> {
-    let mut links = LinkList::empty(rt.alloc());
-    links.push(link_of(&rt, b"first")?)?;
-    links.push(link_of(&rt, b"second")?)?;
-    let failing = CallList::copy(rt.alloc(), &[2])?;
-    let mut listener = MemoryListener::new(rt.alloc(), links, failing)?;
-    let mut first = listener.accept()?;
-    assert!(rt; listener.accept().is_err());
-    let second = listener.accept()?;
-    assert!(rt; listener.accept().is_err());
-    assert_eq!(rt; push_all(&mut first, b"reply"), Ok(()));
-    listener.done(second);
-    listener.done(first);
-    assert_eq!(rt; listener.ended(0).taken(), b"".as_slice());
-    assert_eq!(rt; listener.ended(1).taken(), b"reply".as_slice());
+    let mut listener = two_links(&rt)?;
+    reply(&mut listener, b"one")?;
+    assert!(rt; fails(&mut listener));
+    reply(&mut listener, b"two")?;
+    assert!(rt; fails(&mut listener));
+    assert_eq!(rt; listener.ended(0).taken(), b"one".as_slice());
+    assert_eq!(rt; listener.ended(1).taken(), b"two".as_slice());
     Ok(())
 }
 
