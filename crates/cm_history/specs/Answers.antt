@@ -7,7 +7,8 @@ use Rattle.lba_ranges.specs.declared.ranges.Range.{Range}
 use Rattle.lba_ranges.specs.Denoted.{row, blocks_of, is_within}
 use Rattle.cm_base.specs.Configuration.{Configuration}
 use Rattle.cm_base.specs.declared.config.UnitConfig.{UnitConfig}
-use Rattle.cm_history.specs.Bounds.{running_operations, told_runs}
+use Rattle.cm_history.specs.Bounds.{running_operations}
+use Rattle.lba_ranges.specs.Status.{told_runs, runs}
 use Rattle.cm_history.specs.declared.act.Act.{Act}
 use Rattle.cm_history.specs.declared.act.Actor.{Actor}
 use Rattle.cm_history.specs.declared.act.Entry.{Entry}
@@ -18,7 +19,6 @@ use Rattle.scsi_sense.specs.Codes.{lba_out_of_range, space_allocation_failed, op
 use Rattle.lba_ranges.specs.Writings.{Held, Writing, paired, unmapped}
 use Rattle.cm_history.specs.Deeds.{Deed, moment, is_refusal}
 use Rattle.cm_history.specs.Blocks.{held, cut, mapped_with}
-use Rattle.cm_history.specs.Status.{map_runs}
 use Rattle.cm_base.specs.Units.{unit_of}
 use Rattle.cm_history.specs.Tokens.{tokens, is_populate}
 use Rattle.cm_history.specs.Redeeming.{redeemed, named_token}

@@ -2,7 +2,7 @@
 use Rattle.std.specs.Prelude.{ℕ, List, [], ◌∷◌, map, None}
 use Rattle.lba_ranges.specs.HeldBlocks.{HeldBlocks}
 use Rattle.cm_base.specs.declared.config.UnitConfig.{UnitConfig}
-use Rattle.lba_ranges.specs.Writings.{Held, Writing, after, mapped_below}
+use Rattle.lba_ranges.specs.Writings.{Held, Writing, after, held_with, mapped_below}
 use Rattle.cm_history.specs.Deeds.{Deed}
 
 -- what a block holds: the last writing of it, and nothing before the first
@@ -13,10 +13,6 @@ held (d ∷ past) block = after d.wrote block (held past block)
 -- how many blocks of the unit are mapped
 abbrev pub mapped : UnitConfig → List Deed → ℕ
 mapped unit past = mapped_below unit.blocks (held past)
-
--- what the blocks would hold if this were written next
-abbrev pub held_with : (ℕ → Held) → List Writing → ℕ → Held
-held_with now more block = after more block (now block)
 
 -- how many would be mapped then
 abbrev pub mapped_with : UnitConfig → (ℕ → Held) → List Writing → ℕ

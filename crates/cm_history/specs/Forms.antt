@@ -7,7 +7,7 @@ use Rattle.cm_history.specs.declared.act.Act.{Act}
 use Rattle.cm_history.specs.declared.answer.Answer.{Answer}
 use Rattle.cm_history.specs.declared.answer.OpReport.{OpReport}
 use Rattle.cm_history.specs.declared.answer.OpState.{OpState}
-use Rattle.cm_history.specs.Bounds.{told_runs}
+use Rattle.lba_ranges.specs.Status.{told_runs}
 
 -- as many blocks as were asked for, of the length of the unit's
 pub record AreBlocksOf (config : Configuration) (unit count : ℕ) (list : HeldBlocks) : Type 0 where

@@ -5,7 +5,6 @@ pub mod Blocks
 pub mod Tokens
 pub mod Operations
 pub mod Ends
-pub mod Status
 pub mod Redeeming
 pub mod Answers
 pub mod History
@@ -21,9 +20,3 @@ pub mod Merged
 pub mod Image
 pub mod Asked
 pub mod Folding
-pub mod PlainWritings
-pub mod PlainHolds
-pub mod PlainOutcomes
-pub mod PlainPasts
-pub mod PlainForms
-pub mod PlainFates

@@ -1,6 +1,5 @@
 use crate::act::CopyEnd;
-use cm_base::Sequence;
-use lba_ranges::BlockList;
+use lba_ranges::{BlockList, StatusList};
 use scsi_sense::Sense;
 
 /// How far an operation has come.
@@ -21,17 +20,6 @@ pub struct OpReport {
     pub count: u32,
     pub serial: Option<u64>,
 }
-
-/// Blocks in a row that are all mapped, or all unmapped.
-#[derive(Drop, Clone, Copy)]
-pub struct MapRun {
-    pub lba: u64,
-    pub count: u32,
-    pub mapped: bool,
-}
-
-/// Runs of mapped and unmapped blocks, at most 64.
-pub type StatusList = Sequence<MapRun>;
 
 /// What an act is answered.
 #[derive(Drop)]

@@ -3,10 +3,10 @@ ghost use Rattle.cm_history.specs.declared.act.Act.{Act};
 ghost use Rattle.cm_history.specs.declared.answer.Answer.{Answer};
 
 use crate::act::{Act, Entry};
-use crate::answer::{Answer, StatusList};
+use crate::answer::Answer;
 use crate::token_text::TokenText;
 use cm_base::OutOfMemory;
-use lba_ranges::{BlockList, RangeList};
+use lba_ranges::{BlockList, RangeList, StatusList};
 use std::alloc::Global;
 
 fn write(lba: u64, list: BlockList) -> Act
@@ -123,7 +123,7 @@ fn rod(list: BlockList) -> Answer
 
 impl Answer {
     /// An equal answer, which shares the bytes of its blocks.
-    pub(crate) fn copy(&self, alloc: Global) -> Result<Answer, OutOfMemory>
+    pub fn copy(&self, alloc: Global) -> Result<Answer, OutOfMemory>
         ensures { IfOk result (λ answer. answer ≡ self.now) }
     {
         let answer = match *self {

@@ -1,12 +1,9 @@
-ghost use Rattle.std.specs.Prelude.{◌≡◌, ◌≤◌, length, true, IfOk, OnOk};
-ghost use Rattle.cm_history.specs.Limits.{within_limits};
+ghost use Rattle.std.specs.Prelude.{◌≡◌, length, IfOk};
 ghost use Rattle.cm_history.specs.Legal.{IsLegal};
-ghost use Rattle.cm_history.specs.PlainHolds.{AreWithin};
 
 use super::*;
-use cm_base::{Bytes, Config, OutOfMemory, Payload, UnitConfig, UnitList};
-use lba_ranges::{BlockList, Fill, Piece, Range, RangeList};
-use scsi_sense::Sense;
+use cm_base::{Config, OutOfMemory, Payload, UnitConfig, UnitList};
+use lba_ranges::{BlockList, Fill, MapRun, Piece, Range, RangeList, StatusList};
 use std::alloc::Global;
 use std::test::Fail;
 
@@ -30,193 +27,6 @@ fn write(rt: &HostRuntime, lba: u64, byte: u8) -> Result<Act, Fail> {
     let bytes = Payload::from_vec(vec![in rt.alloc(); byte; 512]?)?;
     let list = BlockList::from_payload(rt.alloc(), 512, 1, bytes)?;
     Ok(Act::Write { lba, list })
-}
-
-/// The act is within its limits.
-fn allowed(config: &Config, act: &Act) -> Result<(), &'static str>
-    requires { 1 ≤ length config.now.units }
-    ensures { OnOk result (within_limits config.now 0 act.now ≡ true) }
-{
-    if within_limits(config, 0, act) {
-        Ok(())
-    } else {
-        Err("an act is beyond its limits")
-    }
-}
-
-/// Initiator 1 asks unit 0 for an act at this moment.
-fn ask(config: &Config, history: &mut History, moment: u64, act: Act) -> Result<(), Fail>
-    requires one { 1 ≤ length config.now.units }
-    requires within { AreWithin config.now 0 history.old.entries }
-    ensures { OnOk result (AreWithin config.now 0 history.new.entries) }
-{
-    allowed(config, &act)?;
-    history.reserve(1)?;
-    history.append(Entry {
-        stamp: moment,
-        unit: 0,
-        actor: Actor::Nexus(1),
-        seq: moment,
-        moment,
-        act,
-    });
-    Ok(())
-}
-
-/// Four Writes of unit 0, the third of which is refused.
-fn four_writes(rt: &HostRuntime, config: &Config) -> Result<History, Fail>
-    requires { 1 ≤ length config.now.units }
-    ensures { IfOk result (λ history. AreWithin config.now 0 history.entries) }
-{
-    let mut history = History::empty(rt.alloc());
-    ask(config, &mut history, 0, write(rt, 1, 0x11)?)?;
-    ask(config, &mut history, 1, write(rt, 1, 0x22)?)?;
-    ask(config, &mut history, 2, write(rt, 4, 0x33)?)?;
-    ask(config, &mut history, 3, write(rt, 3, 0x44)?)?;
-    Ok(history)
-}
-
-/// What initiator 1 is answered at this moment.
-fn told(
-    rt: &HostRuntime,
-    config: &Config,
-    history: &History,
-    moment: u64,
-    act: &Act,
-) -> Result<Answer, Fail>
-    requires one { 1 ≤ length config.now.units }
-    requires within { AreWithin config.now 0 history.now.entries }
-{
-    allowed(config, act)?;
-    let alloc = rt.alloc();
-    Ok(plain_answer(alloc, config, history, 0, Actor::Nexus(1), moment, act)?)
-}
-
-/// The bytes of the blocks that a Read of all blocks is answered after four Writes.
-fn read_back(rt: &HostRuntime, config: &Config) -> Result<Bytes, Fail>
-    requires { 1 ≤ length config.now.units }
-{
-    let history = four_writes(rt, config)?;
-    let answer = told(rt, config, &history, 4, &Act::Read { lba: 0, count: 4 })?;
-    let mut bytes = Bytes::empty(rt.alloc());
-    if let Answer::Blocks(list) = answer {
-        list.read_into(&mut bytes)?;
-    }
-    Ok(bytes)
-}
-
-#[test]
-fn what_was_written_is_read(rt: HostRuntime) -> Result<(), Fail> {
-    let config = one_unit(&rt)?;
-    let bytes = read_back(&rt, &config)?;
-    let bytes = bytes.as_slice();
-    assert_eq!(rt; bytes.len(), 2048);
-    let held = [
-        (0, 0),
-        (511, 0),
-        (512, 0x22),
-        (1023, 0x22),
-        (1024, 0),
-        (1536, 0x44),
-    ];
-    for (place, byte) in held {
-        assert_eq!(rt; bytes.get(place), Some(&byte), "at {place}");
-    }
-    Ok(())
-}
-
-/// The answer to an act after four Writes is this refusal.
-fn is_refused(rt: &HostRuntime, config: &Config, act: &Act, wanted: Sense) -> Result<bool, Fail>
-    requires { 1 ≤ length config.now.units }
-{
-    let history = four_writes(rt, config)?;
-    let answer = told(rt, config, &history, 4, act)?;
-    Ok(matches!(&answer, Answer::Refused(sense) if *sense == wanted))
-}
-
-/// The unit has four blocks, and the quota is of two.
-#[test]
-fn acts_are_refused(rt: HostRuntime) -> Result<(), Fail> {
-    let config = one_unit(&rt)?;
-    let out_of_range = Sense::new(0x05, 0x21, 0x00);
-    let over_quota = Sense::new(0x07, 0x27, 0x07);
-    let long = Act::Read { lba: 1, count: 4 };
-    assert!(rt; is_refused(&rt, &config, &long, out_of_range)?);
-    assert!(rt; is_refused(&rt, &config, &write(&rt, 0, 0x55)?, over_quota)?);
-    assert!(rt; !is_refused(&rt, &config, &write(&rt, 3, 0x55)?, over_quota)?);
-    Ok(())
-}
-
-/// A Populate of all blocks, the last of which is written again; then a Redeem at this moment.
-fn redeemed(rt: &HostRuntime, config: &Config, moment: u64) -> Result<Answer, Fail>
-    requires { 1 ≤ length config.now.units }
-{
-    let mut history = four_writes(rt, config)?;
-    let act = populate(10, ranges(rt, 0, 2)?);
-    ask(config, &mut history, 4, act)?;
-    ask(config, &mut history, 5, write(rt, 3, 0x66)?)?;
-    let text = rod_token::text(config, 0, 0, 4);
-    let act = redeem(rt.alloc(), &text, 0)?;
-    told(rt, config, &history, moment, &act)
-}
-
-/// The last block of a rod has bytes like this one.
-fn is_rod(answer: &Answer, byte: u8) -> bool {
-    match answer {
-        Answer::Rod(list) => matches!(list.held(3), Some(bytes) if bytes.first() == Some(&byte)),
-        _ => false,
-    }
-}
-
-/// The answer is this refusal.
-fn is_refusal(answer: &Answer, wanted: Sense) -> bool {
-    matches!(answer, Answer::Refused(sense) if *sense == wanted)
-}
-
-/// A token has the blocks of its making for ten seconds.
-#[test]
-fn a_token_is_redeemed(rt: HostRuntime) -> Result<(), Fail> {
-    let config = one_unit(&rt)?;
-    let answer = redeemed(&rt, &config, 14)?;
-    assert!(rt; is_rod(&answer, 0x44));
-    let answer = redeemed(&rt, &config, 15)?;
-    assert!(rt; is_refusal(&answer, Sense::new(0x05, 0x23, 0x07)));
-    Ok(())
-}
-
-/// A background write of four unmapped blocks, and so many Pumps.
-fn pumped(rt: &HostRuntime, config: &Config, pumps: u64) -> Result<Answer, Fail>
-    requires { 1 ≤ length config.now.units }
-{
-    let mut history = four_writes(rt, config)?;
-    let act = start(ranges(rt, 0, 2)?, holes(rt, 512, 4)?);
-    ask(config, &mut history, 4, act)?;
-    for _ in 0..pumps {
-        ask(config, &mut history, 5, Act::Pump)?;
-    }
-    told(rt, config, &history, 6, &Act::Report { id: 1 })
-}
-
-/// The report is of a background write of so many blocks that has ended, or not.
-fn is_report(answer: &Answer, wanted: u32, done: bool) -> bool {
-    match answer {
-        Answer::Report(report) => {
-            let ended = matches!(report.state, OpState::Done);
-            report.background && report.count == wanted && ended == done
-        }
-        _ => false,
-    }
-}
-
-/// The pump writes the piece of the operation.
-#[test]
-fn an_operation_is_pumped(rt: HostRuntime) -> Result<(), Fail> {
-    let config = one_unit(&rt)?;
-    let answer = pumped(&rt, &config, 0)?;
-    assert!(rt; is_report(&answer, 0, false));
-    let answer = pumped(&rt, &config, 2)?;
-    assert!(rt; is_report(&answer, 4, true));
-    Ok(())
 }
 
 /// A list of unmapped blocks.
@@ -334,6 +144,24 @@ fn acts_are_copied(rt: HostRuntime) -> Result<(), Fail> {
     let entry = entry.copy(alloc)?;
     assert!(rt; entry.stamp == 6 && entry.seq == 7 && entry.moment == 8);
     assert!(rt; matches!(&entry.act, Act::Write { lba: 3, list } if list.blocks() == 1));
+    Ok(())
+}
+
+#[test]
+fn answers_are_copied(rt: HostRuntime) -> Result<(), Fail> {
+    let alloc = rt.alloc();
+    let rod = Answer::Rod(holes(&rt, 512, 4)?).copy(alloc)?;
+    assert!(rt; matches!(&rod, Answer::Rod(list) if list.blocks() == 4));
+    let runs = StatusList::copy(
+        alloc,
+        &[MapRun {
+            lba: 5,
+            count: 2,
+            mapped: true,
+        }],
+    )?;
+    let told = Answer::Status(runs).copy(alloc)?;
+    assert!(rt; matches!(&told, Answer::Status(runs) if runs.len() == 1));
     Ok(())
 }
 

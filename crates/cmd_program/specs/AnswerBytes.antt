@@ -10,7 +10,7 @@ use Rattle.copy_status.specs.StatusBytes.{status4_bytes, information_bytes, stat
 use Rattle.rod_token.specs.TokenText.{token_text}
 use Rattle.cm_history.specs.declared.act.CopyEnd.{CopyEnd}
 use Rattle.cm_history.specs.declared.act.CopyState.{CopyState}
-use Rattle.cm_history.specs.declared.answer.MapRun.{MapRun}
+use Rattle.lba_ranges.specs.declared.status.MapRun.{MapRun}
 use Rattle.cm_history.specs.declared.answer.OpReport.{OpReport}
 use Rattle.cm_history.specs.declared.answer.OpState.{OpState}
 

@@ -4,8 +4,8 @@ use Rattle.cm_base.specs.Configuration.{Configuration}
 use Rattle.cm_frame.specs.declared.frame.Reply.{Reply}
 use Rattle.cm_history.specs.declared.act.Act.{Act}
 use Rattle.cm_history.specs.declared.act.Actor.{Actor}
-use Rattle.cm_history.specs.declared.answer.MapRun.{MapRun}
-use Rattle.cm_history.specs.Bounds.{told_runs}
+use Rattle.lba_ranges.specs.declared.status.MapRun.{MapRun}
+use Rattle.lba_ranges.specs.Status.{told_runs}
 use Rattle.lba_ranges.specs.HeldBlocks.{HeldBlocks}
 use Rattle.cm_frame.specs.Grammar.{data_limit}
 use Rattle.cm_history.specs.Forms.{HasForm}

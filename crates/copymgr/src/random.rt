@@ -4,7 +4,7 @@ ghost use Rattle.std.specs.Prelude.{◌≡◌, ◌*◌, ◌<◌, ◌≤◌, ℕ,
 ghost use Rattle.cm_base.specs.Configuration.{Configuration};
 ghost use Rattle.cm_history.specs.declared.act.Entry.{Entry};
 ghost use Rattle.cm_history.specs.Limits.{within_limits};
-ghost use Rattle.cm_history.specs.PlainHolds.{AreWithin};
+ghost use Rattle.plain_model.specs.Holds.{AreWithin};
 
 use crate::status::Status;
 use crate::top::top;
@@ -12,8 +12,9 @@ use cm_base::{
     Bytes, CallList, Config, MemorySink, MemorySource, Payload, UnitConfig, UnitList, Word,
 };
 use cm_frame::{Request, TraceItem, write_header, write_item};
-use cm_history::{Act, Actor, Answer, Entry, History, plain_answer, within_limits};
+use cm_history::{Act, Actor, Answer, Entry, History, within_limits};
 use lba_ranges::BlockList;
+use plain_model::plain_answer;
 use scsi_cdb::{Cdb, encode};
 use std::alloc::Global;
 use std::test::Fail;

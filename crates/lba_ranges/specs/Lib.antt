@@ -2,4 +2,5 @@ pub mod HeldBlocks
 pub mod Runs
 pub mod Denoted
 pub mod Writings
+pub mod Status
 pub mod Lending

@@ -4,7 +4,7 @@ use Rattle.std.proofs.lemmas.List.{length-take, take_all}
 use Rattle.byteorder.specs.Endian.{big_bytes}
 use Rattle.cm_base.specs.Fields.{zeros}
 use Rattle.cm_frame.specs.Grammar.{data_limit}
-use Rattle.cm_history.specs.declared.answer.MapRun.{MapRun}
+use Rattle.lba_ranges.specs.declared.status.MapRun.{MapRun}
 use Rattle.cmd_program.specs.AnswerBytes.{run_bytes, runs_bytes, map_bytes}
 
 -- one more run

@@ -6,8 +6,8 @@ ghost use Rattle.cmd_program.specs.Meaning.{IsWritable, AreTold};
 
 use cm_base::{Bytes, OutOfMemory, Payload, set_u32, set_u64};
 use cm_frame::Reply;
-use cm_history::{MapRun, StatusList};
 use cmd_program::Step;
+use lba_ranges::{MapRun, StatusList};
 use std::alloc::Global;
 
 /// Bytes of an LBA status descriptor.

@@ -17,11 +17,10 @@ use Rattle.cm_history.specs.declared.act.Actor.{Actor}
 use Rattle.cm_history.specs.declared.act.Entry.{Entry}
 use Rattle.cm_history.specs.declared.answer.Answer.{Answer}
 use Rattle.cm_history.specs.declared.answer.OpState.{OpState}
-use Rattle.cm_history.specs.Bounds.{told_runs, run_blocks}
+use Rattle.lba_ranges.specs.Status.{told_runs, run_blocks, map_runs, run_length}
 use Rattle.scsi_sense.specs.Codes.{lba_out_of_range, operation_in_progress, insufficient_resources, remote_token_usage_not_supported, token_corrupt}
 use Rattle.cm_history.specs.Deeds.{Deed}
 use Rattle.cm_history.specs.Blocks.{held, cut}
-use Rattle.cm_history.specs.Status.{map_runs, run_length}
 use Rattle.cm_history.specs.Limits.{within_limits}
 use Rattle.cm_history.specs.Tokens.{Token, Fate, Live, Expired, Evicted, Deleted, tokens, is_populate}
 use Rattle.cm_history.specs.Redeeming.{are_alike, redeemed, answer_by_fate, fate_at, named_token}

@@ -1,8 +1,6 @@
 ghost use Rattle.std.specs.Prelude.{◌≡◌, length};
 
 mod asking;
-mod histories;
-mod random_acts;
 
 use super::*;
 use asking::{

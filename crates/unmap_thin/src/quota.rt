@@ -1,7 +1,6 @@
 ghost use Rattle.std.specs.Prelude.{◌≡◌, length, IsTrue, false};
 ghost use Rattle.lba_ranges.specs.Denoted.{blocks_of, total, is_within, is_overlapping};
-ghost use Rattle.lba_ranges.specs.Writings.{paired, mapped_below};
-ghost use Rattle.cm_history.specs.Blocks.{held_with};
+ghost use Rattle.lba_ranges.specs.Writings.{paired, mapped_below, held_with};
 
 use lba_ranges::{BlockList, Blocks, RangeList};
 

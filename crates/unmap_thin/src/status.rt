@@ -1,10 +1,8 @@
 ghost use Rattle.std.specs.Prelude.{◌≡◌, ◌-◌, ◌<◌, IfOk};
-ghost use Rattle.cm_history.specs.Bounds.{told_runs};
-ghost use Rattle.cm_history.specs.Status.{map_runs, IsRun};
+ghost use Rattle.lba_ranges.specs.Status.{told_runs, runs, IsRun};
 
 use cm_base::OutOfMemory;
-use cm_history::{MapRun, StatusList};
-use lba_ranges::Blocks;
+use lba_ranges::{Blocks, MapRun, StatusList};
 use std::alloc::Global;
 
 /// Runs that are told.

@@ -4,8 +4,7 @@ ghost use Rattle.lun_plain.specs.Plain.{Plain};
 
 use super::*;
 use cm_base::Payload;
-use cm_history::MapRun;
-use lba_ranges::{BlockList, Blocks, Fill, Piece, Range, RangeList};
+use lba_ranges::{BlockList, Blocks, Fill, MapRun, Piece, Range, RangeList};
 use lun_plain::PlainUnit;
 use std::test::Fail;
 

@@ -1,9 +1,9 @@
 use super::driving;
 use cm_base::{Config, Payload, UnitConfig, UnitList};
 use cm_frame::{Reply, Request};
-use cm_history::{Act, Answer, MapRun, StatusList};
+use cm_history::{Act, Answer};
 use cmd_program::{Outcome, Step};
-use lba_ranges::{BlockList, Fill, Piece, Range};
+use lba_ranges::{BlockList, Fill, MapRun, Piece, Range, StatusList};
 use scsi_cdb::{Cdb, encode};
 use scsi_sense::Sense;
 use std::alloc::Global;

@@ -1,6 +1,6 @@
 use Rattle.std.proofs.Common.{◌-◌, ◌++◌, ◌∙◌, length, ap, sym, arith, append-nil, inl, inr}
-use Rattle.cm_history.specs.Status.{IsRun}
-use Rattle.unmap_thin.proofs.RunLemmas.{runs-step, runs-done}
+use Rattle.lba_ranges.specs.Status.{IsRun}
+use Rattle.lba_ranges.proofs.MapRuns.{runs-step, runs-done}
 use Rattle.unmap_thin.proofs.status.runs.Goals as goal
 use Rattle.unmap_thin.proofs.status.runs.Goals.{then-loop-block-test+else-len-lt-TOLD_RUNS, else-loop-block-test}
 

@@ -1,5 +1,5 @@
 use Rattle.std.proofs.Common.{ℕ}
-use Rattle.cm_history.specs.PlainHolds.{AreWithin}
+use Rattle.plain_model.specs.Holds.{AreWithin}
 use Rattle.copymgr.proofs.random.Trace.random.Given as goal
 
 abbrev pub invariant-loop : goal.invariant-loop

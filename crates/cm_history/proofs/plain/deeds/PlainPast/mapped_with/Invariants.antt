@@ -1,7 +1,0 @@
-use Rattle.std.proofs.Common.{◌≡◌, ◌≤◌}
-use Rattle.lba_ranges.specs.Writings.{mapped_below}
-use Rattle.cm_history.specs.Blocks.{held, held_with}
-use Rattle.cm_history.proofs.plain.deeds.PlainPast.mapped_with.Given as goal
-
-abbrev pub invariant-loop-block : goal.invariant-loop-block
-invariant-loop-block l = (l.mapped ≡ mapped_below l.block (held_with (held l.self) l.more)) × (l.mapped ≤ l.block)

@@ -1,7 +1,0 @@
-use Rattle.std.proofs.Common.{◌≡◌, take}
-use Rattle.std.specs.Prelude.{reverse}
-use Rattle.cm_history.specs.Operations.{was_stopped}
-use Rattle.cm_history.proofs.plain.deeds.PlainPast.was_stopped.Given as goal
-
-abbrev pub invariant-loop-deed : goal.invariant-loop-deed
-invariant-loop-deed l = l.stopped ≡ was_stopped (reverse (take l.deed-index l.deed-items))

@@ -1,6 +1,0 @@
-use Rattle.std.proofs.Common.{◌≡◌, map, take, drop}
-use Rattle.cm_history.specs.PlainWritings.{writing_of}
-use Rattle.cm_history.proofs.plain.writings.PlainWritings.part.Given as goal
-
-abbrev pub invariant-loop-place : goal.invariant-loop-place
-invariant-loop-place l = l.part ≡ take l.count (drop l.from (map writing_of (take l.place l.writing-items)))

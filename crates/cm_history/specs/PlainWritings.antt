@@ -1,6 +1,0 @@
--- A writing of the plain answers, as a writing
-use Rattle.lba_ranges.specs.Writings.{Writing}
-use Rattle.cm_history.specs.declared.plain.writings.PlainWriting.{PlainWriting}
-
-abbrev pub writing_of : PlainWriting → Writing
-writing_of w = record { block = w.block; held = w.held }

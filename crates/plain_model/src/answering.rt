@@ -1,0 +1,55 @@
+ghost use Rattle.std.specs.Prelude.{◌≡◌, ◌<◌, length, true, IfOk};
+ghost use Rattle.cm_history.specs.History.{answer};
+ghost use Rattle.cm_history.specs.Limits.{within_limits};
+ghost use Rattle.plain_model.specs.Holds.{AreWithin};
+ghost use Rattle.plain_model.specs.Pasts.{IsPlayed};
+
+use crate::acts;
+use crate::unit::PlainUnit;
+use cm_base::{Config, OutOfMemory};
+use cm_history::{Act, Actor, Answer, History};
+use std::alloc::Global;
+
+/// The unit after its entries of a history.
+fn played(
+    alloc: Global,
+    config: &Config,
+    history: &History,
+    number: u16,
+) -> Result<PlainUnit, OutOfMemory>
+    requires configured { number < length config.now.units }
+    requires within { AreWithin config.now number history.now.entries }
+    ensures { IfOk result (IsPlayed config.now number history.now.entries) }
+{
+    let _ = config.unit(number);
+    let mut unit = PlainUnit::new(alloc);
+    for index in 0..history.len() {
+        let entry = history.at(index);
+        if entry.unit == number {
+            acts::blocks_brought(&entry.act);
+            unit = unit.played(alloc, config, number, entry)?;
+        }
+    }
+    Ok(unit)
+}
+
+/// What a unit answers to an act after a history: the slow plain way, by going through the whole history. The unit's
+/// entries and the act are within their limits.
+pub fn plain_answer(
+    alloc: Global,
+    config: &Config,
+    history: &History,
+    unit: u16,
+    actor: Actor,
+    moment: u64,
+    act: &Act,
+) -> Result<Answer, OutOfMemory>
+    requires configured { unit < length config.now.units }
+    requires history { AreWithin config.now unit history.now.entries }
+    requires act { within_limits config.now unit act.now ≡ true }
+    ensures { IfOk result (λ a. a ≡ answer config.now history.now.entries unit actor moment act.now) }
+{
+    let played = played(alloc, config, history, unit)?;
+    let outcome = played.outcome(alloc, config, unit, actor, moment, act)?;
+    Ok(outcome.answer)
+}

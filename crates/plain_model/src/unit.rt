@@ -1,0 +1,430 @@
+ghost use Rattle.std.specs.Prelude.{◌≡◌, ◌<◌, ◌∷◌, [], ◌^◌, length, find, true, false, IfOk};
+ghost use Rattle.std.specs.Option.{option_copied};
+ghost use Rattle.cm_base.specs.Units.{unit_of};
+ghost use Rattle.lba_ranges.specs.Denoted.{blocks_of};
+ghost use Rattle.cm_history.specs.declared.act.Act.{Act};
+ghost use Rattle.cm_history.specs.Answers.{answer_after, answer_populate, answer_start, answer_open, progress, answer_end, done_if, answer_report, answer_recall, is_busy, is_crowded, piece_of, writings, deed};
+ghost use Rattle.cm_history.specs.Deeds.{moment};
+ghost use Rattle.cm_history.specs.Limits.{within_limits};
+ghost use Rattle.cm_history.specs.Operations.{OfToken, OfCopy, has_key, kept, operations, running, would_serve};
+ghost use Rattle.cm_history.specs.Redeeming.{redeemed, named_token};
+ghost use Rattle.plain_model.specs.Forms.{as_form};
+ghost use Rattle.plain_model.specs.Holds.{IsSizedPast, MayFollow, writes};
+ghost use Rattle.plain_model.specs.Outcomes.{IsOutcome};
+ghost use Rattle.cm_history.specs.Tokens.{tokens};
+
+use crate::acts::{self, PlainForm};
+use crate::deeds::{PlainDeed, PlainPast};
+use crate::operations::{PlainOperation, kept_after, operations_after};
+use crate::outcome::PlainOutcome;
+use crate::tokens::{PlainToken, tokens_after};
+use crate::writings::PlainWritings;
+use crate::{blocks, refusals};
+use cm_base::{Config, OutOfMemory, UnitConfig};
+use cm_history::{Act, Actor, Answer, Entry, OpState};
+use lba_ranges::{BlockList, RangeList};
+use std::alloc::Global;
+use std::marker::Model;
+
+/// Operations that run at most.
+const RUNNING_OPERATIONS: usize = 64;
+
+/// Serials that a unit makes.
+const SERIALS: usize = 1 << 48;
+
+/// What a unit has done, with the tokens and the operations that come of it. Contracts see its deeds, the latest
+/// first.
+#[derive(Drop)]
+pub(crate) struct PlainUnit {
+    past: PlainPast,
+    tokens: Vec<PlainToken>,
+    operations: Vec<PlainOperation>,
+    kept: Vec<PlainOperation>,
+}
+
+impl Model for PlainUnit {
+    ghost use Rattle.std.specs.Prelude.{List};
+    ghost use Rattle.cm_history.specs.Deeds.{Deed};
+
+    ghost Value = { List Deed };
+
+    ghost use Rattle.plain_model.specs.Holds.{ComesOf};
+
+    ghost view = { λ u. u.past };
+
+    ghost invariant = { λ u. ComesOf u.past u.tokens.items u.operations.items u.kept.items };
+}
+
+impl PlainUnit {
+    /// A unit that has done nothing.
+    pub(crate) fn new(alloc: Global) -> PlainUnit
+        ensures { result ≡ [] }
+    {
+        PlainUnit {
+            past: PlainPast::new(alloc),
+            tokens: Vec::new(alloc),
+            operations: Vec::new(alloc),
+            kept: Vec::new(alloc),
+        }
+    }
+
+    /// The running operation that the act would serve: the one that was made first.
+    fn would_serve(&self, actor: Actor, act: &Act) -> Option<&PlainOperation>
+        ensures { option_copied result ≡ would_serve self.now actor act.now }
+    {
+        for operation in &self.operations {
+            if operation.is_running() && operation.fits(actor, act) {
+                return Some(operation);
+            }
+        }
+        None
+    }
+
+    /// The record of the first operation of the key that is kept.
+    fn kept(&self, actor: Actor, form: PlainForm, id: u32) -> Option<&PlainOperation>
+        ensures { option_copied result ≡ find (has_key actor (as_form form) id) (kept self.now) }
+    {
+        for operation in &self.kept {
+            if operation.has_key(actor, form, id) {
+                return Some(operation);
+            }
+        }
+        None
+    }
+
+    /// An operation of the key runs.
+    fn is_busy(&self, actor: Actor, form: PlainForm, id: u32) -> bool
+        ensures { result ≡ is_busy self.now actor (as_form form) id }
+    {
+        for operation in &self.operations {
+            if operation.is_running() && operation.has_key(actor, form, id) {
+                return true;
+            }
+        }
+        false
+    }
+
+    /// 64 operations run.
+    fn is_crowded(&self) -> bool
+        ensures { result ≡ is_crowded self.now }
+    {
+        let mut running = 0;
+        for operation in &self.operations {
+            if operation.is_running() {
+                running += 1;
+            }
+        }
+        running >= RUNNING_OPERATIONS
+    }
+
+    /// The token that a text names, if the unit made it.
+    fn named_token(&self, text: &[u8; 512]) -> Option<&PlainToken>
+        ensures { option_copied result ≡ named_token self.now text.now }
+    {
+        self.tokens.get(acts::serial_of(text) as usize)
+    }
+
+    fn populate(&self, unit: UnitConfig, actor: Actor, id: u32, ranges: &RangeList) -> Answer
+        ensures { result ≡ answer_populate unit self.now actor id ranges.now }
+    {
+        if self.is_busy(actor, PlainForm::OfToken, id) {
+            return refusals::in_use();
+        }
+        if !ranges.within(unit.blocks) {
+            return refusals::out_of_range();
+        }
+        if self.tokens.len() >= SERIALS {
+            return refusals::too_many();
+        }
+        Answer::Made {
+            serial: self.tokens.len() as u64,
+        }
+    }
+
+    fn redeem(
+        &self,
+        alloc: Global,
+        config: &Config,
+        unit: u16,
+        now: u64,
+        text: &[u8; 512],
+        target: u16,
+    ) -> Result<Answer, OutOfMemory>
+        requires unit { unit < length config.now.units }
+        requires target { target < length config.now.units }
+        requires sized { IsSizedPast (unit_of config.now unit).block_length self.now }
+        ensures { IfOk result (λ a. a ≡ redeemed config.now unit now text.now target (named_token self.now text.now)) }
+    {
+        match self.named_token(text) {
+            Some(token) => token.redeemed(alloc, config, unit, now, text, target),
+            None => Ok(refusals::not_made()),
+        }
+    }
+
+    fn start(
+        &self,
+        unit: UnitConfig,
+        actor: Actor,
+        id: u32,
+        ranges: &RangeList,
+        rod: &BlockList,
+    ) -> Answer
+        ensures { result ≡ answer_start unit self.now actor id ranges.now rod.now }
+    {
+        if self.is_busy(actor, PlainForm::OfToken, id) {
+            return refusals::in_use();
+        }
+        if !ranges.within(unit.blocks) {
+            return refusals::out_of_range();
+        }
+        if self.is_crowded() {
+            return refusals::too_many();
+        }
+        let state = if rod.blocks() == 0 {
+            OpState::Done
+        } else {
+            OpState::Running
+        };
+        Answer::Progress { state, count: 0 }
+    }
+
+    fn open(&self, actor: Actor, id: u32) -> Answer
+        ensures { result ≡ answer_open self.now actor id }
+    {
+        if self.is_busy(actor, PlainForm::OfCopy, id) {
+            return refusals::in_use();
+        }
+        if self.is_crowded() {
+            return refusals::too_many();
+        }
+        Answer::Done
+    }
+
+    /// Writes the next piece of the operation that the act serves, if the quota allows it.
+    fn progress(
+        &self,
+        alloc: Global,
+        unit: UnitConfig,
+        otherwise: Answer,
+        served: Option<&PlainOperation>,
+    ) -> Result<PlainOutcome, OutOfMemory>
+        requires { unit.blocks < 2 ^ 63 }
+        ensures { IfOk result (λ o. IsOutcome o (progress unit self.now otherwise (option_copied served.entry)) (piece_of (option_copied served.entry))) }
+    {
+        let Some(operation) = served else {
+            return Ok(PlainOutcome::told(alloc, otherwise));
+        };
+        let piece = operation.next_piece(alloc)?;
+        let before = operation.count();
+        if self.past.mapped_with(unit.blocks, &piece) > unit.quota {
+            let state = OpState::Failed(refusals::quota_sense());
+            let count = before;
+            return Ok(PlainOutcome {
+                answer: Answer::Progress { state, count },
+                wrote: PlainWritings::new(alloc),
+            });
+        }
+        let count = before + piece.len() as u32;
+        let state = if u64::from(count) == operation.blocks() {
+            OpState::Done
+        } else {
+            OpState::Running
+        };
+        Ok(PlainOutcome {
+            answer: Answer::Progress { state, count },
+            wrote: piece,
+        })
+    }
+}
+
+impl PlainUnit {
+    /// What an act on tokens or operations is answered that writes no blocks.
+    fn told(
+        &self,
+        alloc: Global,
+        config: &Config,
+        number: u16,
+        actor: Actor,
+        moment: u64,
+        act: &Act,
+    ) -> Result<Answer, OutOfMemory>
+        requires configured { number < length config.now.units }
+        requires limits { within_limits config.now number act.now ≡ true }
+        requires sized { IsSizedPast (unit_of config.now number).block_length self.now }
+        requires told { writes act.now ≡ false }
+        ensures { IfOk result (λ a. a ≡ answer_after config.now number self.now actor moment act.now) }
+    {
+        let unit = config.unit(number);
+        let served = self.would_serve(actor, act);
+        match act {
+            Act::Read { lba, count } | Act::Capture { lba, count } => {
+                blocks::read(alloc, unit, &self.past, *lba, *count)
+            }
+            Act::MapStatus { lba } => blocks::status(alloc, unit, &self.past, *lba),
+            Act::Populate { id, ranges, .. } => Ok(self.populate(unit, actor, *id, ranges)),
+            Act::Redeem { text, target } => {
+                let now = moment.max(self.past.moment());
+                self.redeem(alloc, config, number, now, text.bytes(), *target)
+            }
+            Act::Start {
+                id,
+                ranges,
+                rod,
+                ..
+            } => Ok(self.start(unit, actor, *id, ranges, rod)),
+            Act::End { .. } => Ok(answer_end(served)),
+            Act::Abort { .. } => Ok(done_if(served)),
+            Act::Close { .. } => Ok(done_if(served)),
+            Act::Report { id } => Ok(answer_report(self.kept(actor, PlainForm::OfToken, *id))),
+            Act::Open { id } => Ok(self.open(actor, u32::from(*id))),
+            Act::Recall { id } => {
+                let found = self.kept(actor, PlainForm::OfCopy, u32::from(*id));
+                Ok(answer_recall(found))
+            }
+            _ => Ok(Answer::Done),
+        }
+    }
+
+    /// What an act is answered, and what it writes.
+    pub(crate) fn outcome(
+        &self,
+        alloc: Global,
+        config: &Config,
+        number: u16,
+        actor: Actor,
+        moment: u64,
+        act: &Act,
+    ) -> Result<PlainOutcome, OutOfMemory>
+        requires configured { number < length config.now.units }
+        requires limits { within_limits config.now number act.now ≡ true }
+        requires sized { IsSizedPast (unit_of config.now number).block_length self.now }
+        ensures { IfOk result (λ o. IsOutcome o (answer_after config.now number self.now actor moment act.now) (writings self.now actor act.now)) }
+    {
+        let unit = config.unit(number);
+        match act {
+            Act::Write { lba, list } | Act::Put { lba, list } => {
+                blocks::write(alloc, unit, &self.past, *lba, list)
+            }
+            Act::Unmap { ranges } => blocks::unmap(alloc, unit, ranges),
+            Act::Advance { .. } => {
+                let otherwise = refusals::no_such_operation();
+                self.progress(alloc, unit, otherwise, self.would_serve(actor, act))
+            }
+            Act::Pump => { self.progress(alloc, unit, Answer::Idle, self.would_serve(actor, act)) }
+            _ => {
+                let answer = self.told(alloc, config, number, actor, moment, act)?;
+                Ok(PlainOutcome::told(alloc, answer))
+            }
+        }
+    }
+
+    /// The deed that comes of an entry.
+    fn deed(
+        &self,
+        alloc: Global,
+        config: &Config,
+        number: u16,
+        entry: &Entry,
+    ) -> Result<PlainDeed, OutOfMemory>
+        requires configured { number < length config.now.units }
+        requires limits { within_limits config.now number entry.now.act ≡ true }
+        requires sized { IsSizedPast (unit_of config.now number).block_length self.now }
+        ensures { IfOk result (λ d. d ≡ deed config.now number self.now entry.now) }
+    {
+        let served = match self.would_serve(entry.actor, &entry.act) {
+            Some(operation) => Some(operation.place()),
+            None => None,
+        };
+        let PlainOutcome { answer, wrote } = self.outcome(
+            alloc,
+            config,
+            number,
+            entry.actor,
+            entry.moment,
+            &entry.act,
+        )?;
+        Ok(PlainDeed {
+            entry: entry.copy(alloc)?,
+            place: self.past.len() as u64,
+            moment: entry.moment.max(self.past.moment()),
+            answer,
+            wrote,
+            served,
+        })
+    }
+
+    /// The unit after one more deed.
+    fn after(self, alloc: Global, deed: PlainDeed) -> Result<PlainUnit, OutOfMemory>
+        requires { MayFollow self deed }
+        ensures { IfOk result (λ unit. unit ≡ deed ∷ self) }
+    {
+        let tokens = tokens_after(alloc, &self.tokens, &self.past, &deed)?;
+        let operations = operations_after(alloc, &self.operations, &deed)?;
+        let kept = kept_after(alloc, &self.kept, &deed)?;
+        let mut past = self.past;
+        past.push(deed)?;
+        Ok(PlainUnit {
+            past,
+            tokens,
+            operations,
+            kept,
+        })
+    }
+
+    /// The unit after one more entry.
+    pub(crate) fn played(
+        self,
+        alloc: Global,
+        config: &Config,
+        number: u16,
+        entry: &Entry,
+    ) -> Result<PlainUnit, OutOfMemory>
+        requires configured { number < length config.now.units }
+        requires limits { within_limits config.now number entry.now.act ≡ true }
+        requires sized { IsSizedPast (unit_of config.now number).block_length self }
+        requires follows { MayFollow self (deed config.now number self entry.now) }
+        ensures { IfOk result (λ unit. unit ≡ deed config.now number self entry.now ∷ self) }
+    {
+        let deed = self.deed(alloc, config, number, entry)?;
+        self.after(alloc, deed)
+    }
+}
+
+fn answer_end(served: Option<&PlainOperation>) -> Answer
+    ensures { result ≡ answer_end (option_copied served.entry) }
+{
+    match served {
+        Some(operation) => Answer::Progress {
+            state: OpState::Terminated,
+            count: operation.count(),
+        },
+        None => refusals::no_such_operation(),
+    }
+}
+
+fn done_if(served: Option<&PlainOperation>) -> Answer
+    ensures { result ≡ done_if (option_copied served.entry) }
+{
+    match served {
+        Some(_) => Answer::Done,
+        None => refusals::no_such_operation(),
+    }
+}
+
+fn answer_report(found: Option<&PlainOperation>) -> Answer
+    ensures { result ≡ answer_report (option_copied found.entry) }
+{
+    match found {
+        Some(operation) => Answer::Report(operation.report()),
+        None => refusals::no_such_operation(),
+    }
+}
+
+fn answer_recall(found: Option<&PlainOperation>) -> Answer
+    ensures { result ≡ answer_recall (option_copied found.entry) }
+{
+    match found {
+        Some(operation) => Answer::Copy(operation.result()),
+        None => refusals::no_such_operation(),
+    }
+}

@@ -1,0 +1,251 @@
+// Random histories of two units, whose answers are compared with those of the plain model.
+ghost use Rattle.std.specs.Prelude.{◌≡◌, ◌<◌, ◌≤◌, ◌^◌, length, IfOk, OnOk, true};
+ghost use Rattle.cm_history.specs.Legal.{may_ask};
+ghost use Rattle.plain_model.specs.Holds.{AreWithin};
+
+use crate::random_acts::{Numbers, Style, random_act};
+use cm_base::{Config, UnitConfig, UnitList};
+use cm_history::{
+    Act, ActRefused, Actor, Answer, CopyState, Entry, History, OpState, within_limits,
+};
+use lba_ranges::BlockList;
+use plain_model::plain_answer;
+use scsi_sense::Sense;
+use std::alloc::Global;
+use std::test::Fail;
+use unit_core::Unit;
+
+/// Acts of a history.
+const ACTS: u32 = 40;
+
+/// Two units of so many blocks of 512 bytes, of which a quota may be mapped.
+fn machine(alloc: Global, blocks: u64, quota: u64) -> Result<Config, Fail>
+    requires blocks { 1 ≤ blocks }
+    requires few { blocks ≤ 2 ^ 32 }
+    requires quota { quota ≤ blocks }
+    ensures { IfOk result (λ config. length config.units ≡ 2) }
+{
+    let unit = UnitConfig {
+        blocks,
+        block_length: 512,
+        entries: 4096,
+        quota,
+        payload: 1_048_576,
+        group: 0,
+    };
+    let mut units = UnitList::empty(alloc);
+    units.push(unit)?;
+    units.push(unit)?;
+    Ok(Config::new([7; 32], units))
+}
+
+/// The same blocks, of the same length.
+fn same_blocks(a: &BlockList, b: &BlockList) -> bool {
+    if a.blocks() != b.blocks() || a.block_length() != b.block_length() {
+        return false;
+    }
+    for block in 0..a.blocks() {
+        if a.held(block) != b.held(block) {
+            return false;
+        }
+    }
+    true
+}
+
+/// The same sense.
+fn same_sense(a: &Sense, b: &Sense) -> bool {
+    (a.key(), a.asc(), a.ascq()) == (b.key(), b.asc(), b.ascq())
+}
+
+/// The same state of an operation.
+fn same_state(a: &OpState, b: &OpState) -> bool {
+    match (a, b) {
+        (OpState::Running, OpState::Running)
+        | (OpState::Done, OpState::Done)
+        | (OpState::Terminated, OpState::Terminated) => true,
+        (OpState::Failed(a), OpState::Failed(b)) => same_sense(a, b),
+        _ => false,
+    }
+}
+
+/// The same state of a copy.
+fn same_copy_state(a: CopyState, b: CopyState) -> bool {
+    matches!(
+        (a, b),
+        (CopyState::Running, CopyState::Running)
+            | (CopyState::Done, CopyState::Done)
+            | (CopyState::Failed, CopyState::Failed)
+            | (CopyState::Terminated, CopyState::Terminated)
+    )
+}
+
+/// Whether two answers without blocks are the same.
+fn same_word(a: &Answer, b: &Answer) -> bool {
+    match (a, b) {
+        (Answer::Done, Answer::Done) | (Answer::Idle, Answer::Idle) => true,
+        (Answer::Made { serial: a }, Answer::Made { serial: b }) => a == b,
+        (Answer::Refused(a), Answer::Refused(b)) => same_sense(a, b),
+        (Answer::Progress { state: a, count: m }, Answer::Progress { state: b, count: n }) => {
+            m == n && same_state(a, b)
+        }
+        _ => false,
+    }
+}
+
+/// Whether two reports, of an operation or of a copy, are the same.
+fn same_report(a: &Answer, b: &Answer) -> bool {
+    match (a, b) {
+        (Answer::Report(a), Answer::Report(b)) => {
+            (a.populate, a.background, a.count, a.serial)
+                == (b.populate, b.background, b.count, b.serial)
+                && same_state(&a.state, &b.state)
+        }
+        (Answer::Copy(a), Answer::Copy(b)) => {
+            (a.segments, a.bytes) == (b.segments, b.bytes) && same_copy_state(a.state, b.state)
+        }
+        _ => false,
+    }
+}
+
+/// Whether two answers are the same.
+fn same(a: &Answer, b: &Answer) -> bool {
+    match (a, b) {
+        (Answer::Blocks(a), Answer::Blocks(b)) | (Answer::Rod(a), Answer::Rod(b)) => {
+            same_blocks(a, b)
+        }
+        (Answer::Status(a), Answer::Status(b)) => {
+            a.len() == b.len()
+                && a.as_slice().iter().zip(b.as_slice()).all(|(a, b)| {
+                    (a.lba, a.count, a.mapped) == (b.lba, b.count, b.mapped)
+                })
+        }
+        _ => same_word(a, b) || same_report(a, b),
+    }
+}
+
+/// Whether the act was answered so.
+fn is_answered_so(told: Result<Answer, ActRefused>, plain: &Answer) -> bool {
+    match told {
+        Ok(answer) => same(&answer, plain),
+        Err(ActRefused::Full | ActRefused::OutOfMemory) => false,
+    }
+}
+
+/// Asks a unit for an act, and says whether it is answered as by the plain model, which goes through all that was asked
+/// before. An act beyond its limits is not asked.
+fn is_as_plain(
+    alloc: Global,
+    config: &Config,
+    unit: &mut Unit,
+    asked: &mut History,
+    next: Entry,
+) -> Result<bool, Fail>
+    requires config { unit.old.config ≡ config.now }
+    requires unit { unit.old.unit ≡ next.unit }
+    requires configured { next.unit < length config.now.units }
+    requires within { AreWithin config.now next.unit asked.old.entries }
+    requires may { may_ask next.unit next.actor next.act ≡ true }
+    ensures config { unit.new.config ≡ unit.old.config }
+    ensures unit { unit.new.unit ≡ unit.old.unit }
+    ensures within { OnOk result (AreWithin config.now next.unit asked.new.entries) }
+{
+    if !within_limits(config, next.unit, &next.act) {
+        return Ok(true);
+    }
+    let plain = plain_answer(
+        alloc,
+        config,
+        asked,
+        next.unit,
+        next.actor,
+        next.moment,
+        &next.act,
+    )?;
+    asked.reserve(1)?;
+    asked.append(next.copy(alloc)?);
+    let told = unit.act(next.actor, next.seq, 0, next.moment, next.act);
+    Ok(is_answered_so(told, &plain))
+}
+
+/// An entry, of which neither stamp nor place matters to what is answered.
+fn entry(unit: u16, actor: Actor, moment: u64, act: Act) -> Entry
+    ensures { result ≡ record { stamp = 0; unit = unit; actor = actor; seq = 0; moment = moment; act = act } }
+{
+    Entry {
+        stamp: 0,
+        unit,
+        actor,
+        seq: 0,
+        moment,
+        act,
+    }
+}
+
+/// What is asked next: a pump's act, or one of two initiators.
+fn next_entry(
+    alloc: Global,
+    config: &Config,
+    number: u16,
+    style: Style,
+    numbers: &mut Numbers,
+) -> Result<Entry, Fail>
+    requires { number < length config.now.units }
+    ensures unit { IfOk result (λ e. e.unit ≡ number) }
+    ensures may { IfOk result (λ e. may_ask number e.actor e.act ≡ true) }
+{
+    let moment = u64::from(numbers.below(60));
+    if numbers.below(10) == 0 {
+        return Ok(entry(number, Actor::Pump(number), moment, Act::Pump));
+    }
+    let actor = Actor::Nexus(numbers.below(2));
+    let act = random_act(alloc, config, number, style, numbers)?;
+    Ok(entry(number, actor, moment, act))
+}
+
+/// Plays a random history on a unit. Whether each answer was that of the plain model.
+fn history_is_as_plain(
+    alloc: Global,
+    config: &Config,
+    number: u16,
+    style: Style,
+    numbers: &mut Numbers,
+) -> Result<bool, Fail>
+    requires { number < length config.now.units }
+{
+    let mut unit = Unit::new(alloc, config, number)?;
+    let mut asked = History::empty(alloc);
+    for _ in 0..ACTS {
+        let next = next_entry(alloc, config, number, style, numbers)?;
+        if !is_as_plain(alloc, config, &mut unit, &mut asked, next)? {
+            return Ok(false);
+        }
+    }
+    Ok(true)
+}
+
+#[test]
+fn random_histories(rt: HostRuntime) -> Result<(), Fail> {
+    let alloc = rt.alloc();
+    let config = machine(alloc, 40, 25)?;
+    for seed in 0..4 {
+        let mut numbers = Numbers::new(seed);
+        for number in 0..2 {
+            let same = history_is_as_plain(alloc, &config, number, Style::Mixed, &mut numbers)?;
+            assert!(rt; same, "unit {number} of seed {seed}");
+        }
+    }
+    Ok(())
+}
+
+/// Operations of several pieces, some of which the quota stops.
+#[test]
+fn histories_of_long_operations(rt: HostRuntime) -> Result<(), Fail> {
+    let alloc = rt.alloc();
+    let config = machine(alloc, 1100, 3)?;
+    for seed in 0..4 {
+        let mut numbers = Numbers::new(seed);
+        let same = history_is_as_plain(alloc, &config, 0, Style::Long, &mut numbers)?;
+        assert!(rt; same, "seed {seed}");
+    }
+    Ok(())
+}
