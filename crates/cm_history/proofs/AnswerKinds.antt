@@ -15,7 +15,7 @@ use Rattle.cm_history.specs.Tokens.{Token, Fate, Live, Expired, Evicted, Deleted
 use Rattle.cm_history.specs.Redeeming.{are_alike, redeemed, answer_by_fate, fate_at, named_token}
 use Rattle.lba_ranges.specs.Denoted.{row}
 use Rattle.cm_history.specs.declared.answer.OpState.{OpState}
-use Rattle.lba_ranges.specs.Status.{told_runs, runs}
+use Rattle.lba_ranges.specs.Status.{told_runs, map_runs}
 use Rattle.cm_history.specs.Blocks.{held, cut, mapped_with}
 use Rattle.scsi_sense.specs.Codes.{remote_token_usage_not_supported, token_corrupt, invalid_field_in_cdb, lba_out_of_range, space_allocation_failed, operation_in_progress, insufficient_resources}
 use Rattle.cm_history.specs.Operations.{Operation, OfToken, OfCopy, has_key, kept, would_serve, next_piece, count}

@@ -12,8 +12,7 @@ use Rattle.lba_ranges.proofs.WritingLemmas.{mapped-same}
 use Rattle.cm_history.specs.Blocks.{cut, mapped_with}
 use Rattle.cm_history.specs.declared.answer.Answer.{Answer}
 use Rattle.scsi_sense.specs.Codes.{lba_out_of_range}
-use Rattle.cm_history.specs.Bounds.{told_runs, run_blocks}
-use Rattle.cm_history.specs.Status.{run_length, map_runs}
+use Rattle.lba_ranges.specs.Status.{told_runs, run_blocks, run_length, map_runs}
 use Rattle.cm_history.specs.Answers.{answer_read, answer_write, answer_status, put_at}
 use Rattle.cm_history.proofs.Imaging.{now_of}
 use Rattle.cm_history.proofs.Finding.{map-append}

@@ -8,7 +8,7 @@ use Rattle.lba_ranges.specs.Denoted.{row, blocks_of, is_within}
 use Rattle.cm_base.specs.Configuration.{Configuration}
 use Rattle.cm_base.specs.declared.config.UnitConfig.{UnitConfig}
 use Rattle.cm_history.specs.Bounds.{running_operations}
-use Rattle.lba_ranges.specs.Status.{told_runs, runs}
+use Rattle.lba_ranges.specs.Status.{told_runs, map_runs}
 use Rattle.cm_history.specs.declared.act.Act.{Act}
 use Rattle.cm_history.specs.declared.act.Actor.{Actor}
 use Rattle.cm_history.specs.declared.act.Entry.{Entry}

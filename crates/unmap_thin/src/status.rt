@@ -1,5 +1,5 @@
 ghost use Rattle.std.specs.Prelude.{◌≡◌, ◌-◌, ◌<◌, IfOk};
-ghost use Rattle.lba_ranges.specs.Status.{told_runs, runs, IsRun};
+ghost use Rattle.lba_ranges.specs.Status.{told_runs, map_runs, IsRun};
 
 use cm_base::OutOfMemory;
 use lba_ranges::{Blocks, MapRun, StatusList};

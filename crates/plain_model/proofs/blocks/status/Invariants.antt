@@ -1,6 +1,6 @@
 use Rattle.std.proofs.Common.{◌≡◌, ◌-◌, ◌≤◌, ◌++◌, length}
 use Rattle.cm_history.specs.Blocks.{held}
-use Rattle.lba_ranges.specs.Status.{runs}
+use Rattle.lba_ranges.specs.Status.{map_runs}
 use Rattle.plain_model.proofs.blocks.status.Given as goal
 
 abbrev pub invariant-loop-block : goal.invariant-loop-block

@@ -1,5 +1,5 @@
 use Rattle.std.proofs.Common.{◌≡◌, ◌-◌, ◌≤◌, ◌++◌, length}
-use Rattle.lba_ranges.specs.Status.{runs}
+use Rattle.lba_ranges.specs.Status.{map_runs}
 use Rattle.unmap_thin.proofs.status.runs.Given as goal
 
 abbrev pub invariant-loop-block : goal.invariant-loop-block
