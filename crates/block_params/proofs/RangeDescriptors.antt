@@ -1,7 +1,7 @@
 -- Range descriptors, one after the other
 use Rattle.std.proofs.Common.{◌≡◌, ℕ, zero, suc, ◌+◌, ◌*◌, List, [], ◌∷◌, ◌++◌, length, drop, refl, ap, ◌∙◌, arith}
 use Rattle.byteorder.specs.Endian.{big_from}
-use Rattle.cm_base.proofs.FieldLaws.{field-moved}
+use Rattle.cm_base.proofs.PublicLaws.{field-moved}
 use Rattle.lba_ranges.specs.declared.ranges.Range.{Range}
 use Rattle.block_params.specs.RangesRead.{ranges_in}
 

@@ -7,9 +7,9 @@ use Rattle.byteorder.specs.Endian.{big_from}
 use Rattle.std.specs.List.{slice_range}
 use Rattle.std.proofs.Math.Seq.{drop-append_seam, take-append_seam}
 use Rattle.cm_base.specs.Fields.{field, bit, flag, zeros}
-use Rattle.cm_base.proofs.FieldLaws.{field-moved, number-back}
+use Rattle.cm_base.proofs.PublicLaws.{field-moved, number-back}
 use Rattle.scsi_sense.specs.Faults.{unless, or_else}
-use Rattle.scsi_sense.proofs.FaultLaws.{unless-no_faults}
+use Rattle.scsi_sense.proofs.PublicLaws.{unless-no_faults}
 use Rattle.lba_ranges.specs.declared.ranges.Range.{Range}
 use Rattle.block_params.specs.declared.lists.PopulateList.{PopulateList}
 use Rattle.block_params.specs.declared.lists.WriteList.{WriteList}

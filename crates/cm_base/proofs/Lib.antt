@@ -2,3 +2,4 @@ pub mod Writes
 pub mod Windows
 pub mod Pushed
 pub mod FieldLaws
+pub mod PublicLaws

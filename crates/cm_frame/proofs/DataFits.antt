@@ -1,7 +1,7 @@
 -- The data of a frame that is there keeps its limit
 use Rattle.std.proofs.Common.{◌≡◌, ℕ, ◌+◌, ◌-◌, ◌<◌, ◌≤◌, List, length, take, drop, slice_index, ap, sym, subst, ◌∙◌, arith}
 use Rattle.cm_base.specs.Fields.{part}
-use Rattle.cm_base.proofs.FieldLaws.{bytes-from_places, bytes-part, length-part}
+use Rattle.cm_base.proofs.PublicLaws.{bytes-from_places, bytes-part, length-part}
 use Rattle.cm_frame.specs.Grammar.{data_limit, IsData}
 
 pub data-fits : (place count : ℕ) (bytes taken : List ℕ) → ((k : ℕ) → slice_index bytes k < 256) → place + count ≤ length bytes → count ≤ data_limit

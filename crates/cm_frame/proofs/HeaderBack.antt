@@ -11,7 +11,7 @@ use Rattle.byteorder.specs.Endian.{big_from, big_bytes}
 use Rattle.byteorder.specs.Numbers.{big_number-reads_back}
 use Rattle.cm_base.specs.Configuration.{IsUnit}
 use Rattle.cm_base.specs.Fields.{is_between}
-use Rattle.cm_base.proofs.FieldLaws.{number-back, field-moved}
+use Rattle.cm_base.proofs.PublicLaws.{number-back, field-moved}
 use Rattle.cm_frame.specs.Grammar.{unit_bytes, header_bytes, IsConfig}
 use Rattle.cm_frame.specs.Reading.{first_fault, unit_checks, unit_in, units_in, or_later, units_fault, units_told, config_in, judged_units, read_header}
 use Rattle.cm_frame.specs.Laws.{IsReadBack, NoneBegins}

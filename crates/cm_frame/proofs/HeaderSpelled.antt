@@ -10,7 +10,7 @@ use Rattle.byteorder.specs.Endian.{big_bytes}
 use Rattle.cm_base.specs.Configuration.{Configuration}
 use Rattle.cm_base.specs.declared.parsed.Parsed.TheVariants.{Whole}
 use Rattle.cm_base.specs.Fields.{byte, field, part, is_between, AreBytes}
-use Rattle.cm_base.proofs.FieldLaws.{below-bytes, bytes-part, field-spelled, length-part, parts-join}
+use Rattle.cm_base.proofs.PublicLaws.{below-bytes, bytes-part, field-spelled, length-part, parts-join}
 use Rattle.cm_frame.specs.Grammar.{header_text, unit_bytes, header_bytes, IsConfig}
 use Rattle.cm_frame.specs.Reading.{first_fault, unit_checks, unit_in, units_in, units_fault, units_told, config_in, judged_units, read_header}
 use Rattle.cm_frame.specs.Laws.{IsSpelledSo}

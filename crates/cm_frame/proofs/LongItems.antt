@@ -8,7 +8,7 @@ use Rattle.cm_frame.specs.declared.item.TraceItem.{TraceItem}
 use Rattle.cm_base.specs.declared.parsed.Parsed.{Parsed}
 use Rattle.cm_base.specs.declared.parsed.Parsed.TheVariants.{Whole, Short}
 use Rattle.cm_base.specs.Fields.{byte, field, part}
-use Rattle.cm_base.proofs.FieldLaws.{part-stays, field-stays, field-moved, byte-stays}
+use Rattle.cm_base.proofs.PublicLaws.{part-stays, field-stays, field-moved, byte-stays}
 use Rattle.cm_frame.specs.Grammar.{data_limit}
 use Rattle.cm_frame.specs.DataOut.{IsFront}
 use Rattle.cm_frame.specs.Reading.{read_request, begin_in, read_item, HasItem}

@@ -7,7 +7,7 @@ use Rattle.cm_frame.specs.declared.item.TraceItem.{TraceItem}
 use Rattle.cm_base.specs.declared.parsed.Parsed.{Parsed}
 use Rattle.cm_base.specs.declared.parsed.Parsed.TheVariants.{Whole, Short, Bad}
 use Rattle.byteorder.specs.Endian.{big_from, big_bytes}
-use Rattle.cm_base.proofs.FieldLaws.{number-back}
+use Rattle.cm_base.proofs.PublicLaws.{number-back}
 use Rattle.cm_frame.specs.Grammar.{data_limit, request_bytes, IsRequest, item_bytes, IsItem}
 use Rattle.cm_frame.specs.Reading.{read_request, begin_in, read_item}
 use Rattle.cm_frame.specs.Laws.{IsReadBack, NoneBegins}

@@ -9,7 +9,7 @@ use Rattle.cm_base.specs.declared.parsed.Parsed.TheVariants.{Whole}
 use Rattle.scsi_sense.specs.SenseBytes.{sense_bytes}
 use Rattle.byteorder.specs.Endian.{big_from, big_bytes}
 use Rattle.cm_base.specs.Fields.{byte, field, part}
-use Rattle.cm_base.proofs.FieldLaws.{part-stays, field-stays, byte-stays, number-back}
+use Rattle.cm_base.proofs.PublicLaws.{part-stays, field-stays, byte-stays, number-back}
 use Rattle.cm_frame.specs.Grammar.{data_limit, reply_bytes, IsSense, IsReply}
 use Rattle.cm_frame.specs.Reading.{is_status, sense_in, is_sense, read_check, read_good, read_reply}
 use Rattle.cm_frame.specs.Laws.{IsJudged, IsReadBack, NoneBegins, StaysJudged}

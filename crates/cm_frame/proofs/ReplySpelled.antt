@@ -7,7 +7,7 @@ use Rattle.byteorder.specs.Endian.{big_bytes}
 use Rattle.scsi_sense.specs.SenseBytes.{sense_bytes}
 use Rattle.cm_base.specs.declared.parsed.Parsed.TheVariants.{Whole}
 use Rattle.cm_base.specs.Fields.{byte, field, part, AreBytes}
-use Rattle.cm_base.proofs.FieldLaws.{below-bytes, bytes-part, field-spelled, length-part, parts-join}
+use Rattle.cm_base.proofs.PublicLaws.{below-bytes, bytes-part, field-spelled, length-part, parts-join}
 use Rattle.cm_frame.specs.declared.frame.Reply.{Reply}
 use Rattle.cm_frame.specs.Grammar.{data_limit, reply_bytes, IsReply}
 use Rattle.cm_frame.specs.Reading.{is_status, sense_in, is_sense, read_check, read_good, read_reply}

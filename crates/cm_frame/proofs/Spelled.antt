@@ -8,7 +8,7 @@ use Rattle.byteorder.specs.Endian.{big_from, big_bytes}
 use Rattle.cm_base.specs.declared.parsed.Parsed.{Parsed}
 use Rattle.cm_base.specs.declared.parsed.Parsed.TheVariants.{Whole, Short, Bad}
 use Rattle.cm_base.specs.Fields.{byte, field, part, AreBytes}
-use Rattle.cm_base.proofs.FieldLaws.{bytes-part, field-fits, field-spelled, length-part, parts-join}
+use Rattle.cm_base.proofs.PublicLaws.{bytes-part, field-fits, field-spelled, length-part, parts-join}
 use Rattle.cm_frame.specs.declared.frame.Request.{Request}
 use Rattle.cm_frame.specs.declared.item.TraceItem.{TraceItem}
 use Rattle.cm_frame.specs.Grammar.{data_limit, request_bytes, IsRequest, item_bytes, IsItem}

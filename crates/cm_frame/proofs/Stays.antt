@@ -7,7 +7,7 @@ use Rattle.cm_frame.specs.declared.frame.Request.{Request}
 use Rattle.cm_base.specs.declared.parsed.Parsed.{Parsed}
 use Rattle.cm_base.specs.declared.parsed.Parsed.TheVariants.{Whole, Short, Bad}
 use Rattle.cm_base.specs.Fields.{byte, field, part, is_between}
-use Rattle.cm_base.proofs.FieldLaws.{part-stays, field-stays, byte-stays}
+use Rattle.cm_base.proofs.PublicLaws.{part-stays, field-stays, byte-stays}
 use Rattle.cm_frame.specs.Grammar.{data_limit, header_text}
 use Rattle.cm_frame.specs.Reading.{first_fault, unit_checks, unit_in, units_in, or_later, units_fault, units_told, config_in, judged_units, read_header, read_request, begin_in, read_run, read_pump, read_item}
 use Rattle.cm_frame.specs.Laws.{IsJudged, StaysJudged}

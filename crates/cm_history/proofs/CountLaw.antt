@@ -1,4 +1,6 @@
 -- What an operation has written, and what its servers write
+use Rattle.cm_history.specs.Laws.{CountPromise}
+use Rattle.cm_history.specs.Legal.{IsLegal}
 use Rattle.std.proofs.Common.{◌≡◌, ℕ, zero, suc, ◌+◌, ◌-◌, ◌<◌, ◌≤◌, List, [], ◌∷◌, ◌++◌, length, take, drop, refl, ap, sym, ◌∙◌, subst, arith, true, false, Bool, inl, inr}
 use Rattle.std.specs.Prelude.{Option, Some, None, ◌⊎◌, ◌==◌, ◌&&◌, ◌||◌, not, if◌then◌else◌, slice_get, fold, map, option_map}
 use Rattle.std.proofs.lemmas.Bool.{cases_eq}
@@ -18,10 +20,11 @@ use Rattle.cm_history.specs.Operations.{OfToken, has_key, kept, count_of, form_o
 use Rattle.cm_history.specs.Answers.{deed, writings, answer_report}
 use Rattle.cm_history.proofs.Keys.{record-found}
 use Rattle.cm_history.specs.History.{on, one_more, past_of}
-use Rattle.cm_history.specs.Laws.{past_at, place_on, deed_at, IsStarted, IsPiece, CountLaw}
+use Rattle.cm_history.specs.Laws.{past_at, place_on, deed_at, IsStarted, IsPiece}
 use Rattle.cm_history.proofs.Lists.{contains-in, In, Each, Each-by, Each-in, Each-all, Each-take, Each-drop, In-map, In-append, In-append_right, In-filter, In-contains, find-in, find-some, Found, length-take-short, take-next, take-end}
 use Rattle.cm_history.proofs.Counts.{IsPast, IsBegun, begun, apart, same_place, made-after, served_writings, served_wrote}
 use Rattle.cm_history.proofs.Made.{by_last, past_of-mine, past_of-other}
+use Rattle.lba_ranges.proofs.PublicLaws.{after-unwritten}
 
 pub past-is : (config : Configuration) (unit : ℕ) (entries : List Entry) → IsPast config unit (past_of config unit entries)
 past-is config unit = by_last (λ h. IsPast config unit (past_of config unit h)) tt step
@@ -111,14 +114,6 @@ or_false : (a b : Bool) → (a || b) ≡ false → (a ≡ false) × (b ≡ false
 or_false true b e = cc
 or_false false b e = (refl, e)
 
-pub after-unwritten : (ws : List Writing) (b : ℕ) (was : Held) → is_written ws b ≡ false → after ws b was ≡ was
-after-unwritten [] b was e = refl
-after-unwritten (w ∷ ws) b was e =
-    let both = or_false (w.block == b) (is_written ws b) e in
-    let first : w.block == b ≡ false = both.0 in
-    let kept : (if w.block == b then w.held else was) ≡ was = rw first refl in
-    ap (after ws b) kept ∙ after-unwritten ws b was both.1
-
 -- an element of a list is in it
 in-self : (bs : List ℕ) → Each (λ b. In b bs) bs
 in-self bs = Each-by (λ b. In b bs) bs (λ b i. i)
@@ -188,17 +183,19 @@ piece_law config entries start place e s id background ranges rod st low at same
     good : (length (deed_at config entries place s).wrote ≤ piece_blocks) × Each (λ (w : Writing). In w.block (blocks_of ranges)) (deed_at config entries place s).wrote
     good = piece-wrote config s.unit (past_at config s.unit entries place) s found.0 id background ranges rod found.1 (ap (λ (d : Deed). d.entry.act) found.2 ∙ st.starts)
 
-eq_test : (a b : ℕ) → a ≡ b → (a == b) ≡ true
+pub eq_test : (a b : ℕ) → a ≡ b → (a == b) ≡ true
 eq_test a b e = grind (arith, nat_tests)
 
-eq_is : (a b : ℕ) → (a == b) ≡ true → a ≡ b
+pub eq_is : (a b : ℕ) → (a == b) ≡ true → a ≡ b
 eq_is a b e = grind (arith, nat_tests)
 
-same_actor-self : (a : Actor) → same_actor a a ≡ true
+pub same_actor-self : (a : Actor) → same_actor a a ≡ true
 same_actor-self (Actor.Nexus n) = eq_test n n refl
 same_actor-self (Actor.Pump n) = eq_test n n refl
 
-pub count_law : CountLaw
+pub count_law : (config : Configuration) (entries : List Entry) (start until : ℕ) (e : Entry) (id : ℕ) (background : Bool) (ranges : List Range) (rod : HeldBlocks)
+    → IsLegal config entries → IsStarted config entries start e id background ranges rod → start < until → until ≤ length entries
+    → CountPromise config entries start until e id ranges
 count_law config entries start until e id background ranges rod legal s low high = record {
   operation = found.item;
   known = found.is;

@@ -1,4 +1,6 @@
 -- The image of a unit says all that its answers, and its later images, depend on
+use Rattle.cm_history.specs.Image.{FoldPromise}
+use Rattle.cm_history.specs.Legal.{IsLegal}
 use Rattle.std.proofs.Common.{◌≡◌, ℕ, ◌^◌, List, [], ◌∷◌, ◌++◌, length, refl, ap, sym, ◌∙◌, arith, true, false, Bool, inl, inr}
 use Rattle.std.specs.Prelude.{Option, Some, None, ◌⊎◌, ◌&&◌, not, map, find, max, nat_le, option_map, if◌then◌else◌}
 use Rattle.std.proofs.lemmas.Bool.{cases_eq, or_left, or_right}
@@ -21,7 +23,7 @@ use Rattle.cm_history.specs.Redeeming.{named_token}
 use Rattle.cm_history.specs.Operations.{Operation, OfToken, OfCopy, has_key, is_making, is_foreground, operations, is_running, running, fits, would_serve, made_operation, keep, kept, operation_after}
 use Rattle.cm_history.specs.Answers.{answer_after, answer_populate, answer_end, answer_report, answer_recall, done_if, is_busy, deed, writings, wrote_of}
 use Rattle.cm_history.specs.History.{past_of, answer}
-use Rattle.cm_history.specs.Image.{image, token_image, operation_image, OperationImage, TokenImage, SameImage, FoldLaw}
+use Rattle.cm_history.specs.Image.{image, token_image, operation_image, OperationImage, TokenImage, SameImage}
 use Rattle.cm_history.proofs.Imaging.{redeem_by, progress_of, piece_by, now_of, token_by, made_by, tokens_by, end_by, done_by, report_by, recall_by, answer_by, writings_by, kept_by, keep_by, new_by, is_served_by, moved_by, change_first, with_answer, next_image}
 use Rattle.cm_history.proofs.Lists.{Each-in, In-filter, find-in}
 use Rattle.cm_history.proofs.Finding.{find-passes, map-append}
@@ -224,7 +226,8 @@ images-again config a b unit e same = go (cases_eq e.unit unit)
     go (inr other) =
         ap (image (unit_of config unit)) (past_of-other config unit a e other) ∙ same ∙ sym (ap (image (unit_of config unit)) (past_of-other config unit b e other))
 
-pub fold_law : FoldLaw
+pub fold_law : (config : Configuration) (a b : List Entry) (unit : ℕ) (actor : Actor) (now : ℕ) (act : Act)
+    → IsLegal config a → IsLegal config b → SameImage config unit a b → FoldPromise config a b unit actor now act
 fold_law config a b unit actor now act legal-a legal-b same = record {
   alike = answers-alike config a b unit actor now act same;
   again = λ e more-a more-b. images-again config a b unit e same;

@@ -8,7 +8,7 @@ use Rattle.cm_base.specs.declared.config.UnitConfig.{UnitConfig}
 use Rattle.lba_ranges.specs.declared.ranges.Range.{Range}
 use Rattle.lba_ranges.specs.Denoted.{row, blocks_of, is_within}
 use Rattle.lba_ranges.specs.Writings.{Held, Writing, after}
-use Rattle.lba_ranges.proofs.WritingLemmas.{mapped-same}
+use Rattle.lba_ranges.proofs.PublicLaws.{mapped-same}
 use Rattle.cm_history.specs.Blocks.{cut, mapped_with}
 use Rattle.cm_history.specs.declared.answer.Answer.{Answer}
 use Rattle.scsi_sense.specs.Codes.{lba_out_of_range}

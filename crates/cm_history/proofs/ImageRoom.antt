@@ -23,7 +23,7 @@ use Rattle.cm_history.specs.Blocks.{held, mapped}
 use Rattle.cm_history.specs.Tokens.{Token, tokens, is_live}
 use Rattle.cm_history.specs.Image.{Image, OperationImage, TokenImage, image, operation_image, token_image, trim, trimmed}
 use Rattle.lba_ranges.specs.Writings.{mapped_below}
-use Rattle.lba_ranges.proofs.WritingLemmas.{mapped-same}
+use Rattle.lba_ranges.proofs.PublicLaws.{mapped-same}
 use Rattle.cm_history.proofs.Imaging.{now_of, runs_by, served_by, busy_by, answer_by, next_image}
 use Rattle.cm_history.specs.Asked.{IsAsked, AllAsked}
 use Rattle.cm_history.specs.Folding.{StandsFor, live_in}

@@ -15,6 +15,7 @@ use Rattle.cm_history.specs.Answers.{deed, answer_after, is_busy}
 use Rattle.cm_history.proofs.Lists.{In, Each, Each-in, Each-by, Each-map, Each-append, In-filter, find-some, filter-passes, any-none, in-filter}
 use Rattle.cm_history.proofs.Counts.{IsPast, made-after}
 use Rattle.cm_history.proofs.Records.{running_kept, with_room_in, and_first}
+use Rattle.cm_history.proofs.Records.{without_first_in as without_in}
 
 -- no later record has the key of an earlier one
 abbrev pub KeysApart : List Operation → Type 0
@@ -43,15 +44,6 @@ apart-filter p (o ∷ os) a = go (p o) (apart-filter p os a.1)
     go : (t : Bool) → KeysApart (filter p os) → KeysApart (cond t (o ∷ filter p os) (filter p os))
     go true rest = (Each-filter _ p os a.0, rest)
     go false rest = rest
-
-without_in : (os : List Operation) (o : Operation) → In o (without_first_ended os) → In o os
-without_in [] o i = i
-without_in (x ∷ os) o i = go (has_ended x) i (λ j. without_in os o j)
-  where
-    go : (t : Bool) → In o (if t then os else x ∷ without_first_ended os) → (In o (without_first_ended os) → In o os) → In o (x ∷ os)
-    go true j later = inr j
-    go false (inl e) later = inl e
-    go false (inr j) later = inr (later j)
 
 apart-without : (os : List Operation) → KeysApart os → KeysApart (without_first_ended os)
 apart-without [] a = tt

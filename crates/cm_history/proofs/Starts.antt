@@ -8,7 +8,7 @@ use Rattle.lba_ranges.specs.declared.ranges.Range.{Range}
 use Rattle.lba_ranges.specs.Denoted.{blocks_of, total, is_overlapping}
 use Rattle.lba_ranges.specs.HeldBlocks.{HeldBlocks}
 use Rattle.lba_ranges.specs.Writings.{Held, paired}
-use Rattle.lba_ranges.proofs.Rows.{length-blocks_of}
+use Rattle.lba_ranges.proofs.PublicLaws.{length-blocks_of}
 use Rattle.cm_history.specs.declared.act.Act.{Act}
 use Rattle.cm_history.specs.Limits.{within_limits, fits_unit}
 use Rattle.cm_history.specs.Operations.{list_of}

@@ -1,4 +1,6 @@
 -- A redeemed token shows the blocks as they stood at its one Populate
+use Rattle.cm_history.specs.Laws.{IsRedeemed}
+use Rattle.cm_history.specs.Legal.{IsLegal}
 use Rattle.std.proofs.Common.{◌≡◌, ℕ, zero, suc, ◌+◌, ◌<◌, ◌≤◌, List, [], ◌∷◌, ◌++◌, length, take, refl, ap, sym, ◌∙◌, subst, arith, true, false, Bool, inl, inr, length-append, max}
 use Rattle.std.specs.Prelude.{Option, Some, None, ◌⊎◌, not, if◌then◌else◌, slice_get, nat_le, ◌^◌, map}
 use Rattle.std.specs.Str.{bytes_eq}
@@ -22,7 +24,7 @@ use Rattle.cm_history.specs.Redeeming.{redeemed, named_token, are_alike, fate_at
 use Rattle.cm_history.specs.Operations.{OfToken}
 use Rattle.cm_history.specs.Answers.{deed, answer_after, answer_populate, is_busy}
 use Rattle.cm_history.specs.History.{past_of}
-use Rattle.cm_history.specs.Laws.{past_at, MadeToken, TokenPromise, TokenLaw}
+use Rattle.cm_history.specs.Laws.{past_at, MadeToken, TokenPromise}
 use Rattle.cm_history.proofs.Lists.{Each-in, get-in, take-next}
 use Rattle.cm_history.proofs.Made.{IsMade, all-made, all-numbered, serial-at, IsEntry, has_entry, by_last, past_of-mine, past_of-other, length-map, take-front, take-whole}
 
@@ -248,7 +250,8 @@ token-entry config entries unit place serial t known = (is.place, low, made_toke
       answered = subst (λ u. answer_after config u (past_at config u entries is.place) is.entry.actor is.entry.moment is.entry.act ≡ Answer.Made serial) (sym is.on_unit) answered;
     }
 
-pub token_law : TokenLaw
+pub token_law : (config : Configuration) (entries : List Entry) (place : ℕ) (e : Entry) (text : List ℕ) (target : ℕ) (list : HeldBlocks)
+    → IsLegal config entries → IsRedeemed config entries place e text target list → TokenPromise config entries place e text list
 token_law config entries place e text target list legal r =
     go (redeemed-rod config e.unit (max e.moment (moment past)) text target (named_token past text) list answer_is)
   where

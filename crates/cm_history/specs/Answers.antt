@@ -28,23 +28,23 @@ use Rattle.cm_history.specs.Operations.{Operation, Form, OfToken, OfCopy, has_ke
 abbrev pub put_at : ℕ → List Held → List Writing
 put_at lba items = paired (row lba (length items)) items
 
--- Up to `answer_status`, `now` is what the blocks hold.
+-- Up to `answer_status`, `holds` is what the blocks hold.
 abbrev pub answer_read : UnitConfig → (ℕ → Held) → ℕ → ℕ → Answer
-answer_read unit now lba count =
-    if nat_le (lba + count) unit.blocks then Answer.Blocks (cut unit now (row lba count)) else Answer.Refused lba_out_of_range
+answer_read unit holds lba count =
+    if nat_le (lba + count) unit.blocks then Answer.Blocks (cut unit holds (row lba count)) else Answer.Refused lba_out_of_range
 
 abbrev pub answer_write : UnitConfig → (ℕ → Held) → ℕ → List Held → Answer
-answer_write unit now lba items =
+answer_write unit holds lba items =
     if nat_lt unit.blocks (lba + length items) then Answer.Refused lba_out_of_range else
-    if nat_lt unit.quota (mapped_with unit now (put_at lba items)) then Answer.Refused space_allocation_failed else
+    if nat_lt unit.quota (mapped_with unit holds (put_at lba items)) then Answer.Refused space_allocation_failed else
     Answer.Done
 
 abbrev pub answer_unmap : UnitConfig → List Range → Answer
 answer_unmap unit ranges = if is_within unit.blocks ranges then Answer.Done else Answer.Refused lba_out_of_range
 
 abbrev pub answer_status : UnitConfig → (ℕ → Held) → ℕ → Answer
-answer_status unit now lba =
-    if nat_lt lba unit.blocks then Answer.Status (map_runs now told_runs lba (unit.blocks - lba)) else Answer.Refused lba_out_of_range
+answer_status unit holds lba =
+    if nat_lt lba unit.blocks then Answer.Status (map_runs holds told_runs lba (unit.blocks - lba)) else Answer.Refused lba_out_of_range
 
 -- an operation of the key runs
 abbrev pub is_busy : List Deed → Actor → Form → ℕ → Bool

@@ -92,8 +92,3 @@ SameImage config unit a b = image (unit_of config unit) (past_of config unit a) 
 pub record FoldPromise (config : Configuration) (a b : List Entry) (unit : ℕ) (actor : Actor) (now : ℕ) (act : Act) : Type 0 where
   pub alike : answer config a unit actor now act ≡ answer config b unit actor now act
   pub again : (e : Entry) → IsLegal config (a ++ e ∷ []) → IsLegal config (b ++ e ∷ []) → SameImage config unit (a ++ e ∷ []) (b ++ e ∷ [])
-
-abbrev pub FoldLaw : Type 0
-FoldLaw =
-    (config : Configuration) (a b : List Entry) (unit : ℕ) (actor : Actor) (now : ℕ) (act : Act)
-    → IsLegal config a → IsLegal config b → SameImage config unit a b → FoldPromise config a b unit actor now act

@@ -12,11 +12,9 @@ pub mod Forms
 pub mod Limits
 pub mod Room
 pub mod Legal
-pub mod Needed
 pub mod Laws
 pub mod Refusing
 pub mod Completeness
-pub mod Merged
 pub mod Image
 pub mod Asked
 pub mod Folding

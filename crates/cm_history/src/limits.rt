@@ -1,7 +1,8 @@
-ghost use Rattle.std.specs.Prelude.{◌≡◌, ◌<◌, ◌&&◌, not, nat_le, length};
+ghost use Rattle.std.specs.Prelude.{◌≡◌, ◌<◌, ◌≤◌, ◌&&◌, not, nat_le, length};
 ghost use Rattle.lba_ranges.specs.Denoted.{is_overlapping, total};
 ghost use Rattle.rod_token.specs.TokenText.{is_named};
 ghost use Rattle.cm_history.specs.Limits.{within_limits, fits_unit};
+ghost use Rattle.cm_history.specs.Room.{pieces};
 
 use crate::act::{Act, CopyState};
 use cm_base::Config;
@@ -14,8 +15,17 @@ const MAX_TRANSFER: u64 = 2048;
 /// Blocks of a token, and of an operation that writes one.
 const MAX_TOKEN: u64 = 1_048_576;
 
-/// Blocks that one Put writes.
-const MAX_PIECE: u64 = 1024;
+/// Blocks of one piece of an operation, which an Advance, a Pump or a Put writes (own profile).
+pub const PIECE_BLOCKS: u64 = 1024;
+
+/// How many pieces so many blocks are written in.
+pub fn pieces(blocks: u64) -> u64
+    requires { blocks ≤ 1_048_576 }
+    ensures pieces { result ≡ pieces blocks }
+    ensures few { result ≤ 1024 }
+{
+    (blocks + (PIECE_BLOCKS - 1)) / PIECE_BLOCKS
+}
 
 /// The text has the form of a token that this unit made.
 fn is_named(unit: u16, text: &[u8; 512]) -> bool
@@ -72,7 +82,7 @@ pub fn within_limits(config: &Config, unit: u16, act: &Act) -> bool
                 && fits_unit(config, unit, rod)
         }
         Act::Capture { lba: _, count } => *count <= 65_535,
-        Act::Put { lba: _, list } => list.blocks() <= MAX_PIECE && fits_unit(config, unit, list),
+        Act::Put { lba: _, list } => list.blocks() <= PIECE_BLOCKS && fits_unit(config, unit, list),
         Act::Close { id: _, result } => !matches!(&result.state, CopyState::Running),
         _ => true,
     }

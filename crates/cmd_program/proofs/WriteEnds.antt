@@ -11,7 +11,7 @@ use Rattle.lba_ranges.specs.declared.ranges.Range.{Range}
 use Rattle.lba_ranges.specs.Denoted.{blocks_of, is_within}
 use Rattle.lba_ranges.specs.HeldBlocks.{HeldBlocks}
 use Rattle.lba_ranges.specs.Writings.{Held, paired}
-use Rattle.lba_ranges.proofs.Rows.{length-blocks_of}
+use Rattle.lba_ranges.proofs.PublicLaws.{length-blocks_of}
 use Rattle.scsi_sense.specs.SenseCode.{SenseCode}
 use Rattle.scsi_sense.specs.Codes.{logical_unit_not_supported, invalid_field_in_parameter_list, token_unknown, space_allocation_failed, operation_in_progress, lba_out_of_range, insufficient_resources}
 use Rattle.scsi_cdb.specs.declared.cdb.Cdb.{Cdb}
@@ -32,11 +32,7 @@ use Rattle.cm_history.specs.Answers.{deed, answer_after, is_busy, is_crowded}
 use Rattle.cm_history.specs.History.{past_of, answer}
 use Rattle.cm_history.specs.Forms.{HasKind}
 use Rattle.cm_history.specs.Completeness.{state_after}
-use Rattle.cm_history.proofs.AnswerKinds.{answer-kind}
-use Rattle.cm_history.proofs.CountLaw.{past-is}
-use Rattle.cm_history.proofs.Made.{past_of-mine, past_of-other}
-use Rattle.cm_history.proofs.WritesOn.{actor-self, more_of}
-use Rattle.cm_history.proofs.WritesEnd.{Follows, follows-more, follows-started, follows-answer}
+use Rattle.cm_history.proofs.PublicLaws.{answer-kind, past-is, past_of-mine, past_of-other, more_of, same_actor-self as actor-self, Follows, follows-more, follows-started, follows-answer, no-failure as not-failed, length-paired}
 use Rattle.cmd_program.specs.declared.step.Outcome.{Outcome}
 use Rattle.cmd_program.specs.declared.step.Step.{Step}
 use Rattle.cmd_program.specs.Stepping.{gave_up}
@@ -153,15 +149,6 @@ delete-ends config nexus true TokenKind.Zero h = done-ends config nexus h
 delete-ends config nexus false kind h = done-ends config nexus h
 
 -- ---- from the Start on
-
-length-paired : (bs : List ℕ) (xs : List Held) → length bs ≡ length xs → length (paired bs xs) ≡ length xs
-length-paired [] xs e = e
-length-paired (b ∷ bs) [] e = refl
-length-paired (b ∷ bs) (x ∷ xs) e = let rest : length (paired bs xs) ≡ length xs = length-paired bs xs (omega (arith, e)) in omega (arith, rest)
-
-not-failed : (t : Bool) (n : ℕ) → is_failure (Answer.Progress (if t then OpState.Done else OpState.Running) n) ≡ false
-not-failed true n = refl
-not-failed false n = refl
 
 not-stop : (t : Bool) (n : ℕ) → is_stop (Outcome.Answered (Answer.Progress (if t then OpState.Done else OpState.Running) n)) ≡ false
 not-stop true n = refl

@@ -29,7 +29,7 @@ use Rattle.cm_history.specs.Operations.{OfToken}
 use Rattle.cm_history.specs.Answers.{is_busy, is_crowded}
 use Rattle.cm_history.specs.History.{past_of, answer}
 use Rattle.cm_history.specs.Forms.{HasKind}
-use Rattle.cm_history.proofs.AnswerKinds.{answer-kind}
+use Rattle.cm_history.proofs.PublicLaws.{answer-kind}
 use Rattle.cmd_program.specs.declared.step.Outcome.{Outcome}
 use Rattle.cmd_program.specs.declared.step.Step.{Step}
 use Rattle.cmd_program.specs.Stepping.{gave_up}

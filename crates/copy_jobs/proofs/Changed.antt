@@ -7,7 +7,8 @@ use Rattle.copy_jobs.specs.declared.job.Job.{Job}
 use Rattle.copy_jobs.specs.declared.job.Work.{Work}
 use Rattle.copy_jobs.specs.Jobs.{has_key, is_running, running, reserved, reserved_for}
 use Rattle.copy_jobs.specs.Changes.{change, with_work}
-use Rattle.copy_jobs.specs.Tables.{KeysApart, IsJob, AllJobs}
+use Rattle.copy_jobs.specs.Tables.{KeysApart}
+use Rattle.copy_jobs.specs.inner.Tables.{IsJob, AllJobs}
 use Rattle.copy_jobs.proofs.Counts.{one_if, running-more, reserved-more}
 
 -- the change is a write at the job's place

@@ -9,7 +9,7 @@ use Rattle.copy_jobs.specs.declared.job.Job.{Job}
 use Rattle.copy_jobs.specs.declared.job.Work.{Work}
 use Rattle.copy_jobs.specs.declared.job.Work.TheVariants.{Populated, Writing, Copying}
 use Rattle.copy_jobs.specs.Jobs.{is_running, is_running_work, running, reserved, reserved_for}
-use Rattle.copy_jobs.specs.Tables.{IsWork, AllJobs}
+use Rattle.copy_jobs.specs.inner.Tables.{IsWork, AllJobs}
 
 -- 1 for a job that runs
 abbrev pub one_if : Bool → ℕ

@@ -6,12 +6,12 @@ use Rattle.std.proofs.lemmas.List.{take_min}
 use Rattle.lba_ranges.specs.Denoted.{blocks_of, total, has_repeat, is_within}
 use Rattle.lba_ranges.specs.HeldBlocks.{HeldBlocks}
 use Rattle.lba_ranges.specs.Writings.{Held}
-use Rattle.lba_ranges.proofs.Rows.{length-blocks_of}
+use Rattle.lba_ranges.proofs.PublicLaws.{length-blocks_of}
 use Rattle.cm_history.specs.Bounds.{piece_blocks}
 use Rattle.copy_jobs.specs.declared.job.WriteJob.{WriteJob}
 use Rattle.copy_jobs.specs.declared.piece.NextPiece.{NextPiece}
 use Rattle.copy_jobs.specs.Pieces.{IsPiece}
-use Rattle.copy_jobs.specs.Tables.{IsWriteJob}
+use Rattle.copy_jobs.specs.inner.Tables.{IsWriteJob}
 use Rattle.copy_jobs.proofs.Lists.{or_first, or_later, any-take}
 
 pub repeat-take : (n : ℕ) (xs : List ℕ) → has_repeat xs ≡ false → has_repeat (take n xs) ≡ false

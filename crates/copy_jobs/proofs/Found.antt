@@ -3,7 +3,7 @@ use Rattle.std.proofs.Common.{◌≡◌, ◌<◌, List, [], ◌∷◌, length, r
 use Rattle.std.specs.Prelude.{◌||◌, Some, find, cond, get_or}
 use Rattle.std.specs.List.{list_any, position_or_len}
 use Rattle.copy_jobs.specs.declared.job.Job.{Job}
-use Rattle.copy_jobs.specs.Tables.{IsJob, AllJobs}
+use Rattle.copy_jobs.specs.inner.Tables.{IsJob, AllJobs}
 
 -- the job, and that the test holds of it
 pub record Found (test : Job → Bool) (jobs : List Job) : Type 0 where

@@ -10,7 +10,8 @@ use Rattle.copy_jobs.specs.declared.key.Key.{Key}
 use Rattle.copy_jobs.specs.declared.job.Job.{Job}
 use Rattle.copy_jobs.specs.Jobs.{has_key, is_running, has_ended, runs_as, is_busy, is_crowded, running, reserved, reserved_for}
 use Rattle.copy_jobs.specs.Keeping.{without_first, with_room, is_other, keep}
-use Rattle.copy_jobs.specs.Tables.{KeysApart, IsJob, AllJobs, IsTable}
+use Rattle.copy_jobs.specs.Tables.{KeysApart}
+use Rattle.copy_jobs.specs.inner.Tables.{IsJob, AllJobs, IsTable}
 use Rattle.copy_jobs.proofs.Lists.{or_first, or_later, any-append}
 use Rattle.copy_jobs.proofs.SameKeys.{same_key-sym}
 use Rattle.copy_jobs.proofs.Counts.{one_if, running-more}

@@ -9,3 +9,4 @@ pub mod Places
 pub mod Changed
 pub mod Stepping
 pub mod Next
+pub mod PublicLaws

@@ -8,11 +8,15 @@ use Rattle.cm_history.specs.Bounds.{piece_blocks}
 use Rattle.copy_jobs.specs.declared.key.Key.{Key}
 use Rattle.copy_jobs.specs.declared.job.Job.{Job}
 use Rattle.copy_jobs.specs.declared.piece.NextPiece.{NextPiece}
-use Rattle.copy_jobs.specs.Jobs.{has_key, is_copying, is_running, runs_as}
-use Rattle.copy_jobs.specs.Pieces.{is_foreground, is_background, is_next, piece_length, next_length, IsPieceOf, IsNextPiece}
-use Rattle.copy_jobs.specs.Tables.{KeysApart, IsJob}
+use Rattle.copy_jobs.specs.Jobs.{has_key, is_running, runs_as}
+use Rattle.copy_jobs.specs.inner.Jobs.{is_copying}
+use Rattle.copy_jobs.specs.Pieces.{is_foreground, is_background, is_next, piece_length, next_length, IsNextPiece}
+use Rattle.copy_jobs.specs.inner.Pieces.{IsPieceOf}
+use Rattle.copy_jobs.specs.Tables.{KeysApart}
+use Rattle.copy_jobs.specs.inner.Tables.{IsJob}
 use Rattle.copy_jobs.proofs.Lists.{or_first, or_later}
-use Rattle.copy_jobs.proofs.SameKeys.{and_first, same_key-sym, same_key-refl}
+use Rattle.copy_jobs.proofs.SameKeys.{same_key-sym, same_key-refl}
+use Rattle.cm_history.proofs.PublicLaws.{and_first}
 use Rattle.copy_jobs.proofs.Found.{find-any, find-passes}
 use Rattle.copy_jobs.proofs.Cuts.{length-cut}
 

@@ -4,8 +4,9 @@ use Rattle.std.specs.Prelude.{◌==◌, ◌&&◌}
 use Rattle.std.proofs.lemmas.Bool.Decides.{nat_tests}
 use Rattle.copy_jobs.specs.declared.key.Key.{Key}
 use Rattle.copy_jobs.specs.Keys.{same_kind, same_key}
+use Rattle.cm_history.proofs.PublicLaws.{and_second as and_later, and_first}
 
-same-sym : (a b : ℕ) → (a == b) ≡ (b == a)
+pub same-sym : (a b : ℕ) → (a == b) ≡ (b == a)
 same-sym a b = grind (arith, nat_tests)
 
 same_kind-sym : (a b : Bool) → same_kind a b ≡ same_kind b a
@@ -23,14 +24,6 @@ same_kind-is true true e = refl
 same_kind-is true false e = cc
 same_kind-is false true e = cc
 same_kind-is false false e = refl
-
-pub and_first : (a b : Bool) → (a && b) ≡ true → a ≡ true
-and_first true b e = refl
-and_first false b e = cc
-
-pub and_later : (a b : Bool) → (a && b) ≡ true → b ≡ true
-and_later true b e = e
-and_later false b e = cc
 
 pub same_key-sym : (a b : Key) → same_key a b ≡ same_key b a
 same_key-sym a b = rw (same-sym a.actor b.actor, same_kind-sym a.copy b.copy, same-sym a.id b.id) refl

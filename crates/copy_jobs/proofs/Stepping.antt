@@ -12,15 +12,18 @@ use Rattle.copy_jobs.specs.declared.job.Job.{Job}
 use Rattle.copy_jobs.specs.declared.job.WriteJob.{WriteJob}
 use Rattle.copy_jobs.specs.declared.job.Work.{Work}
 use Rattle.copy_jobs.specs.declared.job.Work.TheVariants.{Populated, Writing, Copying}
-use Rattle.copy_jobs.specs.declared.step.Step.{Step}
-use Rattle.copy_jobs.specs.declared.step.Step.TheVariants.{Moved, Stopped, Terminated, Closed}
+use Rattle.copy_jobs.specs.declared.change.Change.{Change}
+use Rattle.copy_jobs.specs.declared.change.Change.TheVariants.{Moved, Stopped, Terminated, Closed}
 use Rattle.copy_jobs.specs.Keys.{same_key}
-use Rattle.copy_jobs.specs.Jobs.{has_key, is_copying, is_running, is_running_work, runs_as, is_busy, reserved, reserved_for}
+use Rattle.copy_jobs.specs.Jobs.{has_key, is_running, is_running_work, runs_as, is_busy, reserved, reserved_for}
+use Rattle.copy_jobs.specs.inner.Jobs.{is_copying}
 use Rattle.copy_jobs.specs.Changes.{change, with_work, moved_write}
-use Rattle.copy_jobs.specs.Pieces.{is_writing, piece_length}
-use Rattle.copy_jobs.specs.Steps.{stepped, MayTake, MayStep}
-use Rattle.copy_jobs.specs.Tables.{IsWork, IsWriteJob, IsJob, AllJobs, IsTable}
-use Rattle.copy_jobs.proofs.SameKeys.{and_first, and_later, same_copy}
+use Rattle.copy_jobs.specs.inner.Pieces.{is_writing}
+use Rattle.copy_jobs.specs.Pieces.{piece_length}
+use Rattle.copy_jobs.specs.inner.Steps.{stepped, MayTake, MayStep}
+use Rattle.copy_jobs.specs.inner.Tables.{IsWork, IsWriteJob, IsJob, AllJobs, IsTable}
+use Rattle.copy_jobs.proofs.SameKeys.{same_copy}
+use Rattle.cm_history.proofs.PublicLaws.{and_first, and_second as and_later}
 use Rattle.copy_jobs.proofs.Counts.{one_if}
 use Rattle.copy_jobs.proofs.Found.{Found, found, find-job}
 use Rattle.copy_jobs.proofs.Changed.{change-length, change-running, change-reserved, change-apart, change-jobs}
@@ -94,7 +97,7 @@ ended-write write state is runs ended =
       frees = omega (arith, was, now, left);
     }
 
-pub leaves : (step : Step) (work : Work) → IsWork work → is_running_work work ≡ true → MayTake step work → Leaves work (stepped step work)
+pub leaves : (step : Change) (work : Work) → IsWork work → is_running_work work ≡ true → MayTake step work → Leaves work (stepped step work)
 leaves step (Populated serial blocks) is runs may = cc
 leaves (Moved blocks) (Writing write) is runs may = moved-write write blocks is runs may.1
 leaves (Stopped sense) (Writing write) is runs may = ended-write write (OpState.Failed sense) is runs refl
@@ -112,7 +115,7 @@ writing-if (Populated serial blocks) runs copy = cc
 writing-if (Writing write) runs copy = refl
 writing-if (Copying result) runs copy = cc
 
-may-take : (step : Step) (key : Key) (jobs : List Job) (job : Job) → find (runs_as key) jobs ≡ Some job → MayStep step key jobs
+may-take : (step : Change) (key : Key) (jobs : List Job) (job : Job) → find (runs_as key) jobs ≡ Some job → MayStep step key jobs
     → key.copy ≡ is_copying job.work → is_running_work job.work ≡ true → MayTake step job.work
 may-take (Moved blocks) key jobs job found may kind runs =
     let told : option_map (λ (j : Job). piece_length j.work) (find (runs_as key) jobs) ≡ Some blocks = may.1 in
@@ -124,14 +127,14 @@ may-take Terminated key jobs job found may kind runs = writing-if job.work runs 
 may-take (Closed end) key jobs job found may kind runs = (sym kind ∙ may.0, may.1)
 
 -- the job, and what the step leaves of it
-pub record Stepping (step : Step) (key : Key) (jobs : List Job) : Type 0 where
+pub record Stepping (step : Change) (key : Key) (jobs : List Job) : Type 0 where
   pub it : Found (runs_as key) jobs
   pub is : IsJob it.job
   pub runs : is_running_work it.job.work ≡ true
   pub may : MayTake step it.job.work
   pub after : Leaves it.job.work (stepped step it.job.work)
 
-pub stepping : (step : Step) (key : Key) (jobs : List Job) → AllJobs jobs → is_busy key jobs ≡ true → MayStep step key jobs → Stepping step key jobs
+pub stepping : (step : Change) (key : Key) (jobs : List Job) → AllJobs jobs → is_busy key jobs ≡ true → MayStep step key jobs → Stepping step key jobs
 stepping step key jobs all busy may =
     let it = found (runs_as key) jobs busy in
     let runs : is_running_work it.job.work ≡ true = and_first (is_running it.job) (has_key key it.job) it.passes in
@@ -140,7 +143,7 @@ stepping step key jobs all busy may =
     let take = may-take step key jobs it.job it.is may (same_copy key it.job.key keyed ∙ is.kind) runs in
     record { it = it; is = is; runs = runs; may = take; after = leaves step it.job.work is.work runs take }
 
-pub stepped-table : (step : Step) (key : Key) (jobs : List Job) (own_running own_reserved : ℕ) → IsTable jobs own_running own_reserved → (s : Stepping step key jobs)
+pub stepped-table : (step : Change) (key : Key) (jobs : List Job) (own_running own_reserved : ℕ) → IsTable jobs own_running own_reserved → (s : Stepping step key jobs)
     → IsTable (change (runs_as key) (with_work (stepped step)) jobs)
     (own_running - one_if (not (is_running_work (stepped step s.it.job.work))))
     (own_reserved + reserved_for (stepped step s.it.job.work) - reserved_for s.it.job.work)
@@ -165,7 +168,7 @@ stepped-table step key jobs own_running own_reserved is s =
     one-of true = refl
     one-of false = refl
 
-pub stepped-frees : (step : Step) (key : Key) (jobs : List Job) (s : Stepping step key jobs)
+pub stepped-frees : (step : Change) (key : Key) (jobs : List Job) (s : Stepping step key jobs)
     → reserved (change (runs_as key) (with_work (stepped step)) jobs) + 1 ≤ reserved jobs
 stepped-frees step key jobs s =
     let freed = change-reserved (runs_as key) (with_work (stepped step)) jobs s.it.job s.it.is in

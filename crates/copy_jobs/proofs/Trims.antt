@@ -9,7 +9,8 @@ use Rattle.copy_jobs.specs.declared.job.Work.{Work}
 use Rattle.copy_jobs.specs.declared.job.Work.TheVariants.{Populated, Writing, Copying}
 use Rattle.copy_jobs.specs.Jobs.{has_key, is_running, is_running_work, has_ended, running, reserved, reserved_for}
 use Rattle.copy_jobs.specs.Keeping.{without_first, with_room, is_other}
-use Rattle.copy_jobs.specs.Tables.{KeysApart, AllJobs}
+use Rattle.copy_jobs.specs.Tables.{KeysApart}
+use Rattle.copy_jobs.specs.inner.Tables.{AllJobs}
 use Rattle.copy_jobs.proofs.Counts.{reserved-more}
 use Rattle.copy_jobs.proofs.Lists.{or_first, or_later}
 

@@ -1,5 +1,5 @@
 -- The operations that a unit keeps, in the order in which they were made
-use Rattle.std.specs.Prelude.{ℕ, ◌+◌, ◌-◌, List, length, filter, sum_by, Bool, true, false, ◌==◌, ◌&&◌, not, nat_le, if◌then◌else◌}
+use Rattle.std.specs.Prelude.{ℕ, ◌+◌, ◌-◌, List, length, filter, sum_by, Bool, false, ◌==◌, ◌&&◌, not, nat_le, if◌then◌else◌}
 use Rattle.std.specs.List.{list_any}
 use Rattle.lba_ranges.specs.HeldBlocks.{HeldBlocks}
 use Rattle.lba_ranges.specs.declared.ranges.Range.{Range}
@@ -17,10 +17,6 @@ use Rattle.copy_jobs.specs.Keys.{same_key}
 
 abbrev pub has_key : Key → Job → Bool
 has_key key job = same_key key job.key
-
-abbrev pub is_copying : Work → Bool
-is_copying (Copying result) = true
-is_copying work = false
 
 -- ---- jobs that run
 

@@ -4,5 +4,5 @@ pub mod Changes
 pub mod Keeping
 pub mod Pieces
 pub mod Reports
-pub mod Steps
 pub mod Tables
+pub mod inner

@@ -11,10 +11,6 @@ use Rattle.copy_jobs.specs.declared.job.Work.TheVariants.{Writing}
 use Rattle.copy_jobs.specs.declared.piece.NextPiece.{NextPiece}
 use Rattle.copy_jobs.specs.Jobs.{is_running, runs_as, is_busy}
 
-abbrev pub is_writing : Work → Bool
-is_writing (Writing write) = true
-is_writing work = false
-
 abbrev pub is_foreground : Work → Bool
 is_foreground (Writing write) = not write.background
 is_foreground work = false
@@ -29,8 +25,8 @@ is_next (Some key) job = runs_as key job && is_foreground job.work
 is_next None job = is_running job && is_background job.work
 
 -- the job of the key is written by the pump
-abbrev pub runs_behind : Key → Job → Bool
-runs_behind key job = runs_as key job && is_background job.work
+abbrev pub runs_in_background : Key → Job → Bool
+runs_in_background key job = runs_as key job && is_background job.work
 
 -- how many blocks the next piece has: 1024, or all that are left
 abbrev pub piece_length : Work → ℕ
@@ -53,13 +49,6 @@ pub record IsPiece (write : WriteJob) (piece : NextPiece) : Type 0 where
   pub few : length piece.list.items ≤ piece_blocks
   pub written : piece.written ≡ write.written
   pub last : piece.is_last ≡ (write.written + length piece.list.items == length write.rod.items)
-
--- the next piece of a job that writes
-pub record IsPieceOf (job : Job) (piece : NextPiece) : Type 0 where
-  pub write : WriteJob
-  pub work : job.work ≡ Writing write
-  pub named : piece.key ≡ job.key
-  pub next : IsPiece write piece
 
 -- the piece is of the first job that is next, which is also the first that runs as its key
 pub record IsNextPiece (key : Option Key) (jobs : List Job) (piece : NextPiece) : Type 0 where

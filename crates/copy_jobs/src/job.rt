@@ -1,33 +1,21 @@
 ghost use Rattle.std.specs.Prelude.{◌≡◌, ◌+◌, ◌<◌, ◌≤◌, length, IfOk, IfSome, None, true, false};
 ghost use Rattle.cm_history.specs.Operations.{is_running_state};
-ghost use Rattle.cm_history.specs.Room.{pieces};
 ghost use Rattle.copy_jobs.specs.Jobs.{has_key, is_running_work, is_running, runs_as, has_ended, reserved_to_write, reserved_for};
 ghost use Rattle.copy_jobs.specs.Keeping.{is_other};
 ghost use Rattle.copy_jobs.specs.Changes.{moved_write};
-ghost use Rattle.copy_jobs.specs.Pieces.{is_next, runs_behind, is_foreground, is_background, is_writing, IsPiece, IsPieceOf};
+ghost use Rattle.copy_jobs.specs.Pieces.{is_next, runs_in_background, is_foreground, is_background, IsPiece};
+ghost use Rattle.copy_jobs.specs.inner.Pieces.{is_writing, IsPieceOf};
 ghost use Rattle.copy_jobs.specs.Reports.{report_of, result_of};
-ghost use Rattle.copy_jobs.specs.Steps.{stepped, MayTake};
-ghost use Rattle.copy_jobs.specs.Tables.{IsWriteJob, IsWork};
+ghost use Rattle.copy_jobs.specs.inner.Steps.{stepped, MayTake};
+ghost use Rattle.copy_jobs.specs.inner.Tables.{IsWriteJob, IsWork};
 
+use crate::change::Change;
 use crate::key::Key;
 use crate::piece::NextPiece;
-use crate::step::Step;
 use cm_base::OutOfMemory;
-use cm_history::{CopyEnd, CopyState, OpReport, OpState};
+use cm_history::{CopyEnd, CopyState, OpReport, OpState, PIECE_BLOCKS, pieces};
 use lba_ranges::{BlockList, RangeList};
 use std::alloc::Global;
-
-/// Blocks of one piece.
-const PIECE_BLOCKS: u64 = 1024;
-
-/// How many pieces so many blocks are written in.
-fn pieces(blocks: u64) -> u64
-    requires { blocks ≤ 1_048_576 }
-    ensures pieces { result ≡ pieces blocks }
-    ensures few { result ≤ 1024 }
-{
-    (blocks + (PIECE_BLOCKS - 1)) / PIECE_BLOCKS
-}
 
 /// Blocks that are written piece by piece: the next piece begins behind the first `written` blocks.
 #[derive(Drop)]
@@ -148,7 +136,7 @@ impl Work {
         }
     }
 
-    pub(crate) fn take(&mut self, step: Step)
+    pub(crate) fn take(&mut self, step: Change)
         requires work { IsWork self.old }
         requires step { MayTake step self.old }
         ensures { self.new ≡ stepped step self.old }
@@ -156,13 +144,13 @@ impl Work {
         match self {
             Work::Populated { .. } => {}
             Work::Writing(write) => match step {
-                Step::Moved(blocks) => write.advance(blocks),
-                Step::Stopped(sense) => write.state = OpState::Failed(sense),
-                Step::Terminated => write.state = OpState::Terminated,
-                Step::Closed(_) => {}
+                Change::Moved(blocks) => write.advance(blocks),
+                Change::Stopped(sense) => write.state = OpState::Failed(sense),
+                Change::Terminated => write.state = OpState::Terminated,
+                Change::Closed(_) => {}
             },
             Work::Copying(was) => {
-                if let Step::Closed(end) = step {
+                if let Change::Closed(end) = step {
                     *was = end;
                 }
             }
@@ -256,8 +244,8 @@ impl Job {
     }
 
     /// It runs in the background as the key.
-    pub(crate) fn runs_behind(&self, key: Key) -> bool
-        ensures { result ≡ runs_behind key self.now }
+    pub(crate) fn runs_in_background(&self, key: Key) -> bool
+        ensures { result ≡ runs_in_background key self.now }
     {
         self.runs_as(key) && self.work.is_background()
     }

@@ -1,12 +1,12 @@
 // The operations of a unit: which are kept, which run, and what each is to write next.
 #![tactic(auto)]
 
+mod change;
 mod job;
 mod key;
 mod piece;
 mod records;
 mod refused;
-mod step;
 mod table;
 
 pub use job::{Job, Work, WriteJob};

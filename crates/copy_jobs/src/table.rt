@@ -8,17 +8,18 @@ ghost use Rattle.copy_jobs.specs.declared.job.Job.{Job};
 ghost use Rattle.copy_jobs.specs.Jobs.{has_key, is_running, runs_as, is_busy, is_crowded, running, reserved, reserved_for, reserved_at_start, started, opened, made};
 ghost use Rattle.copy_jobs.specs.Keeping.{keep};
 ghost use Rattle.copy_jobs.specs.Changes.{change, with_work, moved_by, stopped_by, terminated, closed_by};
-ghost use Rattle.copy_jobs.specs.Pieces.{is_next, runs_behind, next_length, IsNextPiece};
+ghost use Rattle.copy_jobs.specs.Pieces.{is_next, runs_in_background, next_length, IsNextPiece};
 ghost use Rattle.copy_jobs.specs.Reports.{report_of, result_of};
-ghost use Rattle.copy_jobs.specs.Steps.{stepped, MayStep};
-ghost use Rattle.copy_jobs.specs.Tables.{KeysApart, IsJob};
+ghost use Rattle.copy_jobs.specs.inner.Steps.{stepped, MayStep};
+ghost use Rattle.copy_jobs.specs.Tables.{KeysApart};
+ghost use Rattle.copy_jobs.specs.inner.Tables.{IsJob};
 
+use crate::change::Change;
 use crate::job::{Job, Work, WriteJob};
 use crate::key::Key;
 use crate::piece::NextPiece;
 use crate::records;
 use crate::refused::JobRefused;
-use crate::step::Step;
 use cm_base::OutOfMemory;
 use cm_history::{CopyEnd, CopyState, OpReport, OpState};
 use lba_ranges::{BlockList, RangeList};
@@ -42,7 +43,7 @@ pub struct JobTable {
 impl Model for JobTable {
     ghost use Rattle.std.specs.Prelude.{List};
     ghost use Rattle.copy_jobs.specs.declared.job.Job.{Job};
-    ghost use Rattle.copy_jobs.specs.Tables.{IsTable};
+    ghost use Rattle.copy_jobs.specs.inner.Tables.{IsTable};
 
     ghost Value = { List Job };
 
@@ -73,10 +74,10 @@ impl JobTable {
     }
 
     /// The operation of the key runs in the background: the unit's pump writes its pieces. It takes no memory.
-    pub fn runs_behind(&self, key: Key) -> bool
-        ensures { result ≡ list_any (runs_behind key) self.now }
+    pub fn runs_in_background(&self, key: Key) -> bool
+        ensures { result ≡ list_any (runs_in_background key) self.now }
     {
-        self.jobs.iter().any(|job| job.runs_behind(key))
+        self.jobs.iter().any(|job| job.runs_in_background(key))
     }
 
     /// A piece is to be written next: by the foreground operation of a key, or without a key by an operation in the
@@ -138,7 +139,7 @@ impl JobTable {
     }
 
     /// Takes a step of the job that runs as the key.
-    fn change(&mut self, key: Key, step: Step)
+    fn change(&mut self, key: Key, step: Change)
         requires busy { is_busy key self.old ≡ true }
         requires step { MayStep step key self.old }
         ensures changed { self.new ≡ change (runs_as key) (with_work (stepped step)) self.old }
@@ -256,7 +257,7 @@ impl JobTable {
         ensures changed { self.new ≡ change (runs_as key) (with_work (moved_by blocks)) self.old }
         ensures frees { reserved self.new + 1 ≤ reserved self.old }
     {
-        self.change(key, Step::Moved(blocks));
+        self.change(key, Change::Moved(blocks));
     }
 
     /// The next piece of the operation was refused, and it goes on no more. It takes no memory.
@@ -266,7 +267,7 @@ impl JobTable {
         ensures changed { self.new ≡ change (runs_as key) (with_work (stopped_by sense)) self.old }
         ensures frees { reserved self.new + 1 ≤ reserved self.old }
     {
-        self.change(key, Step::Stopped(sense));
+        self.change(key, Change::Stopped(sense));
     }
 
     /// The operation was ended before it was done. It takes no memory.
@@ -276,7 +277,7 @@ impl JobTable {
         ensures changed { self.new ≡ change (runs_as key) (with_work terminated) self.old }
         ensures frees { reserved self.new + 1 ≤ reserved self.old }
     {
-        self.change(key, Step::Terminated);
+        self.change(key, Change::Terminated);
     }
 
     /// The copy has come to its end. It takes no memory.
@@ -287,7 +288,7 @@ impl JobTable {
         ensures changed { self.new ≡ change (runs_as key) (with_work (closed_by end)) self.old }
         ensures frees { reserved self.new + 1 ≤ reserved self.old }
     {
-        self.change(key, Step::Closed(end));
+        self.change(key, Change::Closed(end));
     }
 
     /// What is kept of a token operation (SPC-4, RECEIVE ROD TOKEN INFORMATION); `None` where nothing is. It takes no

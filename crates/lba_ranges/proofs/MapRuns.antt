@@ -3,7 +3,8 @@ use Rattle.std.proofs.Common.{◌≡◌, ℕ, zero, suc, ◌+◌, ◌-◌, ◌<�
 use Rattle.std.specs.Prelude.{is_some, ◌≢◌, ◌⊎◌}
 use Rattle.std.specs.Bool.{beq}
 use Rattle.lba_ranges.specs.declared.status.MapRun.{MapRun}
-use Rattle.lba_ranges.specs.Status.{run_blocks, run_length, map_runs, IsRun}
+use Rattle.lba_ranges.specs.Status.{run_blocks, run_length, map_runs}
+use Rattle.lba_ranges.specs.inner.Status.{IsRun}
 use Rattle.lba_ranges.specs.Writings.{Held}
 
 beq-same : (a : Bool) → beq a a ≡ true

@@ -7,7 +7,8 @@ use Rattle.std.proofs.lemmas.List.Folds.{list_any-append}
 use Rattle.std.proofs.lemmas.List.{take_rest}
 use Rattle.std.proofs.lemmas.Option.{slice_get_within, get_or_from_slice_get}
 use Rattle.lba_ranges.specs.declared.ranges.Range.{Range}
-use Rattle.lba_ranges.specs.Denoted.{row, blocks_of, has_repeat, is_overlapping, meets}
+use Rattle.lba_ranges.specs.Denoted.{row, blocks_of, has_repeat, is_overlapping}
+use Rattle.lba_ranges.specs.inner.Denoted.{meets}
 
 -- some number is in both lists
 abbrev shares : List ℕ → List ℕ → Bool

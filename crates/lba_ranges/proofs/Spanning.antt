@@ -7,23 +7,24 @@ use Rattle.std.proofs.lemmas.Bool.{cases_lt}
 use Rattle.std.proofs.lemmas.List.{take_more, take_all, take-append-le}
 use Rattle.std.proofs.lemmas.Grind.{common_steps}
 use Rattle.lba_ranges.specs.declared.fill.Fill.TheVariants.{Hole}
-use Rattle.lba_ranges.specs.declared.runs.Run.{Run}
-use Rattle.lba_ranges.specs.HeldBlocks.{filled, items_of, IsFull, AllFull, held_at}
-use Rattle.lba_ranges.specs.Runs.{pieces_of, Spans, IsFirstAfter, later}
+use Rattle.lba_ranges.specs.declared.runs.PlacedPiece.{PlacedPiece}
+use Rattle.lba_ranges.specs.HeldBlocks.{filled, IsFull, held_at}
+use Rattle.lba_ranges.specs.inner.HeldBlocks.{items_of, AllFull}
+use Rattle.lba_ranges.specs.inner.Runs.{pieces_of, Spans, IsFirstAfter, later}
 use Rattle.lba_ranges.proofs.Cells.{count-append, length-filled, items_of-push, held_at-front}
 use Rattle.lba_ranges.proofs.Windows.{drop-append-all}
 
-pub pieces_of-append : (rs ss : List Run) → pieces_of (rs ++ ss) ≡ pieces_of rs ++ pieces_of ss
+pub pieces_of-append : (rs ss : List PlacedPiece) → pieces_of (rs ++ ss) ≡ pieces_of rs ++ pieces_of ss
 pieces_of-append [] ss = refl
 pieces_of-append (r ∷ rs) ss = ap (λ l. r.piece ∷ l) (pieces_of-append rs ss)
 
 -- the runs from the k-th on are that one and those after it
-pub items_of-drop : (size : ℕ) (rs : List Run) (k : ℕ) (r : Run) → k < length rs → r ≡ get_or rs k r
+pub items_of-drop : (size : ℕ) (rs : List PlacedPiece) (k : ℕ) (r : PlacedPiece) → k < length rs → r ≡ get_or rs k r
     → items_of size (pieces_of (drop k rs)) ≡ filled size r.piece.count r.piece.fill ++ items_of size (pieces_of (drop (k + 1) rs))
 items_of-drop size rs k r h is = rw (add-one, drop-cons rs k r, ← is) refl
 
 -- one more run of a walk
-pub items_of-more : (size : ℕ) (rs : List Run) (k : ℕ) (r : Run) → k < length rs → r ≡ get_or rs k r
+pub items_of-more : (size : ℕ) (rs : List PlacedPiece) (k : ℕ) (r : PlacedPiece) → k < length rs → r ≡ get_or rs k r
     → items_of size (pieces_of (take (k + 1) rs)) ≡ items_of size (pieces_of (take k rs)) ++ filled size r.piece.count r.piece.fill
 items_of-more size rs k r h is =
     ap (λ l. items_of size (pieces_of l)) (take_more rs k r h)
@@ -31,74 +32,74 @@ items_of-more size rs k r h is =
     ∙ items_of-push size (pieces_of (take k rs)) (get_or rs k r).piece
     ∙ rw (← is) refl
 
-pub AllFull-at : (size : ℕ) (rs : List Run) (k : ℕ) (r : Run) → AllFull size (pieces_of rs) → k < length rs → r ≡ get_or rs k r → IsFull size r.piece.count r.piece.fill
+pub AllFull-at : (size : ℕ) (rs : List PlacedPiece) (k : ℕ) (r : PlacedPiece) → AllFull size (pieces_of rs) → k < length rs → r ≡ get_or rs k r → IsFull size r.piece.count r.piece.fill
 AllFull-at size [] k r all h is = absurd (omega arith)
-AllFull-at size (q ∷ rs) zero r all h is = subst (λ (s : Run). IsFull size s.piece.count s.piece.fill) (sym is) all.0
+AllFull-at size (q ∷ rs) zero r all h is = subst (λ (s : PlacedPiece). IsFull size s.piece.count s.piece.fill) (sym is) all.0
 AllFull-at size (q ∷ rs) (suc k) r all h is = AllFull-at size rs k r all.1 (omega arith) is
 
-pub AllFull-drop : (size : ℕ) (rs : List Run) (k : ℕ) → AllFull size (pieces_of rs) → AllFull size (pieces_of (drop k rs))
+pub AllFull-drop : (size : ℕ) (rs : List PlacedPiece) (k : ℕ) → AllFull size (pieces_of rs) → AllFull size (pieces_of (drop k rs))
 AllFull-drop size rs zero all = all
 AllFull-drop size [] (suc k) all = tt
 AllFull-drop size (r ∷ rs) (suc k) all = AllFull-drop size rs k all.1
 
 -- ---- where runs end
 
-abbrev hole_of : ℕ → ℕ → Run
+abbrev hole_of : ℕ → ℕ → PlacedPiece
 hole_of end count = record { end = end; piece = record { count = count; fill = Hole } }
 
-pub Spans-length : (size start end : ℕ) (rs : List Run) → Spans start rs end → end ≡ start + length (items_of size (pieces_of rs))
+pub Spans-length : (size start end : ℕ) (rs : List PlacedPiece) → Spans start rs end → end ≡ start + length (items_of size (pieces_of rs))
 Spans-length size start end [] spans = omega (arith, spans)
 Spans-length size start end (r ∷ rs) spans =
     let later = Spans-length size r.end end rs spans.1 in
     let long = length-filled size r.piece.count r.piece.fill in
     omega (arith, spans.0, length-append (filled size r.piece.count r.piece.fill) (items_of size (pieces_of rs)))
 
-pub Spans-append : (start mid end : ℕ) (rs ss : List Run) → Spans start rs mid → Spans mid ss end → Spans start (rs ++ ss) end
+pub Spans-append : (start mid end : ℕ) (rs ss : List PlacedPiece) → Spans start rs mid → Spans mid ss end → Spans start (rs ++ ss) end
 Spans-append start mid end [] ss a b = subst (λ n. Spans n ss end) (sym a) b
 Spans-append start mid end (r ∷ rs) ss a b = (a.0, Spans-append r.end mid end rs ss a.1 b)
 
-pub Spans-push : (start before : ℕ) (rs : List Run) (r : Run) → Spans start rs before → r.end ≡ before + r.piece.count → Spans start (rs ++ r ∷ []) r.end
+pub Spans-push : (start before : ℕ) (rs : List PlacedPiece) (r : PlacedPiece) → Spans start rs before → r.end ≡ before + r.piece.count → Spans start (rs ++ r ∷ []) r.end
 Spans-push start before rs r spans e = Spans-append start before r.end rs (r ∷ []) spans (e, refl)
 
-Spans-moved : (start end by : ℕ) (rs : List Run) → Spans start rs end → Spans (by + start) (map (later by) rs) (by + end)
+Spans-moved : (start end by : ℕ) (rs : List PlacedPiece) → Spans start rs end → Spans (by + start) (map (later by) rs) (by + end)
 Spans-moved start end by [] spans = ap (λ n. by + n) spans
 Spans-moved start end by (r ∷ rs) spans =
     let same : r.end + by ≡ by + r.end = omega arith in
     (omega (arith, spans.0), subst (λ n. Spans n (map (later by) rs) (by + end)) (sym same) (Spans-moved r.end end by rs spans.1))
 
-pub Spans-later : (end by : ℕ) (rs : List Run) → Spans 0 rs end → Spans by (map (later by) rs) (by + end)
+pub Spans-later : (end by : ℕ) (rs : List PlacedPiece) → Spans 0 rs end → Spans by (map (later by) rs) (by + end)
 Spans-later end by rs spans = let same : by + 0 ≡ by = omega arith in rw same at (Spans-moved 0 end by rs spans)
 
-pub pieces_of-later : (by : ℕ) (rs : List Run) → pieces_of (map (later by) rs) ≡ pieces_of rs
+pub pieces_of-later : (by : ℕ) (rs : List PlacedPiece) → pieces_of (map (later by) rs) ≡ pieces_of rs
 pieces_of-later by [] = refl
 pieces_of-later by (r ∷ rs) = ap (λ l. r.piece ∷ l) (pieces_of-later by rs)
 
 -- one more run ends later
-pub later-more : (by : ℕ) (rs : List Run) (i : ℕ) (d : Run) → i < length rs
+pub later-more : (by : ℕ) (rs : List PlacedPiece) (i : ℕ) (d : PlacedPiece) → i < length rs
     → let now = map (later by) (take i rs) ++ drop i rs in
     slice_set now i (later by (get_or now i d)) ≡ map (later by) (take (i + 1) rs) ++ drop (i + 1) rs
 later-more by [] i d h = absurd (omega arith)
 later-more by (r ∷ rs) zero d h = refl
 later-more by (r ∷ rs) (suc i) d h = let e : suc i + 1 ≡ suc (i + 1) = omega arith in rw e (ap (λ l. later by r ∷ l) (later-more by rs i d (omega arith)))
 
-Spans-above : (start end : ℕ) (rs : List Run) (k : ℕ) (d : Run) → Spans start rs end → k < length rs → start + (get_or rs k d).piece.count ≤ (get_or rs k d).end
+Spans-above : (start end : ℕ) (rs : List PlacedPiece) (k : ℕ) (d : PlacedPiece) → Spans start rs end → k < length rs → start + (get_or rs k d).piece.count ≤ (get_or rs k d).end
 Spans-above start end [] k d spans h = absurd (omega arith)
 Spans-above start end (r ∷ rs) zero d spans h = omega (arith, spans.0)
 Spans-above start end (r ∷ rs) (suc k) d spans h =
     let above = Spans-above r.end end rs k d spans.1 (omega arith) in
     omega (arith, spans.0)
 
-Spans-whole : (start end : ℕ) (rs : List Run) → Spans start rs end → start ≤ end
+Spans-whole : (start end : ℕ) (rs : List PlacedPiece) → Spans start rs end → start ≤ end
 Spans-whole start end [] spans = omega (arith, spans)
 Spans-whole start end (r ∷ rs) spans = let rest = Spans-whole r.end end rs spans.1 in omega (arith, spans.0)
 
 -- each run ends within the whole
-pub Spans-within : (start end : ℕ) (rs : List Run) (k : ℕ) (d : Run) → Spans start rs end → k < length rs → (get_or rs k d).end ≤ end
+pub Spans-within : (start end : ℕ) (rs : List PlacedPiece) (k : ℕ) (d : PlacedPiece) → Spans start rs end → k < length rs → (get_or rs k d).end ≤ end
 Spans-within start end [] k d spans h = absurd (omega arith)
 Spans-within start end (r ∷ rs) zero d spans h = Spans-whole r.end end rs spans.1
 Spans-within start end (r ∷ rs) (suc k) d spans h = Spans-within r.end end rs k d spans.1 (omega arith)
 
-pub Spans-rise : (start end : ℕ) (rs : List Run) → Spans start rs end → IsNonDecreasingBy (λ (r : Run). r.end) rs
+pub Spans-rise : (start end : ℕ) (rs : List PlacedPiece) → Spans start rs end → IsNonDecreasingBy (λ (r : PlacedPiece). r.end) rs
 Spans-rise start end [] spans i j d le lt = absurd (omega arith)
 Spans-rise start end (r ∷ rs) spans zero zero d le lt = omega arith
 Spans-rise start end (r ∷ rs) spans zero (suc j) d le lt = let above = Spans-above r.end end rs j d spans.1 (omega arith) in omega arith
@@ -106,7 +107,7 @@ Spans-rise start end (r ∷ rs) spans (suc i) zero d le lt = absurd (omega arith
 Spans-rise start end (r ∷ rs) spans (suc i) (suc j) d le lt = Spans-rise r.end end rs spans.1 i j d (omega arith) (omega arith)
 
 -- the first run that ends after a place begins no later
-run-from : (start end : ℕ) (rs : List Run) (k place : ℕ) (d : Run) → Spans start rs end → k < length rs → start ≤ place
+run-from : (start end : ℕ) (rs : List PlacedPiece) (k place : ℕ) (d : PlacedPiece) → Spans start rs end → k < length rs → start ≤ place
     → ((i : ℕ) → i < k → (get_or rs i d).end ≤ place) → (get_or rs k d).end ≤ place + (get_or rs k d).piece.count
 run-from start end [] k place d spans h low before = absurd (omega arith)
 run-from start end (r ∷ rs) zero place d spans h low before = omega (arith, spans.0)
@@ -114,7 +115,7 @@ run-from start end (r ∷ rs) (suc k) place d spans h low before =
     run-from r.end end rs k place d spans.1 (omega arith) (before 0 (omega arith)) (λ i lt. before (suc i) (omega arith))
 
 -- what follows a place begins in the first run that ends after it
-drop-run : (size start end : ℕ) (rs : List Run) (k place at : ℕ) (d : Run) → Spans start rs end → k < length rs → start ≤ place
+drop-run : (size start end : ℕ) (rs : List PlacedPiece) (k place at : ℕ) (d : PlacedPiece) → Spans start rs end → k < length rs → start ≤ place
     → ((i : ℕ) → i < k → (get_or rs i d).end ≤ place) → at + (get_or rs k d).end ≡ place + (get_or rs k d).piece.count
     → drop (place - start) (items_of size (pieces_of rs)) ≡ drop at (items_of size (pieces_of (drop k rs)))
 drop-run size start end [] k place at d spans h low before e = absurd (omega arith)
@@ -129,14 +130,14 @@ drop-run size start end (r ∷ rs) (suc k) place at d spans h low before e =
     ∙ rw (none, past) (drop-run size r.end end rs k place at d spans.1 (omega arith) first (λ i lt. before (suc i) (omega arith)) e)
 
 -- the run that a place of the list is in, and what follows the place
-pub record StandsIn (rs : List Run) (place k : ℕ) (r : Run) : Type 0 where
+pub record StandsIn (rs : List PlacedPiece) (place k : ℕ) (r : PlacedPiece) : Type 0 where
   pub within : k < length rs
   pub is : r ≡ get_or rs k r
   pub from : r.end ≤ place + r.piece.count
   pub to : place < r.end
   pub rest : (size at : ℕ) → at + r.end ≡ place + r.piece.count → drop place (items_of size (pieces_of rs)) ≡ drop at (items_of size (pieces_of (drop k rs)))
 
-pub stands-in : (end : ℕ) (rs : List Run) (place k : ℕ) (r : Run) → Spans 0 rs end → IsFirstAfter rs place k → k < length rs → r ≡ get_or rs k r → StandsIn rs place k r
+pub stands-in : (end : ℕ) (rs : List PlacedPiece) (place k : ℕ) (r : PlacedPiece) → Spans 0 rs end → IsFirstAfter rs place k → k < length rs → r ≡ get_or rs k r → StandsIn rs place k r
 stands-in end rs place k r spans first within is =
     let from = run-from 0 end rs k place r spans within (omega arith) (λ i h. first.before i r h) in
     let after = first.after r within in
@@ -155,7 +156,7 @@ held_at-drop [] (suc i) = refl
 held_at-drop (x ∷ xs) (suc i) = held_at-drop xs i
 
 -- the block at a place is one of the run in which it stands
-pub held-in_run : (size : ℕ) (rs : List Run) (place k at : ℕ) (r : Run) → StandsIn rs place k r → at + r.end ≡ place + r.piece.count
+pub held-in_run : (size : ℕ) (rs : List PlacedPiece) (place k at : ℕ) (r : PlacedPiece) → StandsIn rs place k r → at + r.end ≡ place + r.piece.count
     → held_at (items_of size (pieces_of rs)) place ≡ held_at (filled size r.piece.count r.piece.fill) at
 held-in_run size rs place k at r stands e =
     let all = items_of size (pieces_of rs) in
@@ -169,11 +170,11 @@ held-in_run size rs place k at r stands e =
     ∙ held_at-front (filled size r.piece.count r.piece.fill) later r.piece.count at (length-filled size r.piece.count r.piece.fill) near
 
 -- the runs from one on, as a part of them
-pub runs-from : (rs : List Run) (k : ℕ) → take (length rs - k) (drop k rs) ≡ drop k rs
+pub runs-from : (rs : List PlacedPiece) (k : ℕ) → take (length rs - k) (drop k rs) ≡ drop k rs
 runs-from rs k = take_all (length rs - k) (drop k rs) (omega (arith, length-drop k rs))
 
 -- the blocks from a place on are those from its place in the run on
-pub window-in_run : (size : ℕ) (rs : List Run) (place k at count : ℕ) (r : Run) → StandsIn rs place k r → at + r.end ≡ place + r.piece.count → 0 < count
+pub window-in_run : (size : ℕ) (rs : List PlacedPiece) (place k at count : ℕ) (r : PlacedPiece) → StandsIn rs place k r → at + r.end ≡ place + r.piece.count → 0 < count
     → place + count ≤ length (items_of size (pieces_of rs))
     → let rest = items_of size (pieces_of (take (length rs - k) (drop k rs))) in
     (at + count ≤ length rest) × (slice_range rest at (at + count) ≡ slice_range (items_of size (pieces_of rs)) place (place + count))
@@ -191,7 +192,7 @@ take-drop-front [] ys (suc k) n h = absurd (omega arith)
 take-drop-front (x ∷ xs) ys (suc k) n h = take-drop-front xs ys k n (omega arith)
 
 -- blocks of the run in which a place stands are those of the list from there on
-pub part-in_run : (size : ℕ) (rs : List Run) (place k at n : ℕ) (r : Run) → StandsIn rs place k r → at + r.end ≡ place + r.piece.count → at + n ≤ r.piece.count
+pub part-in_run : (size : ℕ) (rs : List PlacedPiece) (place k at n : ℕ) (r : PlacedPiece) → StandsIn rs place k r → at + r.end ≡ place + r.piece.count → at + n ≤ r.piece.count
     → slice_range (filled size r.piece.count r.piece.fill) at (at + n) ≡ slice_range (items_of size (pieces_of rs)) place (place + n)
 part-in_run size rs place k at n r stands e enough =
     let front = filled size r.piece.count r.piece.fill in
@@ -202,18 +203,18 @@ part-in_run size rs place k at n r stands e enough =
     rw (same, same') (sym (ap (take n) (stands.rest size at e ∙ ap (drop at) (items_of-drop size rs k r stands.within stands.is)) ∙ take-drop-front front later at n fits))
 
 -- where no run ends after a place no block stands there
-Spans-end : (start end : ℕ) (rs : List Run) (place : ℕ) (d : Run) → Spans start rs end → start ≤ place
+Spans-end : (start end : ℕ) (rs : List PlacedPiece) (place : ℕ) (d : PlacedPiece) → Spans start rs end → start ≤ place
     → ((i : ℕ) → i < length rs → (get_or rs i d).end ≤ place) → end ≤ place
 Spans-end start end [] place d spans low before = omega (arith, spans)
 Spans-end start end (r ∷ rs) place d spans low before =
     Spans-end r.end end rs place d spans.1 (before 0 (omega arith)) (λ i lt. before (suc i) (omega arith))
 
-pub first-past : (end : ℕ) (rs : List Run) (place k : ℕ) → Spans 0 rs end → IsFirstAfter rs place k → length rs ≤ k → end ≤ place
+pub first-past : (end : ℕ) (rs : List PlacedPiece) (place k : ℕ) → Spans 0 rs end → IsFirstAfter rs place k → length rs ≤ k → end ≤ place
 first-past end rs place k spans first past =
     Spans-end 0 end rs place (hole_of 0 0) spans (omega arith) (λ i h. first.before i (hole_of 0 0) (omega arith))
 
 -- a place before the end is in some run
-pub first-within : (end : ℕ) (rs : List Run) (place k : ℕ) → Spans 0 rs end → IsFirstAfter rs place k → place < end → k < length rs
+pub first-within : (end : ℕ) (rs : List PlacedPiece) (place k : ℕ) → Spans 0 rs end → IsFirstAfter rs place k → place < end → k < length rs
 first-within end rs place k spans first low = elim (cases_lt k (length rs)) [
   | inl within ↦ within
   | inr past ↦ absurd (omega (arith, first-past end rs place k spans first past))
@@ -226,21 +227,21 @@ held-past (x ∷ xs) (suc i) h = held-past xs i (omega arith)
 
 -- ---- a hole at the end that takes in more
 
-pub pieces_of-set : (rs : List Run) (k : ℕ) (r : Run) → pieces_of (slice_set rs k r) ≡ slice_set (pieces_of rs) k r.piece
+pub pieces_of-set : (rs : List PlacedPiece) (k : ℕ) (r : PlacedPiece) → pieces_of (slice_set rs k r) ≡ slice_set (pieces_of rs) k r.piece
 pieces_of-set [] k r = refl
 pieces_of-set (q ∷ rs) zero r = refl
 pieces_of-set (q ∷ rs) (suc k) r = ap (λ l. q.piece ∷ l) (pieces_of-set rs k r)
 
-pub pieces_of-get : (rs : List Run) (k : ℕ) (r : Run) → slice_get rs k ≡ Some r → slice_get (pieces_of rs) k ≡ Some r.piece
+pub pieces_of-get : (rs : List PlacedPiece) (k : ℕ) (r : PlacedPiece) → slice_get rs k ≡ Some r → slice_get (pieces_of rs) k ≡ Some r.piece
 pieces_of-get [] k r is = cc
 pieces_of-get (q ∷ rs) zero r is = let same : q ≡ r = cc in rw same refl
 pieces_of-get (q ∷ rs) (suc k) r is = pieces_of-get rs k r is
 
-pub length-pieces : (rs : List Run) → length (pieces_of rs) ≡ length rs
+pub length-pieces : (rs : List PlacedPiece) → length (pieces_of rs) ≡ length rs
 length-pieces [] = refl
 length-pieces (r ∷ rs) = ap suc (length-pieces rs)
 
-pub Spans-widened : (start before : ℕ) (rs : List Run) (k count more : ℕ) (last : Run) → k + 1 ≡ length rs → more ≤ count
+pub Spans-widened : (start before : ℕ) (rs : List PlacedPiece) (k count more : ℕ) (last : PlacedPiece) → k + 1 ≡ length rs → more ≤ count
     → slice_get rs k ≡ Some last → last.piece.count ≡ count - more → Spans start rs before
     → Spans start (slice_set rs k (hole_of (before + more) count)) (before + more)
 Spans-widened start before [] k count more last end h is e spans = absurd (omega (arith, end))
@@ -255,7 +256,7 @@ Spans-widened start before (r ∷ rs) (suc k) count more last end h is e spans =
 -- ---- how many blocks are mapped
 
 -- the runs from a place on
-pub count-drop : (size : ℕ) (rs : List Run) (k : ℕ) (r : Run) → k < length rs → r ≡ get_or rs k r
+pub count-drop : (size : ℕ) (rs : List PlacedPiece) (k : ℕ) (r : PlacedPiece) → k < length rs → r ≡ get_or rs k r
     → count_by is_some (items_of size (pieces_of (drop k rs)))
     ≡ count_by is_some (filled size r.piece.count r.piece.fill) + count_by is_some (items_of size (pieces_of (drop (k + 1) rs)))
 count-drop size rs k r h is =

@@ -1,6 +1,6 @@
 pub mod HeldBlocks
-pub mod Runs
 pub mod Denoted
 pub mod Writings
 pub mod Status
 pub mod Lending
+pub mod inner

@@ -1,5 +1,5 @@
 -- Which blocks are mapped, in runs
-use Rattle.std.specs.Prelude.{◌≡◌, ◌≢◌, ℕ, zero, suc, ◌+◌, ◌-◌, ◌<◌, ◌≤◌, List, [], ◌∷◌, min, is_some, Bool, if◌then◌else◌}
+use Rattle.std.specs.Prelude.{ℕ, zero, suc, ◌+◌, ◌-◌, List, [], ◌∷◌, min, is_some, Bool, if◌then◌else◌}
 use Rattle.std.specs.Bool.{beq}
 use Rattle.lba_ranges.specs.declared.status.MapRun.{MapRun}
 use Rattle.lba_ranges.specs.Writings.{Held}
@@ -24,11 +24,3 @@ map_runs held (suc n) block zero = []
 map_runs held (suc n) block (suc left) =
     let count = run_length held (is_some (held block)) block (min (suc left) run_blocks) in
     record { lba = block; count = count; mapped = is_some (held block) } ∷ map_runs held n (block + count) (suc left - count)
-
--- the run of so many blocks from `block` on is the longest of one kind that the `left` blocks and the limit allow
-pub record IsRun (held : ℕ → Held) (block left : ℕ) (run : MapRun) : Type 0 where
-  pub starts : run.lba ≡ block
-  pub some : 0 < run.count
-  pub fits : run.count ≤ min left run_blocks
-  pub alike : (k : ℕ) → k < run.count → is_some (held (block + k)) ≡ run.mapped
-  pub ends : run.count ≢ min left run_blocks → is_some (held (block + run.count)) ≢ run.mapped

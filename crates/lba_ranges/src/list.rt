@@ -1,11 +1,12 @@
 ghost use Rattle.std.specs.Prelude.{◌≡◌, ◌-◌, IfSome, true, false, ◌+◌, ◌*◌, ◌<◌, ◌≤◌, ◌^◌, ◌++◌, [], List, ℕ, length, slice_range, IfOk, OnOk, OnErr, is_some};
 ghost use Rattle.std.specs.Option.{option_copied};
 ghost use Rattle.std.specs.List.{list_all, count_by};
-ghost use Rattle.lba_ranges.specs.Runs.{pieces_of};
-ghost use Rattle.lba_ranges.specs.HeldBlocks.{items_of, AllFull, HeldBlocks, filled, cut, IsFull, held_at, AllSized, blocks_bytes};
+ghost use Rattle.lba_ranges.specs.inner.Runs.{pieces_of};
+ghost use Rattle.lba_ranges.specs.inner.HeldBlocks.{items_of, AllFull};
+ghost use Rattle.lba_ranges.specs.HeldBlocks.{HeldBlocks, filled, cut, IsFull, held_at, AllSized, blocks_bytes};
 
 use crate::fill::{Fill, Piece};
-use crate::runs::{Run, first_after, move_ends, push_joined};
+use crate::runs::{PlacedPiece, first_after, move_ends, push_joined};
 use cm_base::{Bytes, OutOfMemory, Payload};
 use std::alloc::Global;
 use std::marker::Model;
@@ -15,13 +16,14 @@ use std::marker::Model;
 pub struct BlockList {
     block_length: u32,
     count: u64,
-    runs: Vec<Run>,
+    runs: Vec<PlacedPiece>,
 }
 
 impl Model for BlockList {
     ghost use Rattle.std.specs.Prelude.{◌≡◌, length};
-    ghost use Rattle.lba_ranges.specs.HeldBlocks.{items_of, AllFull, HeldBlocks};
-    ghost use Rattle.lba_ranges.specs.Runs.{pieces_of, Spans};
+    ghost use Rattle.lba_ranges.specs.inner.HeldBlocks.{items_of, AllFull};
+    ghost use Rattle.lba_ranges.specs.HeldBlocks.{HeldBlocks};
+    ghost use Rattle.lba_ranges.specs.inner.Runs.{pieces_of, Spans};
 
     ghost Value = { HeldBlocks };
 
@@ -226,7 +228,12 @@ impl BlockList {
     }
 
     /// Adds blocks of runs, which share their bytes: `count` of them, after the first `skip`.
-    fn push_window(&mut self, runs: &[Run], skip: u64, count: u64) -> Result<(), OutOfMemory>
+    fn push_window(
+        &mut self,
+        runs: &[PlacedPiece],
+        skip: u64,
+        count: u64,
+    ) -> Result<(), OutOfMemory>
         requires full { AllFull self.old.block_length (pieces_of runs.now) }
         requires within { skip + count ≤ length (items_of self.old.block_length (pieces_of runs.now)) }
         requires room { length self.old.items + count < 2 ^ 64 }

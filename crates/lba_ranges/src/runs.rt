@@ -1,21 +1,22 @@
 ghost use Rattle.std.specs.Prelude.{◌≡◌, ◌-◌, ◌+◌, ◌<◌, ◌≤◌, ◌^◌, ◌++◌, ℕ, length, IfSome, OnOk, OnErr, true, false, map, slice_index_or};
 ghost use Rattle.std.specs.List.Sorted.{IsNonDecreasingBy};
 ghost use Rattle.lba_ranges.specs.declared.fill.Fill.TheVariants.{Hole};
-ghost use Rattle.lba_ranges.specs.declared.runs.Run.{Run};
-ghost use Rattle.lba_ranges.specs.HeldBlocks.{items_of, AllFull, IsFull, filled};
-ghost use Rattle.lba_ranges.specs.Runs.{pieces_of, Spans, IsFirstAfter, later};
+ghost use Rattle.lba_ranges.specs.declared.runs.PlacedPiece.{PlacedPiece};
+ghost use Rattle.lba_ranges.specs.inner.HeldBlocks.{items_of, AllFull};
+ghost use Rattle.lba_ranges.specs.HeldBlocks.{IsFull, filled};
+ghost use Rattle.lba_ranges.specs.inner.Runs.{pieces_of, Spans, IsFirstAfter, later};
 
 use crate::fill::{Fill, Piece};
 use cm_base::OutOfMemory;
 
 /// A run of blocks in a list. The place where it ends is how many blocks there are up to it.
 #[derive(Drop)]
-pub(crate) struct Run {
+pub(crate) struct PlacedPiece {
     pub(crate) end: u64,
     pub(crate) piece: Piece,
 }
 
-impl Run {
+impl PlacedPiece {
     /// The place in the run of its block that stands at this place in the list.
     pub(crate) fn place(&self, index: u64) -> u32
         requires from { self.now.end ≤ index + self.now.piece.count }
@@ -27,8 +28,8 @@ impl Run {
 }
 
 /// Which is the first run that ends after this place.
-pub(crate) fn first_after(runs: &[Run], place: u64) -> usize
-    requires { IsNonDecreasingBy (λ (run : Run). run.end) runs.now }
+pub(crate) fn first_after(runs: &[PlacedPiece], place: u64) -> usize
+    requires { IsNonDecreasingBy (λ (run : PlacedPiece). run.end) runs.now }
     ensures within { result ≤ length runs.now }
     ensures first { IsFirstAfter runs.now place result }
 {
@@ -50,7 +51,7 @@ fn widened(last: &Piece, more: &Piece) -> Option<u32>
 
 /// Lets a hole at the end take in the blocks of a hole, which end at this place.
 /// Otherwise, at `false`, all stays.
-fn widen_hole(runs: &mut Vec<Run>, end: u64, more: &Piece) -> bool
+fn widen_hole(runs: &mut Vec<PlacedPiece>, end: u64, more: &Piece) -> bool
     ensures widened { result ≡ true → (size : ℕ) → items_of size (pieces_of runs.new.items)
         ≡ items_of size (pieces_of runs.old.items) ++ filled size more.now.count more.now.fill }
     ensures full { (size : ℕ) → AllFull size (pieces_of runs.old.items) → AllFull size (pieces_of runs.new.items) }
@@ -65,7 +66,7 @@ fn widen_hole(runs: &mut Vec<Run>, end: u64, more: &Piece) -> bool
         return false;
     };
     let last = runs.len() - 1;
-    runs[last] = Run {
+    runs[last] = PlacedPiece {
         end,
         piece: Piece {
             count,
@@ -76,7 +77,11 @@ fn widen_hole(runs: &mut Vec<Run>, end: u64, more: &Piece) -> bool
 }
 
 /// Adds a run to the end, up to this place; a hole joins the hole before it.
-pub(crate) fn push_joined(runs: &mut Vec<Run>, end: u64, piece: Piece) -> Result<(), OutOfMemory>
+pub(crate) fn push_joined(
+    runs: &mut Vec<PlacedPiece>,
+    end: u64,
+    piece: Piece,
+) -> Result<(), OutOfMemory>
     ensures items { OnOk result ((size : ℕ) → items_of size (pieces_of runs.new.items)
         ≡ items_of size (pieces_of runs.old.items) ++ filled size piece.count piece.fill) }
     ensures full { OnOk result ((size : ℕ) → AllFull size (pieces_of runs.old.items) → IsFull size piece.count piece.fill
@@ -88,13 +93,13 @@ pub(crate) fn push_joined(runs: &mut Vec<Run>, end: u64, piece: Piece) -> Result
     if widen_hole(runs, end, &piece) {
         return Ok(());
     }
-    runs.push(Run { end, piece })?;
+    runs.push(PlacedPiece { end, piece })?;
     Ok(())
 }
 
 /// Lets each run end so many blocks later.
-pub(crate) fn move_ends(runs: &mut Vec<Run>, by: u64)
-    requires { (k : ℕ) (d : Run) → k < length runs.old.items → (slice_index_or runs.old.items k d).end + by < 2 ^ 64 }
+pub(crate) fn move_ends(runs: &mut Vec<PlacedPiece>, by: u64)
+    requires { (k : ℕ) (d : PlacedPiece) → k < length runs.old.items → (slice_index_or runs.old.items k d).end + by < 2 ^ 64 }
     ensures { runs.new.items ≡ map (later by) runs.old.items }
 {
     for run in runs.iter_mut() {

@@ -5,10 +5,9 @@ use Rattle.std.proofs.lemmas.Bool.Decides.{nat_tests}
 use Rattle.lba_ranges.specs.HeldBlocks.{filled, held_at}
 use Rattle.lba_ranges.specs.declared.fill.Fill.{Fill}
 use Rattle.lba_ranges.specs.declared.fill.Fill.TheVariants.{Hole, Bytes}
-use Rattle.lba_ranges.proofs.Cells.{length-filled, held_at-cut, held_at-hole}
+use Rattle.lba_ranges.proofs.PublicLaws.{length-filled, held_at-cut, held_at-hole, mapped-same, after-unmapped_row}
 use Rattle.lba_ranges.specs.Denoted.{row}
 use Rattle.lba_ranges.specs.Writings.{Held, paired, unmapped, after, mapped_below, mapped_among}
-use Rattle.lba_ranges.proofs.WritingLemmas.{mapped-same, after-unmapped_row}
 use Rattle.lun_extents.specs.inner.Runs.{is_mapped}
 use Rattle.lun_extents.proofs.Written.{row-outside, row-inside}
 

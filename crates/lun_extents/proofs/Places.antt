@@ -7,7 +7,7 @@ use Rattle.lba_ranges.specs.Denoted.{row}
 use Rattle.lba_ranges.specs.Writings.{Held}
 use Rattle.lba_ranges.specs.declared.fill.Fill.{Fill}
 use Rattle.lba_ranges.specs.declared.fill.Fill.TheVariants.{Hole, Bytes}
-use Rattle.lba_ranges.proofs.Cells.{held_at-cut, held_at-hole}
+use Rattle.lba_ranges.proofs.PublicLaws.{held_at-cut, held_at-hole}
 
 pub held_at-over : (xs : List Held) (i : ℕ) → length xs ≤ i → held_at xs i ≡ None
 held_at-over [] i h = refl

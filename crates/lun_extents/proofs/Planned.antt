@@ -7,14 +7,12 @@ use Rattle.std.proofs.lemmas.Bool.Decides.{nat_tests}
 use Rattle.std.proofs.Math.Seq.{take-add}
 use Rattle.std.proofs.lemmas.List.{drop-drop}
 use Rattle.lba_ranges.specs.HeldBlocks.{filled, IsFull}
-use Rattle.lba_ranges.specs.Denoted.{row, blocks_of, meets, is_overlapping}
+use Rattle.lba_ranges.specs.Denoted.{row, blocks_of, is_overlapping}
+use Rattle.lba_ranges.specs.inner.Denoted.{meets}
 use Rattle.lba_ranges.specs.Writings.{Held, paired, after}
 use Rattle.lba_ranges.specs.declared.fill.Piece.{Piece}
 use Rattle.lba_ranges.specs.declared.ranges.Range.{Range}
-use Rattle.lba_ranges.proofs.Rows.{blocks_of-push, take-get, length-row}
-use Rattle.lba_ranges.proofs.Overlaps.{overlapping-cons}
-use Rattle.lba_ranges.proofs.Cells.{length-filled}
-use Rattle.lba_ranges.proofs.WritingLemmas.{after-append}
+use Rattle.lba_ranges.proofs.PublicLaws.{blocks_of-push, take-get, length-row, overlapping-cons, length-filled, after-append}
 use Rattle.lun_extents.specs.declared.runs.Filling.{Filling}
 use Rattle.lun_extents.specs.Extents.{stored}
 use Rattle.lun_extents.specs.inner.Runs.{ranges_of, items_of_runs, AreRuns, IsSplitAt}

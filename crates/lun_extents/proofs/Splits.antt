@@ -7,7 +7,7 @@ use Rattle.std.proofs.lemmas.Bool.{cases_lt}
 use Rattle.std.proofs.lemmas.Bool.Decides.{nat_tests}
 use Rattle.lba_ranges.specs.HeldBlocks.{filled, held_at}
 use Rattle.lba_ranges.specs.declared.fill.Piece.{Piece}
-use Rattle.lba_ranges.proofs.Cells.{length-filled}
+use Rattle.lba_ranges.proofs.PublicLaws.{length-filled}
 use Rattle.lun_extents.specs.Extents.{held_from, held_or}
 use Rattle.lun_extents.proofs.Nearest.{IsRun, run-inside, run-below, run-above, from-nearest, from-before, same-below, changed-one}
 use Rattle.lun_extents.proofs.Places.{held_at-over, held_at-part}

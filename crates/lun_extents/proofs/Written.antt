@@ -7,8 +7,7 @@ use Rattle.lba_ranges.specs.HeldBlocks.{filled, held_at}
 use Rattle.lba_ranges.specs.Denoted.{row}
 use Rattle.lba_ranges.specs.Writings.{Held, paired, unmapped, after}
 use Rattle.lba_ranges.specs.declared.fill.Piece.{Piece}
-use Rattle.lba_ranges.proofs.Cells.{length-filled, held_at-hole}
-use Rattle.lba_ranges.proofs.WritingLemmas.{after-unmapped_row}
+use Rattle.lba_ranges.proofs.PublicLaws.{length-filled, held_at-hole, after-unmapped_row}
 use Rattle.lun_extents.specs.Extents.{held_or, held_from}
 use Rattle.lun_extents.specs.inner.Extents.{emptied}
 use Rattle.lun_extents.proofs.Nearest.{IsRun, run-inside, run-below, run-above, same-below, same-above}

@@ -15,7 +15,7 @@ use Rattle.std.proofs.lemmas.Bool.Decides.{nat_tests}
 use Rattle.lba_ranges.specs.HeldBlocks.{AllSized}
 use Rattle.lba_ranges.specs.Writings.{Held, Writing, paired, unmapped, after, mapped_below, mapped_among, is_written}
 use Rattle.lba_ranges.specs.Denoted.{row}
-use Rattle.lba_ranges.proofs.WritingLemmas.{one_if, mapped-none, mapped-set}
+use Rattle.lba_ranges.proofs.PublicLaws.{one_if, mapped-none, mapped-set}
 use Rattle.lun_plain.specs.Plain.{stored}
 use Rattle.lun_plain.specs.inner.Plain.{IsPlain, seen, is_among}
 

@@ -5,7 +5,7 @@ use Rattle.std.proofs.lemmas.Bool.Decides.{nat_tests}
 use Rattle.std.proofs.lemmas.Bool.{ne_eqb, cases_lt}
 use Rattle.std.proofs.lemmas.List.Folds.{list_any_more}
 use borrow.Author.Count.{below_more}
-use Rattle.lba_ranges.proofs.WritingLemmas.{differs-at, after-unmapped_row}
+use Rattle.lba_ranges.proofs.PublicLaws.{differs-at, after-unmapped_row}
 use Rattle.lba_ranges.specs.Denoted.{row}
 use Rattle.lba_ranges.specs.Writings.{unmapped, after}
 use Rattle.lun_plain.specs.Plain.{stored}

@@ -12,15 +12,7 @@ use Rattle.cm_history.specs.declared.act.Act.{Act}
 use Rattle.cm_history.specs.Limits.{within_limits}
 use Rattle.cmd_program.specs.SingleActs.{act_alone, blocks_in}
 use Rattle.lba_ranges.specs.HeldBlocks.{HeldBlocks, cut}
-
-pub length-cut : (size n : ℕ) (bytes : List ℕ) → length (cut size n bytes) ≡ n
-length-cut size zero bytes = refl
-length-cut size (suc n) bytes = ap suc (length-cut size n (drop size bytes))
-
--- each of them is mapped
-pub cut-mapped : (size n : ℕ) (bytes : List ℕ) → list_all is_some (cut size n bytes) ≡ true
-cut-mapped size zero bytes = refl
-cut-mapped size (suc n) bytes = cut-mapped size n (drop size bytes)
+use Rattle.lba_ranges.proofs.PublicLaws.{length-cut, mapped-cut as cut-mapped}
 
 pub count-of : (size n all : ℕ) → 0 < size → all ≡ n * size → all / size ≡ n
 count-of size n all some is = div-eq_of_eq-mul_left some is

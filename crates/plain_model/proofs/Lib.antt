@@ -4,3 +4,4 @@ pub mod Sizes
 pub mod Sound
 pub mod Steps
 pub mod Within
+pub mod PublicLaws

@@ -5,11 +5,9 @@ use Rattle.std.proofs.lemmas.List.{reverse-append, take_more, map-append, take-a
 use Rattle.lba_ranges.specs.HeldBlocks.{held_at}
 use Rattle.lba_ranges.specs.Denoted.{row}
 use Rattle.lba_ranges.specs.Writings.{Held, after, paired, unmapped}
-use Rattle.lba_ranges.proofs.Cells.{take-held}
-use Rattle.lba_ranges.proofs.Rows.{length-row, row-push}
-use Rattle.lba_ranges.proofs.WritingLemmas.{after-append, paired-push, unmapped-append}
+use Rattle.lba_ranges.proofs.PublicLaws.{take-held, length-row, row-push, after-append, paired-push, unmapped-append}
 use Rattle.plain_model.specs.declared.writings.PlainWriting.{PlainWriting}
-use Rattle.plain_model.specs.Writings.{writing_of}
+use Rattle.plain_model.specs.inner.Writings.{writing_of}
 use Rattle.cm_history.specs.Deeds.{Deed}
 use Rattle.cm_history.specs.Operations.{written_by}
 

@@ -7,7 +7,7 @@ use Rattle.lba_ranges.specs.Denoted.{blocks_of}
 use Rattle.lba_ranges.specs.Writings.{Held, paired}
 use Rattle.cm_history.specs.declared.act.Act.{Act}
 use Rattle.cm_history.specs.Operations.{Operation, list_of}
-use Rattle.plain_model.specs.Holds.{IsSoundAct, IsSoundOperation, AllSound}
+use Rattle.plain_model.specs.inner.Holds.{IsSoundAct, IsSoundOperation, AllSound}
 
 pub length-paired : (bs : List ℕ) (xs : List Held) → length (paired bs xs) ≡ min (length bs) (length xs)
 length-paired [] xs = omega arith

@@ -18,14 +18,8 @@ use Rattle.cm_history.specs.Limits.{within_limits, fits_unit}
 use Rattle.cm_history.specs.Tokens.{Token, Live, tokens, token_after, made_token}
 use Rattle.cm_history.specs.Operations.{Operation, operations, operation_after, made_operation, makes_operation, list_of, written, is_failure, would_serve, running, is_running, fits}
 use Rattle.cm_history.specs.Answers.{deed, writings, wrote_of, piece_of}
-use Rattle.plain_model.specs.Holds.{AreSized, AllWritingsSized, IsSizedPast, IsSizedAct}
-use Rattle.cm_history.proofs.Lists.{Each, Each-in, Each-by, Each-map, Each-append, In-filter, find-in}
-use Rattle.cm_history.proofs.Counts.{made-after}
-use Rattle.cm_history.proofs.Made.{token-kept}
-
-pub and_second : (a b : Bool) → (a && b) ≡ true → b ≡ true
-and_second true b e = e
-and_second false b e = cc
+use Rattle.plain_model.specs.inner.Holds.{AreSized, AllWritingsSized, IsSizedPast, IsSizedAct}
+use Rattle.cm_history.proofs.PublicLaws.{Each, Each-in, Each-by, Each-map, Each-append, In-filter, find-in, made-after, token-kept, and_second}
 
 -- ---- what blocks hold
 

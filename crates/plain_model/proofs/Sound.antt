@@ -6,7 +6,7 @@ use Rattle.cm_base.specs.Configuration.{Configuration}
 use Rattle.cm_base.specs.Units.{unit_of}
 use Rattle.lba_ranges.specs.declared.ranges.Range.{Range}
 use Rattle.lba_ranges.specs.Denoted.{total, is_within, is_overlapping}
-use Rattle.lba_ranges.proofs.Rows.{within-more}
+use Rattle.lba_ranges.proofs.PublicLaws.{within-more}
 use Rattle.cm_history.specs.declared.act.Act.{Act}
 use Rattle.cm_history.specs.declared.act.Actor.{Actor}
 use Rattle.cm_history.specs.declared.act.Entry.{Entry}
@@ -18,11 +18,9 @@ use Rattle.scsi_sense.specs.Codes.{operation_in_progress, lba_out_of_range, insu
 use Rattle.cm_history.specs.Tokens.{tokens}
 use Rattle.cm_history.specs.Operations.{Operation, OfToken, operations, operation_after, made_operation, makes_operation, is_making, kept, list_of, written}
 use Rattle.cm_history.specs.Answers.{answer_after, deed, is_busy, is_crowded}
-use Rattle.plain_model.specs.Holds.{MadeSound, IsSoundAct, IsSoundOperation, AllSound, MayFollow}
-use Rattle.cm_history.proofs.Lists.{In-map, Each, Each-in, Each-by, Each-map, Each-append}
-use Rattle.cm_history.proofs.Counts.{IsPast, IsBegun, begun, made-after}
-use Rattle.cm_history.proofs.Records.{kept_in, and_first}
-use Rattle.plain_model.proofs.Sizes.{Fits, AllFit, and_second}
+use Rattle.plain_model.specs.inner.Holds.{MadeSound, IsSoundAct, IsSoundOperation, AllSound, MayFollow}
+use Rattle.cm_history.proofs.PublicLaws.{In-map, Each, Each-in, Each-by, Each-map, Each-append, IsPast, IsBegun, begun, made-after, kept_in, and_first, and_second}
+use Rattle.plain_model.proofs.Sizes.{Fits, AllFit}
 
 numbers-within : (blocks : ℕ) (ranges : List Range) → blocks ≤ 2 ^ 64 → is_within blocks ranges ≡ true → IsTrue (is_within (2 ^ 64) ranges)
 numbers-within blocks ranges few inside = let far : is_within (2 ^ 64) ranges ≡ true = within-more blocks (2 ^ 64) ranges few inside in far

@@ -6,10 +6,9 @@ use Rattle.cm_history.specs.declared.act.Entry.{Entry}
 use Rattle.cm_history.specs.Deeds.{Deed}
 use Rattle.cm_history.specs.Answers.{deed}
 use Rattle.cm_history.specs.History.{past_of}
-use Rattle.plain_model.specs.Holds.{MayFollow, IsSizedPast}
-use Rattle.plain_model.specs.Pasts.{IsPlayed}
-use Rattle.cm_history.proofs.CountLaw.{past-is}
-use Rattle.cm_history.proofs.Made.{past_of-mine, past_of-other}
+use Rattle.plain_model.specs.inner.Holds.{MayFollow, IsSizedPast}
+use Rattle.plain_model.specs.inner.Pasts.{IsPlayed}
+use Rattle.cm_history.proofs.PublicLaws.{past-is, past_of-mine, past_of-other}
 use Rattle.plain_model.proofs.Sizes.{Fits, AllFit, deed-sized}
 use Rattle.plain_model.proofs.Sound.{may-follow}
 

@@ -4,8 +4,8 @@ ghost use Rattle.rod_token.specs.TokenText.{serial_of};
 ghost use Rattle.cm_history.specs.Deeds.{same_actor};
 ghost use Rattle.cm_history.specs.Tokens.{is_populate, is_delete_of, is_redeem_of};
 ghost use Rattle.cm_history.specs.Operations.{same_form, is_making, form_of, id_of, is_foreground, is_background};
-ghost use Rattle.plain_model.specs.Forms.{as_form};
-ghost use Rattle.plain_model.specs.Holds.{IsSizedAct};
+ghost use Rattle.plain_model.specs.inner.Forms.{as_form};
+ghost use Rattle.plain_model.specs.inner.Holds.{IsSizedAct};
 
 use cm_base::{get_u16, get_u32};
 use cm_history::{Act, Actor};

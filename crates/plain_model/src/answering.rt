@@ -2,7 +2,7 @@ ghost use Rattle.std.specs.Prelude.{◌≡◌, ◌<◌, length, true, IfOk};
 ghost use Rattle.cm_history.specs.History.{answer};
 ghost use Rattle.cm_history.specs.Limits.{within_limits};
 ghost use Rattle.plain_model.specs.Holds.{AreWithin};
-ghost use Rattle.plain_model.specs.Pasts.{IsPlayed};
+ghost use Rattle.plain_model.specs.inner.Pasts.{IsPlayed};
 
 use crate::acts;
 use crate::unit::PlainUnit;

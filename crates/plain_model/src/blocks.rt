@@ -3,11 +3,12 @@ ghost use Rattle.std.specs.Prelude.{◌≡◌, ◌+◌, ◌-◌, ◌<◌, ◌≤
 ghost use Rattle.std.specs.Option.{option_copied};
 ghost use Rattle.lba_ranges.specs.Denoted.{row, blocks_of};
 ghost use Rattle.lba_ranges.specs.Writings.{unmapped};
-ghost use Rattle.lba_ranges.specs.Status.{map_runs, IsRun};
+ghost use Rattle.lba_ranges.specs.Status.{map_runs};
+ghost use Rattle.lba_ranges.specs.inner.Status.{IsRun};
 ghost use Rattle.cm_history.specs.Blocks.{held, cut};
 ghost use Rattle.cm_history.specs.Answers.{put_at, answer_read, answer_write, answer_unmap, answer_status};
-ghost use Rattle.plain_model.specs.Holds.{AreSized};
-ghost use Rattle.plain_model.specs.Outcomes.{IsOutcome};
+ghost use Rattle.plain_model.specs.inner.Holds.{AreSized};
+ghost use Rattle.plain_model.specs.inner.Outcomes.{IsOutcome};
 
 use crate::deeds::PlainPast;
 use crate::outcome::PlainOutcome;

@@ -2,20 +2,17 @@ ghost use Rattle.std.specs.Prelude.{◌≡◌, ◌<◌, ◌≤◌, ◌++◌, ◌
 ghost use Rattle.cm_history.specs.Tokens.{is_populate};
 ghost use Rattle.cm_history.specs.Operations.{Operation, has_key, written, count, list_of, state, result_of, is_running, is_running_state, fits, next_piece, operation_after, made_operation, makes_operation, has_ended, same_key, without_first_ended, with_room, keep};
 ghost use Rattle.cm_history.specs.Answers.{serial_made, report_of};
-ghost use Rattle.plain_model.specs.Forms.{as_form};
-ghost use Rattle.plain_model.specs.Holds.{IsSoundAct, IsSoundOperation, AllSound};
+ghost use Rattle.plain_model.specs.inner.Forms.{as_form};
+ghost use Rattle.plain_model.specs.inner.Holds.{IsSoundAct, IsSoundOperation, AllSound};
 
 use crate::acts::{self, PlainForm};
 use crate::deeds::{PlainDeed, PlainPast};
 use crate::refusals;
 use crate::writings::PlainWritings;
 use cm_base::OutOfMemory;
-use cm_history::{Act, Actor, Answer, CopyEnd, CopyState, OpReport, OpState};
+use cm_history::{Act, Actor, Answer, CopyEnd, CopyState, OpReport, OpState, PIECE_BLOCKS};
 use std::alloc::Global;
 use std::marker::Model;
-
-/// Blocks of one piece.
-const PIECE_BLOCKS: usize = 1024;
 
 /// Records of operations that a unit keeps.
 const KEPT_RECORDS: usize = 256;
@@ -29,7 +26,7 @@ pub(crate) struct PlainOperation {
 
 impl Model for PlainOperation {
     ghost use Rattle.cm_history.specs.Operations.{Operation};
-    ghost use Rattle.plain_model.specs.Holds.{IsSoundOperation};
+    ghost use Rattle.plain_model.specs.inner.Holds.{IsSoundOperation};
 
     ghost Value = { Operation };
 
@@ -184,7 +181,7 @@ impl PlainOperation {
             Act::Start { ranges, rod, .. } => PlainWritings::paired(alloc, ranges, rod)?,
             _ => PlainWritings::new(alloc),
         };
-        list.part(alloc, self.written(), PIECE_BLOCKS)
+        list.part(alloc, self.written(), PIECE_BLOCKS as usize)
     }
 
     pub(crate) fn report(&self) -> OpReport

@@ -1,5 +1,5 @@
 ghost use Rattle.std.specs.Prelude.{◌≡◌, []};
-ghost use Rattle.plain_model.specs.Outcomes.{IsOutcome};
+ghost use Rattle.plain_model.specs.inner.Outcomes.{IsOutcome};
 
 use crate::writings::PlainWritings;
 use cm_history::Answer;

@@ -6,8 +6,8 @@ ghost use Rattle.cm_base.specs.Units.{unit_of};
 ghost use Rattle.cm_history.specs.Blocks.{held};
 ghost use Rattle.cm_history.specs.Tokens.{rod, is_live, is_over, is_live_at, is_older, gives_way, token_after, made_token};
 ghost use Rattle.cm_history.specs.Redeeming.{are_alike, fate_at, answer_by_fate, redeemed};
-ghost use Rattle.plain_model.specs.Holds.{AreSized, MadeSound, listed};
-ghost use Rattle.plain_model.specs.Fates.{fate_of};
+ghost use Rattle.plain_model.specs.inner.Holds.{AreSized, MadeSound, listed};
+ghost use Rattle.plain_model.specs.inner.Fates.{fate_of};
 
 use crate::blocks::cut;
 use crate::deeds::{PlainDeed, PlainPast};
@@ -47,8 +47,8 @@ impl Model for PlainToken {
 
     ghost Value = { Token };
 
-    ghost use Rattle.plain_model.specs.Fates.{fate_of};
-    ghost use Rattle.plain_model.specs.Holds.{IsSoundToken};
+    ghost use Rattle.plain_model.specs.inner.Fates.{fate_of};
+    ghost use Rattle.plain_model.specs.inner.Holds.{IsSoundToken};
 
     ghost view = { λ t. record { serial = t.serial; ranges = t.ranges; timeout = t.timeout; before = t.before; last_use = t.last_use; fate = fate_of t.fate } };
 

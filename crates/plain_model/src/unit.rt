@@ -8,9 +8,9 @@ ghost use Rattle.cm_history.specs.Deeds.{moment};
 ghost use Rattle.cm_history.specs.Limits.{within_limits};
 ghost use Rattle.cm_history.specs.Operations.{OfToken, OfCopy, has_key, kept, operations, running, would_serve};
 ghost use Rattle.cm_history.specs.Redeeming.{redeemed, named_token};
-ghost use Rattle.plain_model.specs.Forms.{as_form};
-ghost use Rattle.plain_model.specs.Holds.{IsSizedPast, MayFollow, writes};
-ghost use Rattle.plain_model.specs.Outcomes.{IsOutcome};
+ghost use Rattle.plain_model.specs.inner.Forms.{as_form};
+ghost use Rattle.plain_model.specs.inner.Holds.{IsSizedPast, MayFollow, writes};
+ghost use Rattle.plain_model.specs.inner.Outcomes.{IsOutcome};
 ghost use Rattle.cm_history.specs.Tokens.{tokens};
 
 use crate::acts::{self, PlainForm};
@@ -48,7 +48,7 @@ impl Model for PlainUnit {
 
     ghost Value = { List Deed };
 
-    ghost use Rattle.plain_model.specs.Holds.{ComesOf};
+    ghost use Rattle.plain_model.specs.inner.Holds.{ComesOf};
 
     ghost view = { λ u. u.past };
 

@@ -29,7 +29,7 @@ impl Model for PlainWritings {
 
     ghost Value = { List Writing };
 
-    ghost use Rattle.plain_model.specs.Writings.{writing_of};
+    ghost use Rattle.plain_model.specs.inner.Writings.{writing_of};
 
     ghost view = { λ w. map writing_of w.writings.items };
 }

@@ -3,9 +3,9 @@ use Rattle.std.proofs.Common.{◌≡◌, ℕ, ◌+◌, ◌≤◌, List, map, ref
 use Rattle.std.specs.Prelude.{Option, IsSome, is_some}
 use Rattle.std.specs.List.{list_any}
 use Rattle.rod_store.specs.declared.kept.Kept.{Kept}
-use Rattle.rod_store.specs.declared.kept.Standing.TheVariants.{Expired}
+use Rattle.rod_store.specs.declared.kept.TokenState.TheVariants.{Expired}
 use Rattle.rod_store.specs.Kept.{IsPlaced, is_over_at, value_of, value_in, value_at, end_at, first, first_value, expired, expire_first}
-use Rattle.rod_store.specs.Store.{serial_in}
+use Rattle.rod_store.specs.inner.Store.{serial_in}
 use Rattle.rod_store.proofs.Places.{first-at, any-implies}
 use Rattle.rod_store.proofs.Endings.{over-live, live-value, not_over-earlier, expire_first-end, expire_first-none, expired-none, expired-first, first-any, any-first}
 
@@ -28,10 +28,10 @@ module _ {T : Type 0} where
           let place : t.serial ≡ 0 + at.0 = at.1 in
           let same : at.0 ≡ serial = omega arith in
           let found : slice_get tokens serial ≡ Some t = subst (λ k. slice_get tokens k ≡ Some t) same at.2 in
-          let read : value_at serial tokens ≡ value_of t.standing = ap value_in found in
+          let read : value_at serial tokens ≡ value_of t.state = ap value_in found in
           let ends : map (end_at Expired serial) tokens ≡ expire_first now tokens = subst (λ s. map (end_at Expired s) tokens ≡ expire_first now tokens) mine (expire_first-end now 0 tokens placed t e) in
           record {
-            lives = ap is_some read ∙ live-value t.standing ∙ over-live now t.standing at.3;
+            lives = ap is_some read ∙ live-value t.state ∙ over-live now t.state at.3;
             value = ap value_in e ∙ sym read;
             ends = ends;
             same = ap (expired now) ends ∙ expired-first now tokens;
@@ -51,7 +51,7 @@ module _ {T : Type 0} where
   }
 
   pub none_earlier : (tokens : List (Kept T)) (later now : ℕ) → now ≤ later → list_any (is_over_at later) tokens ≡ false → NoneExpires tokens now
-  none_earlier tokens later now low none = none_expires tokens now (any-implies (is_over_at later) (is_over_at now) (λ x e. not_over-earlier later now low x.standing e) tokens none)
+  none_earlier tokens later now low none = none_expires tokens now (any-implies (is_over_at later) (is_over_at now) (λ x e. not_over-earlier later now low x.state e) tokens none)
 
   pub none_found : (tokens : List (Kept T)) (now : ℕ) → None ≡ serial_in (first (is_over_at now) tokens) → NoneExpires tokens now
   none_found tokens now is = none_expires tokens now (any-first (is_over_at now) tokens (go (first (is_over_at now) tokens) is))

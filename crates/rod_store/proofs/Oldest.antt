@@ -6,9 +6,9 @@ use Rattle.std.specs.List.{list_all}
 use Rattle.std.proofs.lemmas.Bool.Decides.{nat_tests}
 use Rattle.cm_history.specs.Bounds.{live_tokens}
 use Rattle.rod_store.specs.declared.kept.Kept.{Kept}
-use Rattle.rod_store.specs.declared.kept.Standing.TheVariants.{Evicted}
-use Rattle.rod_store.specs.Kept.{IsPlaced, is_live, live, used_last, is_older, makes_room, evict_if, evicted_value, end_at, value_at, first}
-use Rattle.rod_store.specs.Store.{IsOldest}
+use Rattle.rod_store.specs.declared.kept.TokenState.TheVariants.{Evicted}
+use Rattle.rod_store.specs.Kept.{IsPlaced, is_live, live, used_last, is_older, gives_way, evict_if, evicted_value, end_at, value_at, first}
+use Rattle.rod_store.specs.inner.Store.{IsOldest}
 use Rattle.rod_store.proofs.Places.{next, placed-front, map-agree, map-same, first-is, first-none, all-more, all-implies}
 use Rattle.rod_store.proofs.Endings.{end_at-is, end_at-other}
 use Rattle.std.proofs.lemmas.List.{take_all}
@@ -32,29 +32,29 @@ older-both a s b t e f = grind (arith, nat_tests)
 
 module _ {T : Type 0} where
   pub is_older-self : (t : Kept T) → is_older t t ≡ true
-  is_older-self t = older-self (used_last t.standing) t.serial
+  is_older-self t = older-self (used_last t.state) t.serial
 
   pub is_older-else : (t other : Kept T) → is_older t other ≡ false → is_older other t ≡ true
-  is_older-else t other e = older-else (used_last t.standing) t.serial (used_last other.standing) other.serial e
+  is_older-else t other e = older-else (used_last t.state) t.serial (used_last other.state) other.serial e
 
   pub is_older-next : (t other third : Kept T) → is_older t other ≡ true → is_older other third ≡ true → is_older t third ≡ true
-  is_older-next t other third e f = older-next (used_last t.standing) t.serial (used_last other.standing) other.serial (used_last third.standing) third.serial e f
+  is_older-next t other third e f = older-next (used_last t.state) t.serial (used_last other.state) other.serial (used_last third.state) third.serial e f
 
   is_older-both : (t other : Kept T) → is_older t other ≡ true → is_older other t ≡ true → t.serial ≡ other.serial
-  is_older-both t other e f = older-both (used_last t.standing) t.serial (used_last other.standing) other.serial e f
+  is_older-both t other e f = older-both (used_last t.state) t.serial (used_last other.state) other.serial e f
 
   full : (tokens : List (Kept T)) → length (live tokens) ≡ live_tokens → (length (live tokens) == live_tokens) ≡ true
   full tokens many = grind (arith, nat_tests)
 
   -- the oldest makes room where 64 are live
-  oldest-makes : (tokens : List (Kept T)) (place : ℕ) → length (live tokens) ≡ live_tokens → (o : IsOldest tokens place) → makes_room tokens o.token ≡ true
+  oldest-makes : (tokens : List (Kept T)) (place : ℕ) → length (live tokens) ≡ live_tokens → (o : IsOldest tokens place) → gives_way tokens o.token ≡ true
   oldest-makes tokens place many o = rw (o.lives, full tokens many, o.oldest) refl
 
   -- and no other
-  others-stay : (tokens : List (Kept T)) (place : ℕ) → (o : IsOldest tokens place) → (k : ℕ) (x : Kept T) → slice_get tokens k ≡ Some x → x.serial ≢ o.token.serial → makes_room tokens x ≡ false
-  others-stay tokens place o k x found other = go (is_live x.standing) refl (length (live tokens) == live_tokens) (list_all (is_older x) (live tokens)) refl
+  others-stay : (tokens : List (Kept T)) (place : ℕ) → (o : IsOldest tokens place) → (k : ℕ) (x : Kept T) → slice_get tokens k ≡ Some x → x.serial ≢ o.token.serial → gives_way tokens x ≡ false
+  others-stay tokens place o k x found other = go (is_live x.state) refl (length (live tokens) == live_tokens) (list_all (is_older x) (live tokens)) refl
     where
-      go : (a : Bool) → is_live x.standing ≡ a → (b : Bool) → (c : Bool) → list_all (is_older x) (live tokens) ≡ c → (a && (b && c)) ≡ false
+      go : (a : Bool) → is_live x.state ≡ a → (b : Bool) → (c : Bool) → list_all (is_older x) (live tokens) ≡ c → (a && (b && c)) ≡ false
       go false e b c f = refl
       go true e false c f = refl
       go true e true false f = refl
@@ -77,8 +77,8 @@ module _ {T : Type 0} where
       go k x found (inl e) =
           let mine : slice_get tokens place ≡ Some x = subst (λ j. slice_get tokens j ≡ Some x) e found in
           let same : o.token ≡ x = let f = o.found in grind arith in
-          let makes : makes_room tokens x ≡ true = rw (← same) (oldest-makes tokens place many o) in
-          let lives : is_live x.standing ≡ true = rw (← same) o.lives in
+          let makes : gives_way tokens x ≡ true = rw (← same) (oldest-makes tokens place many o) in
+          let lives : is_live x.state ≡ true = rw (← same) o.lives in
           let here : x.serial ≡ place = rw (← same) at in
           rw (makes, end_at-is Evicted place x lives here) refl
       go k x found (inr ne) =
@@ -90,14 +90,14 @@ module _ {T : Type 0} where
   pub evicted-first : (tokens : List (Kept T)) (place : ℕ) → IsPlaced 0 tokens → length (live tokens) ≡ live_tokens → IsOldest tokens place
       → evicted_value tokens ≡ value_at place tokens
   evicted-first tokens place placed many o =
-      let first_one : first (makes_room tokens) tokens ≡ Some o.token =
-      first-is (makes_room tokens) tokens place o.token o.found (oldest-makes tokens place many o)
+      let first_one : first (gives_way tokens) tokens ≡ Some o.token =
+      first-is (gives_way tokens) tokens place o.token o.found (oldest-makes tokens place many o)
       (λ j x found ne. others-stay tokens place o j x found (λ e. ne (sym (placed-front tokens placed j x found) ∙ e ∙ placed-front tokens placed place o.token o.found))) in
       rw (first_one, o.found) refl
 
   -- where fewer are live, none makes room
-  few-stay : (tokens : List (Kept T)) → length (live tokens) < live_tokens → (x : Kept T) → makes_room tokens x ≡ false
-  few-stay tokens few x = let not_full : (length (live tokens) == live_tokens) ≡ false = grind (arith, nat_tests) in rw not_full (go (is_live x.standing))
+  few-stay : (tokens : List (Kept T)) → length (live tokens) < live_tokens → (x : Kept T) → gives_way tokens x ≡ false
+  few-stay tokens few x = let not_full : (length (live tokens) == live_tokens) ≡ false = grind (arith, nat_tests) in rw not_full (go (is_live x.state))
     where
       go : (a : Bool) → (a && false) ≡ false
       go true = refl
@@ -107,13 +107,13 @@ module _ {T : Type 0} where
   evict-none tokens few = map-same (evict_if tokens) tokens (λ k x found. rw (few-stay tokens few x) refl)
 
   pub evicted-none : (tokens : List (Kept T)) → length (live tokens) < live_tokens → evicted_value tokens ≡ None
-  evicted-none tokens few = rw (first-none (makes_room tokens) tokens (λ k x found. few-stay tokens few x)) refl
+  evicted-none tokens few = rw (first-none (gives_way tokens) tokens (λ k x found. few-stay tokens few x)) refl
 
   -- the live token at this place is the oldest of those that were passed
   pub record OldestSoFar (tokens : List (Kept T)) (passed place : ℕ) : Type 0 where
     pub token : Kept T
     pub found : slice_get tokens place ≡ Some token
-    pub lives : is_live token.standing ≡ true
+    pub lives : is_live token.state ≡ true
     pub oldest : list_all (is_older token) (take passed (live tokens)) ≡ true
 
   pub oldest-all : (tokens : List (Kept T)) (passed place : ℕ) → length (live tokens) ≤ passed → OldestSoFar tokens passed place → IsOldest tokens place

@@ -7,15 +7,15 @@ use Rattle.std.proofs.lemmas.List.{length-append, length-map}
 use Rattle.std.proofs.lemmas.List.Folds.{list_any-append}
 use Rattle.cm_history.specs.Bounds.{live_tokens}
 use Rattle.rod_store.specs.declared.kept.Kept.{Kept}
-use Rattle.rod_store.specs.declared.kept.Standing.{Standing}
+use Rattle.rod_store.specs.declared.kept.TokenState.{TokenState}
 use Rattle.rod_store.specs.Kept.{IsPlaced, is_live, is_over, is_over_at, live, value_of, value_in, value_at, end_at, use_at, with_use, used}
-use Rattle.rod_store.specs.Store.{serials, IsStored}
+use Rattle.rod_store.specs.inner.Store.{serials, IsStored}
 use Rattle.rod_store.proofs.Places.{same_or_not, map-same, placed-push, placed-map, placed-front, map-set_at, any-set, any-implies}
 use Rattle.rod_store.proofs.Endings.{live-value, ended-not_over, not_over-earlier, end_at-is, end_at-ended, end_at-other, end_at-serial, serials-end, fewer-end, use_at-is, use_at-other, use_at-serial, serials-used, live-push, serials-push}
 
 module _ {T : Type 0} where
   none-earlier : (now earlier : ℕ) → earlier ≤ now → (tokens : List (Kept T)) → list_any (is_over_at now) tokens ≡ false → list_any (is_over_at earlier) tokens ≡ false
-  none-earlier now earlier low tokens none = any-implies (is_over_at now) (is_over_at earlier) (λ x e. not_over-earlier now earlier low x.standing e) tokens none
+  none-earlier now earlier low tokens none = any-implies (is_over_at now) (is_over_at earlier) (λ x e. not_over-earlier now earlier low x.state e) tokens none
 
   -- ---- the token of a serial
 
@@ -23,16 +23,16 @@ module _ {T : Type 0} where
   pub record LivesAt (tokens : List (Kept T)) (serial : ℕ) : Type 0 where
     pub token : Kept T
     pub found : slice_get tokens serial ≡ Some token
-    pub lives : is_live token.standing ≡ true
+    pub lives : is_live token.state ≡ true
 
   pub lives_at : (tokens : List (Kept T)) (serial : ℕ) → IsSome (value_at serial tokens) → LivesAt tokens serial
   lives_at tokens serial some = go (slice_get tokens serial) refl some
     where
       go : (o : Option (Kept T)) → slice_get tokens serial ≡ o → IsSome (value_in o) → LivesAt tokens serial
       go None e present = absurd (true≢false (sym present))
-      go (Some t) e present = record { token = t; found = e; lives = sym (live-value t.standing) ∙ present }
+      go (Some t) e present = record { token = t; found = e; lives = sym (live-value t.state) ∙ present }
 
-  pub value-at : (tokens : List (Kept T)) (serial : ℕ) (t : Kept T) → slice_get tokens serial ≡ Some t → value_at serial tokens ≡ value_of t.standing
+  pub value-at : (tokens : List (Kept T)) (serial : ℕ) (t : Kept T) → slice_get tokens serial ≡ Some t → value_at serial tokens ≡ value_of t.state
   value-at tokens serial t found = ap value_in found
 
   -- what is read at the serial
@@ -42,28 +42,28 @@ module _ {T : Type 0} where
   -- ---- one more token
 
   pub stored-push : (tokens : List (Kept T)) (own_serials : List ℕ) (own_moment less : ℕ) (y : Kept T) → IsStored tokens own_serials own_moment
-      → length (live tokens) < live_tokens → y.serial ≡ length tokens → length tokens < 2 ^ 48 → is_live y.standing ≡ true → less ≤ own_moment → is_over less y.standing ≡ false
+      → length (live tokens) < live_tokens → y.serial ≡ length tokens → length tokens < 2 ^ 48 → is_live y.state ≡ true → less ≤ own_moment → is_over less y.state ≡ false
       → IsStored (tokens ++ y ∷ []) (own_serials ++ y.serial ∷ []) less
   stored-push tokens own_serials own_moment less y is few serial count lives low within = record {
     placed = placed-push 0 tokens y is.placed (let e : length tokens ≡ 0 + length tokens = omega arith in serial ∙ e);
     count = omega (arith, length-append tokens (y ∷ []));
-    living = ap (λ l. l ++ y.serial ∷ []) is.living ∙ sym (serials-push tokens y lives);
+    live_serials = ap (λ l. l ++ y.serial ∷ []) is.live_serials ∙ sym (serials-push tokens y lives);
     few = subst (λ l. length l ≤ live_tokens) (sym (live-push tokens y lives)) (omega (arith, length-append (live tokens) (y ∷ [])));
-    soonest = list_any-append (is_over_at less) tokens (y ∷ []) ∙ rw (none-earlier own_moment less low tokens is.soonest, within) refl;
+    next_expiry = list_any-append (is_over_at less) tokens (y ∷ []) ∙ rw (none-earlier own_moment less low tokens is.next_expiry, within) refl;
   }
 
   -- ---- a token ends
 
   -- the one write is the map
-  pub end-set : (tokens : List (Kept T)) → IsPlaced 0 tokens → (ending : Standing T) (serial : ℕ) (t : Kept T) → slice_get tokens serial ≡ Some t → is_live t.standing ≡ true
-      → set tokens serial (record t { standing = ending }) ≡ map (end_at ending serial) tokens
+  pub end-set : (tokens : List (Kept T)) → IsPlaced 0 tokens → (ending : TokenState T) (serial : ℕ) (t : Kept T) → slice_get tokens serial ≡ Some t → is_live t.state ≡ true
+      → set tokens serial (record t { state = ending }) ≡ map (end_at ending serial) tokens
   end-set tokens placed ending serial t found lives =
       let at : t.serial ≡ serial = placed-front tokens placed serial t found in
-      let step : end_at ending serial t ≡ record t { standing = ending } = end_at-is ending serial t lives at in
+      let step : end_at ending serial t ≡ record t { state = ending } = end_at-is ending serial t lives at in
       ap (set tokens serial) (sym step) ∙ map-set_at (end_at ending serial) serial (end_at-other ending serial) 0 tokens placed serial t (omega arith) found
 
   pub stored-end : (tokens : List (Kept T)) (own_serials : List ℕ) (own_moment : ℕ) → IsStored tokens own_serials own_moment
-      → (ending : Standing T) → is_live ending ≡ false → (serial : ℕ) (t : Kept T) → slice_get tokens serial ≡ Some t → is_live t.standing ≡ true
+      → (ending : TokenState T) → is_live ending ≡ false → (serial : ℕ) (t : Kept T) → slice_get tokens serial ≡ Some t → is_live t.state ≡ true
       → IsStored (map (end_at ending serial) tokens) (filter (λ other. not (other == serial)) own_serials) own_moment
   stored-end tokens own_serials own_moment is ending ends serial t found lives =
       let fewer = fewer-end ending ends serial 0 tokens is.placed serial t (omega arith) found lives in
@@ -71,35 +71,35 @@ module _ {T : Type 0} where
       record {
         placed = placed-map (end_at ending serial) (end_at-serial ending serial) 0 tokens is.placed;
         count = subst (λ n. n ≤ 2 ^ 48) (sym (length-map tokens (end_at ending serial))) is.count;
-        living = ap (filter (λ other. not (other == serial))) is.living ∙ serials-end ending ends serial tokens;
+        live_serials = ap (filter (λ other. not (other == serial))) is.live_serials ∙ serials-end ending ends serial tokens;
         few = omega arith;
-        soonest = ap (list_any (is_over_at own_moment)) (sym (end-set tokens is.placed ending serial t found lives))
-            ∙ any-set (is_over_at own_moment) tokens serial (record t { standing = ending }) is.soonest (ended-not_over own_moment ending ends);
+        next_expiry = ap (list_any (is_over_at own_moment)) (sym (end-set tokens is.placed ending serial t found lives))
+            ∙ any-set (is_over_at own_moment) tokens serial (record t { state = ending }) is.next_expiry (ended-not_over own_moment ending ends);
       }
 
   -- nothing ends where the serial has no live token
-  pub end-none : (tokens : List (Kept T)) → IsPlaced 0 tokens → (ending : Standing T) (serial : ℕ) → is_some (value_at serial tokens) ≡ false → map (end_at ending serial) tokens ≡ tokens
+  pub end-none : (tokens : List (Kept T)) → IsPlaced 0 tokens → (ending : TokenState T) (serial : ℕ) → is_some (value_at serial tokens) ≡ false → map (end_at ending serial) tokens ≡ tokens
   end-none tokens placed ending serial none = map-same (end_at ending serial) tokens (λ k x found. go k x found (same_or_not k serial))
     where
       go : (k : ℕ) (x : Kept T) → slice_get tokens k ≡ Some x → (k ≡ serial) ⊎ (k ≢ serial) → end_at ending serial x ≡ x
       go k x found (inl e) =
-          let read : value_at serial tokens ≡ value_of x.standing = ap value_in (subst (λ j. slice_get tokens j ≡ Some x) e found) in
-          end_at-ended ending serial x (sym (live-value x.standing) ∙ sym (ap is_some read) ∙ none)
+          let read : value_at serial tokens ≡ value_of x.state = ap value_in (subst (λ j. slice_get tokens j ≡ Some x) e found) in
+          end_at-ended ending serial x (sym (live-value x.state) ∙ sym (ap is_some read) ∙ none)
       go k x found (inr ne) =
           let here : x.serial ≡ k = placed-front tokens placed k x found in
           end_at-other ending serial x (λ e. ne (sym here ∙ e))
 
   -- ---- a token is used
 
-  pub use-set : (tokens : List (Kept T)) → IsPlaced 0 tokens → (serial moment : ℕ) (t : Kept T) → slice_get tokens serial ≡ Some t → is_live t.standing ≡ true
-      → set tokens serial (record t { standing = with_use moment t.standing }) ≡ used serial moment tokens
+  pub use-set : (tokens : List (Kept T)) → IsPlaced 0 tokens → (serial moment : ℕ) (t : Kept T) → slice_get tokens serial ≡ Some t → is_live t.state ≡ true
+      → set tokens serial (record t { state = with_use moment t.state }) ≡ used serial moment tokens
   use-set tokens placed serial moment t found lives =
       let at : t.serial ≡ serial = placed-front tokens placed serial t found in
-      let step : use_at serial moment t ≡ record t { standing = with_use moment t.standing } = use_at-is serial moment t lives at in
+      let step : use_at serial moment t ≡ record t { state = with_use moment t.state } = use_at-is serial moment t lives at in
       ap (set tokens serial) (sym step) ∙ map-set_at (use_at serial moment) serial (use_at-other serial moment) 0 tokens placed serial t (omega arith) found
 
   pub stored-use : (tokens : List (Kept T)) (own_serials : List ℕ) (own_moment less : ℕ) → IsStored tokens own_serials own_moment
-      → (serial moment : ℕ) (t : Kept T) → slice_get tokens serial ≡ Some t → is_live t.standing ≡ true → less ≤ own_moment → is_over less (with_use moment t.standing) ≡ false
+      → (serial moment : ℕ) (t : Kept T) → slice_get tokens serial ≡ Some t → is_live t.state ≡ true → less ≤ own_moment → is_over less (with_use moment t.state) ≡ false
       → IsStored (used serial moment tokens) own_serials less
   stored-use tokens own_serials own_moment less is serial moment t found lives low within =
       let same : serials (live (used serial moment tokens)) ≡ serials (live tokens) = serials-used serial moment tokens in
@@ -108,8 +108,8 @@ module _ {T : Type 0} where
       record {
         placed = placed-map (use_at serial moment) (use_at-serial serial moment) 0 tokens is.placed;
         count = subst (λ n. n ≤ 2 ^ 48) (sym (length-map tokens (use_at serial moment))) is.count;
-        living = is.living ∙ sym same;
+        live_serials = is.live_serials ∙ sym same;
         few = subst (λ n. n ≤ live_tokens) (sym many) is.few;
-        soonest = ap (list_any (is_over_at less)) (sym (use-set tokens is.placed serial moment t found lives))
-            ∙ any-set (is_over_at less) tokens serial (record t { standing = with_use moment t.standing }) (none-earlier own_moment less low tokens is.soonest) within;
+        next_expiry = ap (list_any (is_over_at less)) (sym (use-set tokens is.placed serial moment t found lives))
+            ∙ any-set (is_over_at less) tokens serial (record t { state = with_use moment t.state }) (none-earlier own_moment less low tokens is.next_expiry) within;
       }

@@ -1,9 +1,6 @@
 -- A store of tokens, as contracts see it, and what it keeps
-use Rattle.std.specs.Prelude.{◌≡◌, ℕ, ◌+◌, ◌≤◌, ◌^◌, List, map, length, true, false, Option, Some, None, slice_get}
-use Rattle.std.specs.List.{list_any, list_all}
-use Rattle.cm_history.specs.Bounds.{live_tokens}
+use Rattle.std.specs.Prelude.{ℕ, List}
 use Rattle.rod_store.specs.declared.kept.Kept.{Kept}
-use Rattle.rod_store.specs.Kept.{is_live, is_over_at, is_older, live, IsPlaced}
 
 pub record Store (T : Type 0) : Type 0 where
   pub unit : ℕ
@@ -13,29 +10,3 @@ pub record Store (T : Type 0) : Type 0 where
   pub spare : ℕ
 
 module _ {T : Type 0} where
-  abbrev pub serials : List (Kept T) → List ℕ
-  serials tokens = map (λ (t : Kept T). t.serial) tokens
-
-  abbrev pub serial_in : Option (Kept T) → Option ℕ
-  serial_in None = None
-  serial_in (Some t) = Some t.serial
-
-  -- a live token stands at the place, and none was used less lately
-  pub record IsOldest (tokens : List (Kept T)) (place : ℕ) : Type 0 where
-    pub token : Kept T
-    pub found : slice_get tokens place ≡ Some token
-    pub lives : is_live token.standing ≡ true
-    pub oldest : list_all (is_older token) (live tokens) ≡ true
-
-  -- the serials of the live tokens, by rising serial, and a moment at which no time is over
-  pub record IsStored (tokens : List (Kept T)) (own_serials : List ℕ) (own_moment : ℕ) : Type 0 where
-    pub placed : IsPlaced 0 tokens
-    pub count : length tokens ≤ 2 ^ 48
-    pub living : own_serials ≡ serials (live tokens)
-    pub few : length (live tokens) ≤ live_tokens
-    pub soonest : list_any (is_over_at own_moment) tokens ≡ false
-
--- room for more tokens, and for the serials of all that can be live
-pub record HasRoom (count spare capacity live_capacity : ℕ) : Type 0 where
-  pub tokens : count + spare ≤ capacity
-  pub living : live_tokens ≤ live_capacity

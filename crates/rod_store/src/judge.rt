@@ -3,9 +3,9 @@ ghost use Rattle.std.specs.Prelude.{◌≡◌, ◌<◌, ◌^◌, length, IfOk, I
 ghost use Rattle.cm_base.specs.Units.{unit_of};
 ghost use Rattle.cm_history.specs.Redeeming.{are_alike};
 ghost use Rattle.rod_token.specs.TokenText.{is_named, serial_of};
-ghost use Rattle.rod_store.specs.Judging.{judged_standing, judged_token};
+ghost use Rattle.rod_store.specs.Judging.{judged_state, judged_token};
 
-use crate::kept::{Kept, Standing};
+use crate::kept::{Kept, TokenState};
 use cm_base::Config;
 use rod_token::TokenKind;
 use scsi_sense::Sense;
@@ -34,18 +34,18 @@ fn are_alike(config: &Config, unit: u16, target: u16) -> bool
 }
 
 /// What stands for the token at the moment.
-fn judge_standing<K>(standing: &Standing<K>, moment: u64) -> Result<&K, Sense>
-    ensures ok { IfOk result (λ value. judged_standing moment standing.now ≡ Ok value.now) }
-    ensures err { IfErr result (λ sense. judged_standing moment standing.now ≡ Err sense) }
+fn judge_state<K>(state: &TokenState<K>, moment: u64) -> Result<&K, Sense>
+    ensures ok { IfOk result (λ value. judged_state moment state.now ≡ Ok value.now) }
+    ensures err { IfErr result (λ sense. judged_state moment state.now ≡ Err sense) }
 {
-    if standing.is_over(moment) {
+    if state.is_over(moment) {
         return Err(Sense::token_expired());
     }
-    match standing {
-        Standing::Live { value, .. } => Ok(value),
-        Standing::Expired => Err(Sense::token_expired()),
-        Standing::Evicted => Err(Sense::token_cancelled()),
-        Standing::Deleted => Err(Sense::token_deleted()),
+    match state {
+        TokenState::Live { value, .. } => Ok(value),
+        TokenState::Expired => Err(Sense::token_expired()),
+        TokenState::Evicted => Err(Sense::token_cancelled()),
+        TokenState::Deleted => Err(Sense::token_deleted()),
     }
 }
 
@@ -70,5 +70,5 @@ pub(crate) fn judge<'a, K>(
     if *text != rod_token::text(config, unit, token.serial, token.blocks) {
         return Err(Sense::token_corrupt());
     }
-    judge_standing(&token.standing, moment)
+    judge_state(&token.state, moment)
 }

@@ -3,7 +3,7 @@ ghost use Rattle.rod_store.specs.Kept.{is_over, is_older, used_last, with_use};
 
 /// Where a token stands. The first end stays.
 #[derive(Drop)]
-pub enum Standing<K> {
+pub enum TokenState<K> {
     /// In seconds: how long it lives after it was used last, and when that was. The value is what
     /// the token stands for.
     Live {
@@ -22,16 +22,16 @@ pub enum Standing<K> {
 pub struct Kept<K> {
     pub serial: u64,
     pub blocks: u32,
-    pub standing: Standing<K>,
+    pub state: TokenState<K>,
 }
 
-impl<K> Standing<K> {
+impl<K> TokenState<K> {
     /// Its time is over at this moment.
     pub(crate) fn is_over(&self, now: u64) -> bool
         ensures { result ≡ is_over now self.now }
     {
         match self {
-            Standing::Live {
+            TokenState::Live {
                 timeout,
                 last_use,
                 ..
@@ -45,7 +45,7 @@ impl<K> Standing<K> {
         ensures { result ≡ used_last self.now }
     {
         match self {
-            Standing::Live { last_use, .. } => *last_use,
+            TokenState::Live { last_use, .. } => *last_use,
             _ => 0,
         }
     }
@@ -56,7 +56,7 @@ impl<K> Standing<K> {
         ensures within { is_over result self.now ≡ false }
     {
         match self {
-            Standing::Live {
+            TokenState::Live {
                 timeout,
                 last_use,
                 ..
@@ -69,7 +69,7 @@ impl<K> Standing<K> {
     pub(crate) fn note_use(&mut self, moment: u64)
         ensures { self.new ≡ with_use moment self.old }
     {
-        if let Standing::Live { last_use, .. } = self {
+        if let TokenState::Live { last_use, .. } = self {
             *last_use = moment;
         }
     }
@@ -80,8 +80,8 @@ impl<K> Kept<K> {
     pub(crate) fn is_older(&self, other: &Kept<K>) -> bool
         ensures { result ≡ is_older self.now other.now }
     {
-        let used = self.standing.used_last();
-        let other_used = other.standing.used_last();
+        let used = self.state.used_last();
+        let other_used = other.state.used_last();
         used < other_used || (used == other_used && self.serial <= other.serial)
     }
 }

@@ -6,7 +6,7 @@ mod kept;
 mod store;
 mod walks;
 
-pub use kept::{Kept, Standing};
+pub use kept::{Kept, TokenState};
 pub use store::{Populated, RodStore};
 
 #[cfg(test)]

@@ -3,9 +3,9 @@ ghost use Rattle.cm_history.specs.Bounds.{live_tokens};
 ghost use Rattle.rod_token.specs.TokenText.{is_named, serial_of};
 ghost use Rattle.rod_store.specs.Kept.{is_live, live, IsPlaced, value_at, first_value, is_over_at, expired, expire_first, evict_if, evicted_value, populated, end_at, deleted, used};
 ghost use Rattle.rod_store.specs.Judging.{judged};
-ghost use Rattle.rod_store.specs.declared.kept.Standing.TheVariants.{Live};
+ghost use Rattle.rod_store.specs.declared.kept.TokenState.TheVariants.{Live};
 
-use crate::kept::{Kept, Standing};
+use crate::kept::{Kept, TokenState};
 use crate::{judge, walks};
 use cm_base::{Config, OutOfMemory};
 use scsi_sense::Sense;
@@ -32,22 +32,23 @@ pub struct RodStore<K> {
     unit: u16,
     tokens: Vec<Kept<K>>,
     // The serials of the live ones, by rising serial.
-    living: Vec<u64>,
+    live_serials: Vec<u64>,
     // Up to this moment no token is over.
-    soonest: u64,
+    next_expiry: u64,
     spare: u64,
 }
 
 impl<K> Model for RodStore<K> {
     ghost use Rattle.std.specs.Prelude.{vec_len, vec_capacity};
-    ghost use Rattle.rod_store.specs.Store.{Store, IsStored, HasRoom};
+    ghost use Rattle.rod_store.specs.Store.{Store};
+    ghost use Rattle.rod_store.specs.inner.Store.{IsStored, HasRoom};
 
     ghost Value = { Store K };
 
     ghost view = { λ s. record { unit = s.unit; tokens = s.tokens.items; spare = s.spare } };
 
-    ghost invariant = { λ s. IsStored s.tokens.items s.living.items s.soonest
-        × HasRoom (vec_len s.tokens) s.spare (vec_capacity s.tokens) (vec_capacity s.living) };
+    ghost invariant = { λ s. IsStored s.tokens.items s.live_serials.items s.next_expiry
+        × HasRoom (vec_len s.tokens) s.spare (vec_capacity s.tokens) (vec_capacity s.live_serials) };
 }
 
 impl<K: Drop> RodStore<K> {
@@ -60,8 +61,8 @@ impl<K: Drop> RodStore<K> {
         Ok(RodStore {
             unit,
             tokens: Vec::new(alloc),
-            living: Vec::with_capacity(alloc, MOST_LIVE)?,
-            soonest: u64::MAX,
+            live_serials: Vec::with_capacity(alloc, MOST_LIVE)?,
+            next_expiry: u64::MAX,
             spare: 0,
         })
     }
@@ -80,13 +81,13 @@ impl<K: Drop> RodStore<K> {
         ensures unit { self.new.unit ≡ self.old.unit }
         ensures spare { self.new.spare ≡ self.old.spare }
     {
-        if moment <= self.soonest {
+        if moment <= self.next_expiry {
             return None;
         }
-        match walks::first_over(&self.tokens, &self.living, moment) {
-            Some(serial) => Some(self.end(serial, Standing::Expired)),
+        match walks::first_over(&self.tokens, &self.live_serials, moment) {
+            Some(serial) => Some(self.end(serial, TokenState::Expired)),
             None => {
-                self.soonest = walks::least_end(&self.tokens, &self.living);
+                self.next_expiry = walks::least_end(&self.tokens, &self.live_serials);
                 None
             }
         }
@@ -142,7 +143,7 @@ impl<K: Drop> RodStore<K> {
         self.append(Kept {
             serial,
             blocks,
-            standing: Standing::Live {
+            state: TokenState::Live {
                 timeout,
                 last_use: moment,
                 value: keep,
@@ -164,7 +165,7 @@ impl<K: Drop> RodStore<K> {
         ensures count { result ≡ length (live self.now.tokens) }
         ensures most { result ≤ live_tokens }
     {
-        self.living.len() as u32
+        self.live_serials.len() as u32
     }
 
     /// What a redeem of the token that the text names is answered at the moment, in seconds, for
@@ -225,7 +226,7 @@ impl<K: Drop> RodStore<K> {
         ensures spare { self.new.spare ≡ self.old.spare }
     {
         if self.is_live(serial) {
-            Some(self.end(serial, Standing::Deleted))
+            Some(self.end(serial, TokenState::Deleted))
         } else {
             None
         }
@@ -245,7 +246,7 @@ impl<K: Drop> RodStore<K> {
     {
         let _ = &self.unit;
         match self.token(serial) {
-            Some(token) => matches!(token.standing, Standing::Live { .. }),
+            Some(token) => matches!(token.state, TokenState::Live { .. }),
             None => false,
         }
     }
@@ -258,12 +259,12 @@ impl<K: Drop> RodStore<K> {
         ensures spare { self.new.spare ≡ self.old.spare }
     {
         let token = &mut self.tokens[serial as usize];
-        token.standing.note_use(moment);
-        self.soonest = token.standing.end_until(self.soonest);
+        token.state.note_use(moment);
+        self.next_expiry = token.state.end_until(self.next_expiry);
     }
 
     /// Ends a live token, and hands its value back.
-    fn end(&mut self, serial: u64, ending: Standing<K>) -> K
+    fn end(&mut self, serial: u64, ending: TokenState<K>) -> K
         requires live { IsSome (value_at serial self.old.tokens) }
         requires ends { is_live ending ≡ false }
         ensures value { value_at serial self.old.tokens ≡ Some result }
@@ -272,9 +273,9 @@ impl<K: Drop> RodStore<K> {
         ensures unit { self.new.unit ≡ self.old.unit }
         ensures spare { self.new.spare ≡ self.old.spare }
     {
-        walks::forget(&mut self.living, serial);
-        match mem::replace(&mut self.tokens[serial as usize].standing, ending) {
-            Standing::Live { value, .. } => value,
+        walks::forget(&mut self.live_serials, serial);
+        match mem::replace(&mut self.tokens[serial as usize].state, ending) {
+            TokenState::Live { value, .. } => value,
             _ => unreachable!(),
         }
     }
@@ -288,11 +289,11 @@ impl<K: Drop> RodStore<K> {
         ensures unit { self.new.unit ≡ self.old.unit }
         ensures spare { self.new.spare ≡ self.old.spare }
     {
-        if self.living.len() < MOST_LIVE {
+        if self.live_serials.len() < MOST_LIVE {
             return None;
         }
-        let serial = walks::oldest(&self.tokens, &self.living);
-        Some(self.end(serial, Standing::Evicted))
+        let serial = walks::oldest(&self.tokens, &self.live_serials);
+        Some(self.end(serial, TokenState::Evicted))
     }
 
     /// Adds a live token of the next serial.
@@ -301,13 +302,13 @@ impl<K: Drop> RodStore<K> {
         requires few { length (live self.old.tokens) < live_tokens }
         requires serial { token.serial ≡ length self.old.tokens }
         requires serials { length self.old.tokens < 2 ^ 48 }
-        requires live { is_live token.standing ≡ true }
+        requires live { is_live token.state ≡ true }
         ensures tokens { self.new.tokens ≡ self.old.tokens ++ token ∷ [] }
         ensures unit { self.new.unit ≡ self.old.unit }
         ensures spare { self.new.spare + 1 ≡ self.old.spare }
     {
-        self.soonest = token.standing.end_until(self.soonest);
-        self.living.push(token.serial).unwrap();
+        self.next_expiry = token.state.end_until(self.next_expiry);
+        self.live_serials.push(token.serial).unwrap();
         self.tokens.push(token).unwrap();
         self.spare -= 1;
     }

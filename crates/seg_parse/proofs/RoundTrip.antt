@@ -6,7 +6,7 @@ use Rattle.std.proofs.lemmas.List.Elements.{All-head, All-tail}
 use Rattle.std.proofs.Math.Seq.{take-length, drop-append_seam, take-append_seam}
 use Rattle.byteorder.specs.Endian.{big_from, big_bytes}
 use Rattle.cm_base.specs.Fields.{byte, field, bits, zeros}
-use Rattle.cm_base.proofs.FieldLaws.{field-moved, number-back}
+use Rattle.cm_base.proofs.PublicLaws.{field-moved, number-back}
 use Rattle.seg_parse.specs.declared.list.Cscd.{Cscd}
 use Rattle.seg_parse.specs.declared.list.Segment.{Segment}
 use Rattle.seg_parse.specs.declared.list.CopyList.{CopyList}

@@ -1,7 +1,7 @@
 -- The descriptors of lists that grow, and their length
 use Rattle.std.proofs.Common.{◌≡◌, ℕ, ◌+◌, List, [], ◌∷◌, ◌++◌, take, Some, refl, sym, ap, ◌∙◌, append_assoc, append-nil}
 use Rattle.std.specs.List.{slice_get}
-use Rattle.lba_ranges.proofs.Rows.{take-get}
+use Rattle.lba_ranges.proofs.PublicLaws.{take-get}
 use Rattle.seg_parse.specs.declared.list.Cscd.{Cscd}
 use Rattle.seg_parse.specs.declared.list.Segment.{Segment}
 use Rattle.seg_parse.specs.ListWritten.{cscd_bytes, segment_bytes, all_cscds, all_segments}

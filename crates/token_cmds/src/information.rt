@@ -12,7 +12,7 @@ ghost use Rattle.cmd_machine.specs.Rest.{rest_of, IsSoundAt};
 ghost use Rattle.token_cmds.specs.Meaning.{by_phase, IsSoundPhase};
 
 use crate::phase::{TokenCommand, TokenPhase};
-use crate::report::{ReportQuery, FoundReport, fields, allocated};
+use crate::report::{FoundReport, ReportQuery, allocated, fields};
 use cm_base::{Config, OutOfMemory};
 use cm_frame::Reply;
 use cm_history::{Answer, OpReport};
@@ -27,7 +27,11 @@ pub(crate) fn begin(unit: u16, id: u32, allocation: u32) -> TokenPhase
         ≡ ask_then unit (Act.Report id) (told_token config unit allocation) }
     ensures sound { (config : Configuration) → unit < length config.units → IsSoundPhase config result }
 {
-    TokenPhase::InformationAsked(ReportQuery { unit, id, allocation })
+    TokenPhase::InformationAsked(ReportQuery {
+        unit,
+        id,
+        allocation,
+    })
 }
 
 /// A RECEIVE ROD TOKEN INFORMATION whose act was answered.

@@ -3,7 +3,7 @@ ghost use Rattle.cmd_program.specs.Kinds.{is_token_command};
 
 use crate::abort::Abort;
 use crate::populate::Populate;
-use crate::report::{ReportQuery, FoundReport};
+use crate::report::{FoundReport, ReportQuery};
 use crate::writing::Writing;
 use crate::{abort, information, populate, status, writing};
 use cm_base::{Config, OutOfMemory};

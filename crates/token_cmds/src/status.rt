@@ -10,7 +10,7 @@ ghost use Rattle.cmd_machine.specs.Rest.{rest_of, IsSoundAt};
 ghost use Rattle.token_cmds.specs.Meaning.{by_phase, IsSoundPhase};
 
 use crate::phase::{TokenCommand, TokenPhase};
-use crate::report::{ReportQuery, FoundReport, fields, allocated};
+use crate::report::{FoundReport, ReportQuery, allocated, fields};
 use cm_base::OutOfMemory;
 use cm_frame::Reply;
 use cm_history::Answer;
@@ -24,7 +24,11 @@ pub(crate) fn begin(unit: u16, id: u32, allocation: u32) -> TokenPhase
     ensures program { (config : Configuration) → by_phase config result ≡ ask_then unit (Act.Report id) (told_report allocation) }
     ensures sound { (config : Configuration) → unit < length config.units → IsSoundPhase config result }
 {
-    TokenPhase::StatusAsked(ReportQuery { unit, id, allocation })
+    TokenPhase::StatusAsked(ReportQuery {
+        unit,
+        id,
+        allocation,
+    })
 }
 
 /// A RECEIVE COPY STATUS(LID4) whose act was answered.

@@ -24,16 +24,13 @@ use crate::phase::{TokenCommand, TokenPhase};
 use block_params::{WriteList, read_write_token};
 use cm_base::{Config, OutOfMemory, Payload};
 use cm_frame::Reply;
-use cm_history::{Act, Answer, OpState, TokenText};
+use cm_history::{Act, Answer, OpState, PIECE_BLOCKS, TokenText};
 use cmd_machine::{CommandOf, Ended, LastAct, refusal};
 use cmd_program::Step;
 use lba_ranges::{BlockList, Fill, Piece};
 use rod_token::{TokenKind, classify};
 use scsi_sense::Sense;
 use std::alloc::Global;
-
-/// Blocks that one Advance writes.
-const PIECE: u64 = 1024;
 
 /// A WRITE USING TOKEN whose list was read.
 #[derive(Drop)]
@@ -226,7 +223,7 @@ impl Write {
         ensures sound { (config : Configuration) → IsGiven config self → IsSoundAt IsSoundPhase config result }
     {
         if !self.list.immed {
-            let pieces = (self.list.ranges.total() + (PIECE - 1)) / PIECE;
+            let pieces = (self.list.ranges.total() + (PIECE_BLOCKS - 1)) / PIECE_BLOCKS;
             return self.advanced(pieces, answer);
         }
         match answer {

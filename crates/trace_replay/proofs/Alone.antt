@@ -8,13 +8,12 @@ use Rattle.cm_base.specs.Configuration.{Configuration}
 use Rattle.cm_base.specs.declared.parsed.Parsed.{Parsed}
 use Rattle.cm_base.specs.declared.parsed.Parsed.TheVariants.{Whole, Short, Bad}
 use Rattle.cm_base.specs.Fields.{byte, field}
-use Rattle.cm_base.proofs.FieldLaws.{field-stays, byte-stays}
+use Rattle.cm_base.proofs.PublicLaws.{field-stays, byte-stays}
 use Rattle.cm_frame.specs.declared.frame.Request.{Request}
 use Rattle.cm_frame.specs.declared.item.TraceItem.{TraceItem}
 use Rattle.cm_frame.specs.Reading.{units_told, units_fault, judged_units, read_header, request_in, read_request, begin_in, read_run, read_pump, read_item}
 use Rattle.cm_frame.specs.Laws.{IsJudged}
-use Rattle.cm_frame.proofs.Stays.{item-stays, header-stays}
-use Rattle.cm_frame.proofs.Within.{UsesWithin, item-within, header-within}
+use Rattle.cm_frame.proofs.PublicLaws.{item-stays, header-stays, UsesWithin, item-within, header-within}
 
 -- ---- what a test leaves of a whole value
 

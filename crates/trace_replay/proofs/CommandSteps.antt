@@ -17,6 +17,7 @@ use Rattle.trace_replay.specs.declared.nexus.Waiting.{Waiting}
 use Rattle.trace_replay.specs.ReplayState.{Pending, Shortage, NoShortage, AtStep, noted, noted_at_step, next_step}
 use Rattle.trace_replay.specs.inner.Machines.{IsCommandOf, IsNext, WentOn, HasBegun, shortage_of}
 use Rattle.trace_replay.proofs.ShownShortages.{any-append}
+use Rattle.trace_replay.proofs.ShownShortages.{or-true}
 
 pub none-follows : (config : Configuration) (s : Step) → MayFollow config s Outcome.NoMemory
 none-follows config (Step.Do unit act) = tt
@@ -28,10 +29,6 @@ gave-up-more outcomes outcome = any-append gives_up outcomes (outcome ∷ []) �
     or-false : (b : Bool) → (b || false) ≡ b
     or-false true = refl
     or-false false = refl
-
-or-true : (b : Bool) → (b || true) ≡ true
-or-true true = refl
-or-true false = refl
 
 pub gave-up-none : (outcomes : List Outcome) → gave_up (outcomes ++ Outcome.NoMemory ∷ []) ≡ true
 gave-up-none outcomes = gave-up-more outcomes Outcome.NoMemory ∙ or-true (gave_up outcomes)

@@ -7,7 +7,7 @@ use Rattle.cm_frame.specs.declared.item.TraceItem.{TraceItem}
 use Rattle.cm_base.specs.declared.parsed.Parsed.{Parsed}
 use Rattle.cm_base.specs.declared.parsed.Parsed.TheVariants.{Whole, Short, Bad}
 use Rattle.cm_frame.specs.Laws.{IsJudged}
-use Rattle.cm_frame.proofs.Stays.{header-stays}
+use Rattle.cm_frame.proofs.PublicLaws.{header-stays}
 use Rattle.cm_frame.specs.Reading.{read_header, read_item}
 use Rattle.cm_history.specs.Legal.{IsLegal}
 use Rattle.trace_replay.proofs.Legally.{legal-none, legal-by, history-at, header-more, first-none}
@@ -31,6 +31,7 @@ use Rattle.trace_replay.specs.inner.Laws.{StandsAt, HasHeader}
 use Rattle.trace_replay.proofs.Laws.{LoopStands, ShortagesTell, known}
 use Rattle.trace_replay.proofs.Steps.{play-torn, play-done, play-records}
 use Rattle.trace_replay.proofs.Grows.{output-grows}
+use Rattle.trace_replay.proofs.ShownShortages.{none-behind}
 
 -- ---- no shortage is always allowed
 
@@ -47,11 +48,6 @@ no-shortage-allowed : (step : Stepping) (config : Configuration) (s : ReplayStat
 no-shortage-allowed step config s (TraceItem.Begin i m r) = refl
 no-shortage-allowed step config s (TraceItem.Run i m) = no-shortage-at-run step config s (waiting i s.pending)
 no-shortage-allowed step config s (TraceItem.Pump u m) = refl
-
-pub none-behind : (item : TraceItem) → shortages_behind item [] ≡ []
-none-behind (TraceItem.Begin i m r) = refl
-none-behind (TraceItem.Run i m) = refl
-none-behind (TraceItem.Pump u m) = refl
 
 pub none-allowed : (step : Stepping) (config : Configuration) (s : ReplayState) (xs : List Placed) → are_allowed step config s xs [] ≡ true
 none-allowed step config s [] = refl

@@ -9,10 +9,9 @@ use Rattle.cm_history.specs.declared.act.Actor.{Actor}
 use Rattle.cm_history.specs.declared.act.Entry.{Entry}
 use Rattle.cm_history.specs.Limits.{within_limits}
 use Rattle.cm_history.specs.Legal.{IsLegal, may_ask}
-use Rattle.cm_history.proofs.Lists.{Each-all}
-use Rattle.cm_history.proofs.LegalPush.{legal_push}
+use Rattle.cm_history.proofs.PublicLaws.{Each-all, legal_push}
 use Rattle.cm_frame.specs.Laws.{IsJudged}
-use Rattle.cm_frame.proofs.Stays.{header-stays}
+use Rattle.cm_frame.proofs.PublicLaws.{header-stays}
 use Rattle.trace_replay.specs.declared.summary.Summary.{Summary}
 use Rattle.trace_replay.specs.declared.fault.ReplayFault.{ReplayFault}
 use Rattle.trace_replay.specs.declared.fault.ReplayFault.TheVariants.{ReadFault, WriteFault, OutOfMemory}

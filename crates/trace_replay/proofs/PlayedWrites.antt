@@ -17,15 +17,14 @@ use Rattle.cm_history.specs.declared.act.Entry.{Entry}
 use Rattle.cm_history.specs.declared.answer.Answer.{Answer}
 use Rattle.cm_history.specs.Deeds.{same_actor}
 use Rattle.cm_history.specs.History.{answer}
-use Rattle.cm_history.proofs.Lists.{In, Each, Each-in, Each-by, Each-append, Each-all, In-filter, filter-passes, find-in}
+use Rattle.cm_history.proofs.PublicLaws.{In, Each, Each-in, Each-by, Each-append, Each-all, In-filter, filter-passes, find-in}
 use Rattle.cmd_program.specs.declared.step.Outcome.{Outcome}
 use Rattle.cmd_program.specs.declared.step.Step.{Step}
 use Rattle.cmd_program.specs.Program.{Program, next, moved, give_up, go_on_by}
 use Rattle.cmd_program.specs.Judging.{step, program, program_after}
 use Rattle.cmd_program.specs.InHistory.{is_by, entries_by, IsNext, IsTurn, RunsIn}
 use Rattle.cmd_program.specs.WriteEnds.{EndsWell, IsNotStopped}
-use Rattle.cmd_program.proofs.WriteEnds.{writes-end-well}
-use Rattle.cmd_program.proofs.WriteStops.{writes-are-not-stopped}
+use Rattle.cmd_program.proofs.PublicLaws.{writes-end-well, writes-are-not-stopped}
 use Rattle.trace_replay.specs.Items.{Placed, Ending, BadRecord, trace_of, items_limit}
 use Rattle.trace_replay.specs.ReplayState.{Pending, AddressedReply, ReplayState, Shortage, NoShortage, AtBegin, AtAct, AtStep, is_of, waiting, without, replied, goes_on, next_step, gone_on, begun, noted, noted_at_step, outcomes_at, entries_at, entries_after, new_entry, acted, noted_act, did, ran, fits, has_no_room, outcome_of, at_first}
 use Rattle.trace_replay.specs.ReplayState as state

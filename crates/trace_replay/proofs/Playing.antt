@@ -10,9 +10,9 @@ use Rattle.cm_base.specs.Configuration.{Configuration}
 use Rattle.cm_frame.specs.declared.item.TraceItem.{TraceItem}
 use Rattle.cm_base.specs.declared.parsed.Parsed.TheVariants.{Whole, Short, Bad}
 use Rattle.cm_frame.specs.Reading.{read_header, read_item}
-use Rattle.cm_frame.proofs.Within.{UsesWithin, header-within}
+use Rattle.cm_frame.proofs.PublicLaws.{UsesWithin, header-within}
 use Rattle.cmd_program.specs.Judging.{step}
-use Rattle.cmd_program.proofs.Busy.{ends-busy}
+use Rattle.cmd_program.proofs.PublicLaws.{ends-busy}
 use Rattle.trace_replay.specs.declared.player.Player.{Player}
 use Rattle.trace_replay.specs.declared.fault.ReplayFault.{ReplayFault}
 use Rattle.trace_replay.specs.declared.summary.Summary.{Summary}

@@ -13,18 +13,18 @@ use Rattle.cm_history.specs.declared.act.Actor.TheVariants.{Nexus}
 use Rattle.cm_history.specs.declared.answer.Answer.{Answer}
 use Rattle.cm_history.specs.History.{answer}
 use Rattle.cm_history.specs.Forms.{HasKind}
-use Rattle.cm_history.proofs.Lists.{Each, Each-in, Each-by, Each-append, In-filter, find-in}
-use Rattle.cm_history.proofs.AnswerKinds.{answer-kind}
+use Rattle.cm_history.proofs.PublicLaws.{Each, Each-in, Each-by, Each-append, In-filter, find-in, answer-kind}
 use Rattle.cmd_program.specs.declared.step.Outcome.{Outcome}
 use Rattle.cmd_program.specs.declared.step.Step.{Step}
 use Rattle.cmd_program.specs.Program.{Program, Ends, Asks, GivesUp, next, moved}
 use Rattle.cmd_program.specs.Judging.{step, program, program_after}
 use Rattle.cmd_program.specs.Honest.{IsHonestReply}
-use Rattle.cmd_program.proofs.HonestPrograms.{IsHonest, program-honest}
+use Rattle.cmd_program.proofs.PublicLaws.{IsHonest, program-honest}
 use Rattle.trace_replay.specs.Items.{Placed, Ending, BadRecord, trace_of, items_limit}
 use Rattle.trace_replay.specs.ReplayState.{Pending, AddressedReply, ReplayState, Shortage, NoShortage, is_of, waiting, without, replied, goes_on, next_step, gone_on, begun, noted, acted, noted_act, did, ran, fits, has_no_room, outcome_of, at_first}
 use Rattle.trace_replay.specs.ReplayState as state
 use Rattle.trace_replay.specs.Played.{played, played_after, play, shortage_for, shortages_behind, replies_that, is_busy}
+use Rattle.trace_replay.proofs.ShownShortages.{none-behind}
 
 -- ---- programs that do not end BUSY
 
@@ -123,11 +123,6 @@ quiet-next config s (TraceItem.Begin initiator moment request) quiet =
 quiet-next config s (TraceItem.Run initiator moment) quiet =
     quiet-ran config (record s { items = s.items + 1 }) initiator moment (record { waits = quiet.waits; said = quiet.said })
 quiet-next config s (TraceItem.Pump unit moment) quiet = record { waits = quiet.waits; said = quiet.said }
-
-none-behind : (item : TraceItem) → shortages_behind item [] ≡ []
-none-behind (TraceItem.Begin initiator moment request) = refl
-none-behind (TraceItem.Run initiator moment) = refl
-none-behind (TraceItem.Pump unit moment) = refl
 
 quiet-play : (config : Configuration) (s : ReplayState) (xs : List Placed) (ending : Ending) → Quiet config s → Quiet config (play step config s xs ending []).state
 quiet-play config s [] ending quiet = quiet

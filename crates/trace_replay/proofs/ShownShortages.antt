@@ -13,7 +13,7 @@ use Rattle.cm_frame.specs.declared.item.TraceItem.{TraceItem}
 use Rattle.cmd_program.specs.declared.step.Outcome.{Outcome}
 use Rattle.cmd_program.specs.declared.step.Step.{Step}
 use Rattle.cmd_program.specs.Stepping.{Stepping, gives_up, gave_up}
-use Rattle.cmd_program.proofs.Stepping.{IsBusyAtEnd, EndsBusy}
+use Rattle.cmd_program.proofs.PublicLaws.{IsBusyAtEnd, EndsBusy}
 use Rattle.trace_replay.specs.ReplayState.{Pending, AddressedReply, ReplayState, is_of, waiting, without, noted, replied, goes_on, gone_on, next_step}
 use Rattle.trace_replay.specs.Played.{is_busy, replies_that}
 use Rattle.trace_replay.specs.Shortages.{is_no_memory, met_want}
@@ -58,7 +58,7 @@ any-append p (x ∷ xs) ys = go (p x) (any-append p xs ys)
     go true e = refl
     go false e = e
 
-or-true : (b : Bool) → (b || true) ≡ true
+pub or-true : (b : Bool) → (b || true) ≡ true
 or-true true = refl
 or-true false = refl
 
@@ -320,7 +320,7 @@ no-shortage-then (TraceItem.Run i m) shortages e = go (shortage_for (TraceItem.R
     go AtAct e = cc
     go AtStep e = cc
 
-none-behind : (item : TraceItem) → shortages_behind item [] ≡ []
+pub none-behind : (item : TraceItem) → shortages_behind item [] ≡ []
 none-behind (TraceItem.Begin i m r) = refl
 none-behind (TraceItem.Run i m) = refl
 none-behind (TraceItem.Pump u m) = refl

@@ -6,8 +6,7 @@ use Rattle.cm_frame.specs.declared.item.TraceItem.{TraceItem}
 use Rattle.cm_base.specs.declared.parsed.Parsed.TheVariants.{Whole, Short, Bad}
 use Rattle.cm_frame.specs.Reading.{read_header, read_item}
 use Rattle.cm_frame.specs.Laws.{IsJudged}
-use Rattle.cm_frame.proofs.Stays.{item-stays, header-stays}
-use Rattle.cm_frame.proofs.Within.{UsesWithin, item-within, header-within}
+use Rattle.cm_frame.proofs.PublicLaws.{item-stays, header-stays, UsesWithin, item-within, header-within}
 use Rattle.cmd_program.specs.Stepping.{Stepping}
 use Rattle.trace_replay.specs.Items.{Done, Torn, BadRecord, Records, Trace, with_item, led_by, trace_of, items_limit}
 use Rattle.trace_replay.specs.ReplayState.{ReplayState, Shortage, next, fits, at_first}

@@ -20,7 +20,7 @@ use Rattle.cm_history.specs.Deeds.{last_stamp, same_actor}
 use Rattle.cm_history.specs.Ends.{ends_operation}
 use Rattle.cm_history.specs.History.{on, one_more, past_of, answer}
 use Rattle.cm_history.specs.Room.{is_full}
-use Rattle.cm_history.proofs.Locality.{past_of-on}
+use Rattle.cm_history.proofs.PublicLaws.{past_of-on}
 use Rattle.cm_history.specs.declared.refused.ActRefused.{ActRefused}
 use Rattle.unit_core.specs.UnitState as unit
 use Rattle.unit_core.specs.Acting as acting

@@ -19,20 +19,18 @@ use Rattle.cm_history.specs.Legal.{may_ask}
 use Rattle.cm_history.specs.Tokens.{Token, rod, is_live, is_populate}
 use Rattle.cm_history.specs.Operations.{Operation, Form, OfToken, OfCopy, same_form, form_of, id_of, has_key, would_serve, is_running, is_background, fits, kept, is_making, result_of, written, state_of, count_of}
 use Rattle.cm_history.specs.Answers.{report_of, serial_made}
-use Rattle.cm_history.proofs.Lists.{In, Each-in}
-use Rattle.cm_history.proofs.Keys.{same_actor-is, same_form-is}
+use Rattle.cm_history.proofs.PublicLaws.{In, Each-in, same_actor-is, same_form-is, any-some, find-map, find-same, filter-map, filter-same, and_first, and_second}
 use Rattle.copy_jobs.specs.declared.job.Job.{Job}
 use Rattle.copy_jobs.specs.Jobs as jobs
 use Rattle.copy_jobs.specs.Pieces as next
 use Rattle.copy_jobs.specs.Reports as reports
 use Rattle.rod_store.specs.declared.kept.Kept.{Kept}
 use Rattle.rod_store.specs.Kept as store
-use Rattle.unit_core.specs.Tables.{key_of, work_of, job_of, jobs_of, kept_of, serial_or_none}
-use Rattle.cm_history.proofs.Finding.{any-some, find-map, find-same, filter-map, filter-same}
+use Rattle.unit_core.specs.inner.Tables.{key_of, work_of, job_of, jobs_of, kept_of, serial_or_none}
 use Rattle.unit_core.proofs.Jobs.{IsNexus, IsOwn, own-nexus, job-key, job-runs_as, is-next-key, is-next-pump, found-job, work-background}
-use Rattle.unit_core.proofs.Tokens.{live-standing}
+use Rattle.unit_core.proofs.Tokens.{live-state}
 use Rattle.unit_core.proofs.Planned.{IsKnown, own-of}
-use Rattle.unit_core.proofs.Bools.{and-assoc, and_first, and_second}
+use Rattle.unit_core.proofs.Bools.{and-assoc}
 
 abbrev pub is_pump : Act → Bool
 is_pump Act.Pump = true
@@ -68,16 +66,16 @@ pub serves-pump : (config : Configuration) (unit : ℕ) (past : List Deed) (acto
 serves-pump config unit past actor known = serves-by config unit past actor Act.Pump (next.is_next None) known (λ o i. is-next-pump actor o)
 
 is-behind-key : (actor : Actor) (id : ℕ) (o : Operation) → IsNexus actor → IsNexus o.made.entry.actor
-    → next.runs_behind (key_of actor OfToken id) (job_of o) ≡ (is_running o && fits actor (Act.Abort id) o)
+    → next.runs_in_background (key_of actor OfToken id) (job_of o) ≡ (is_running o && fits actor (Act.Abort id) o)
 is-behind-key actor id o mine its =
     ap (λ t. t && next.is_background (work_of o o.made.entry.act)) (job-runs_as actor OfToken id o mine its)
     ∙ ap (λ t. (is_running o && has_key actor OfToken id o) && t) (work-background o o.made.entry.act)
     ∙ and-assoc (is_running o) (has_key actor OfToken id o) (is_background o.made.entry.act)
 
 pub serves-abort : (config : Configuration) (unit : ℕ) (past : List Deed) (actor : Actor) (id : ℕ) → IsKnown config unit past → IsNexus actor
-    → list_any (next.runs_behind (key_of actor OfToken id)) (jobs_of past) ≡ is_some (would_serve past actor (Act.Abort id))
+    → list_any (next.runs_in_background (key_of actor OfToken id)) (jobs_of past) ≡ is_some (would_serve past actor (Act.Abort id))
 serves-abort config unit past actor id known mine =
-    serves-by config unit past actor (Act.Abort id) (next.runs_behind (key_of actor OfToken id)) known (λ o i. is-behind-key actor id o mine (nexus-in config unit past o known i))
+    serves-by config unit past actor (Act.Abort id) (next.runs_in_background (key_of actor OfToken id)) known (λ o i. is-behind-key actor id o mine (nexus-in config unit past o known i))
 
 pub serves-close : (config : Configuration) (unit : ℕ) (past : List Deed) (actor : Actor) (id : ℕ) (result : CopyEnd) → IsKnown config unit past → IsNexus actor
     → jobs.is_busy (key_of actor OfCopy id) (jobs_of past) ≡ is_some (would_serve past actor (Act.Close id result))
@@ -147,6 +145,6 @@ job-result o form = work-result o o.made.entry.act form
 -- how many tokens are live
 pub live-count : (unit : UnitConfig) (ts : List Token) → length (store.live (map (kept_of unit) ts)) ≡ length (filter (λ (t : Token). is_live t.fate) ts)
 live-count unit ts =
-    ap length (filter-map (kept_of unit) (λ (k : Kept HeldBlocks). store.is_live k.standing) ts
-    ∙ ap (map (kept_of unit)) (filter-same (λ t. store.is_live (kept_of unit t).standing) (λ (t : Token). is_live t.fate) ts (λ t i. live-standing (rod unit t) t t.fate)))
+    ap length (filter-map (kept_of unit) (λ (k : Kept HeldBlocks). store.is_live k.state) ts
+    ∙ ap (map (kept_of unit)) (filter-same (λ t. store.is_live (kept_of unit t).state) (λ (t : Token). is_live t.fate) ts (λ t i. live-state (rod unit t) t t.fate)))
     ∙ length-map (filter (λ (t : Token). is_live t.fate) ts) (kept_of unit)

@@ -2,12 +2,12 @@
 use Rattle.std.proofs.Common.{◌≡◌, ℕ, List, ◌∷◌, ap, ◌∙◌}
 use Rattle.cm_base.specs.declared.config.UnitConfig.{UnitConfig}
 use Rattle.lba_ranges.specs.Writings.{Held, Writing, after, mapped_below}
-use Rattle.lba_ranges.proofs.WritingLemmas.{mapped-same}
+use Rattle.lba_ranges.proofs.PublicLaws.{mapped-same}
 use Rattle.cm_history.specs.Deeds.{Deed}
 use Rattle.cm_history.specs.Blocks.{held, mapped}
 use Rattle.cm_history.specs.Answers.{answer_read, answer_write, answer_status}
-use Rattle.cm_history.proofs.ImageBlocks.{read-same, write-same, status-same}
-use Rattle.unit_core.specs.Agreeing.{BlocksAgree}
+use Rattle.cm_history.proofs.PublicLaws.{read-same, write-same, status-same}
+use Rattle.unit_core.specs.inner.Agreeing.{BlocksAgree}
 
 pub mapped-agrees : (unit : UnitConfig) (past : List Deed) (blocks size : ℕ) (holds : ℕ → Held) → BlocksAgree unit past blocks size holds
     → mapped_below blocks holds ≡ mapped unit past

@@ -10,7 +10,7 @@ use Rattle.cm_base.specs.Units.{unit_of}
 use Rattle.lba_ranges.specs.declared.ranges.Range.{Range}
 use Rattle.lba_ranges.specs.Denoted.{row, blocks_of, total, is_within, is_overlapping}
 use Rattle.lba_ranges.specs.Writings.{Held}
-use Rattle.lba_ranges.proofs.Rows.{length-row, length-blocks_of}
+use Rattle.lba_ranges.proofs.PublicLaws.{length-row, length-blocks_of}
 use Rattle.rod_token.specs.TokenText.{token_text, serial_of}
 use Rattle.cm_history.specs.declared.act.Act.{Act}
 use Rattle.cm_history.specs.declared.act.Actor.{Actor}
@@ -28,21 +28,13 @@ use Rattle.cm_history.specs.Operations.{Operation, OfToken, OfCopy, form_of, has
 use Rattle.cm_history.specs.Answers.{answer_after, answer_report, is_busy, is_crowded, serial_made}
 use Rattle.cm_history.specs.History.{past_of, answer}
 use Rattle.cm_history.specs.Forms.{HasForm}
-use Rattle.cm_history.proofs.AnswerKinds.{after-kind}
-use Rattle.cm_history.proofs.Lists.{In, Each, Each-in, Each-by, Each-map, Each-append, find-in, get-in}
-use Rattle.cm_history.proofs.Counts.{IsPast, IsBegun, begun, made-after}
-use Rattle.cm_history.proofs.Records.{kept_in}
-use Rattle.cm_history.proofs.Made.{Has, IsMade, all-made}
+use Rattle.cm_history.proofs.PublicLaws.{after-kind, In, Each, Each-in, Each-by, Each-map, Each-append, find-in, get-in, IsPast, IsBegun, begun, made-after, kept_in, Has, IsMade, all-made, and_first, and_second, find-passes, few-written, start-few, start-length}
 use Rattle.cm_history.specs.Asked.{IsAsked, AllAsked}
-use Rattle.unit_core.specs.Agreeing.{IsRecord}
-use Rattle.unit_core.proofs.Bools.{and_first, and_second}
-use Rattle.cm_history.proofs.Finding.{find-passes}
+use Rattle.unit_core.specs.inner.Agreeing.{IsRecord}
 use Rattle.unit_core.proofs.Operating.{IsMadeBy, all-made_by}
-use Rattle.cm_history.proofs.Serving.{few-written}
-use Rattle.cm_history.proofs.Starts.{start-few, start-length}
 use Rattle.unit_core.proofs.Planned.{IsKnown}
 use Rattle.unit_core.proofs.Steps.{known-of}
-use Rattle.unit_core.proofs.Wording.{form-is}
+use Rattle.unit_core.proofs.TableAnswers.{form-is}
 
 -- ---- blocks, and runs of them
 

@@ -13,19 +13,17 @@ use Rattle.cm_history.specs.Deeds.{Deed, same_actor}
 use Rattle.cm_history.specs.Legal.{may_ask}
 use Rattle.cm_history.specs.Operations.{Operation, Form, OfToken, OfCopy, same_form, form_of, id_of, has_key, operations, is_making, would_serve, running, is_running, is_running_as, is_running_state, is_foreground, is_background, fits, kept, state_of}
 use Rattle.cm_history.specs.Answers.{is_busy, is_crowded}
-use Rattle.cm_history.proofs.Lists.{In, Each, Each-in, Each-by}
-use Rattle.cm_history.proofs.Counts.{IsPast}
-use Rattle.cm_history.proofs.Records.{running_kept, kept_in}
+use Rattle.cm_history.proofs.PublicLaws.{In, Each, Each-in, Each-by, IsPast, running_kept, kept_in, find-filter, find-map, find-same, any-filter, any-map, any-same, filter-map, filter-same}
 use Rattle.copy_jobs.specs.declared.key.Key.{Key}
 use Rattle.copy_jobs.specs.declared.job.Job.{Job}
 use Rattle.copy_jobs.specs.Keys as keys
 use Rattle.copy_jobs.specs.Jobs as jobs
 use Rattle.copy_jobs.specs.Pieces as next
-use Rattle.unit_core.specs.Tables.{number_of, is_copy, key_of, work_of, job_of, jobs_of}
-use Rattle.cm_history.proofs.Finding.{find-filter, find-map, find-same, any-filter, any-map, any-same, filter-map, filter-same}
+use Rattle.unit_core.specs.inner.Tables.{number_of, is_copy, key_of, work_of, job_of, jobs_of}
 use Rattle.unit_core.proofs.Operating.{IsMadeBy, all-made_by}
 use Rattle.cm_history.specs.Asked.{AllAsked}
-use Rattle.unit_core.proofs.Bools.{and-assoc, eqb-turned}
+use Rattle.unit_core.proofs.Bools.{and-assoc}
+use Rattle.copy_jobs.proofs.PublicLaws.{same-sym as eqb-turned}
 use Rattle.std.proofs.lemmas.List.{length-map}
 
 -- ---- a nexus makes operations

@@ -12,20 +12,14 @@ use Rattle.cm_history.specs.Bounds.{kept_operations}
 use Rattle.cm_history.specs.Deeds.{Deed, same_actor}
 use Rattle.cm_history.specs.Operations.{Operation, Form, OfToken, OfCopy, same_form, serves, form_of, id_of, has_key, operation_after, made_operation, makes_operation, would_serve, running, is_running, fits, kept, keep, has_ended, same_key, with_room, without_first_ended}
 use Rattle.cm_history.specs.Answers.{deed}
-use Rattle.cm_history.proofs.Lists.{In, Each, Each-in, Each-by, In-filter, find-in, find-some, filter-passes}
-use Rattle.cm_history.proofs.Counts.{IsPast}
-use Rattle.cm_history.proofs.Records.{running_kept, kept_in, served_none}
-use Rattle.cm_history.proofs.Keys.{KeysApart, keys-apart, one-key, same-record}
+use Rattle.cm_history.proofs.PublicLaws.{In, Each, Each-in, Each-by, In-filter, find-in, find-some, filter-passes, IsPast, running_kept, kept_in, served_none, KeysApart, keys-apart, one-key, same-record, find-map, filter-map, filter-same, map-append, map-map, map-same, served-or-not, and_second, same_actor-self as same-own}
 use Rattle.copy_jobs.specs.declared.key.Key.{Key}
 use Rattle.copy_jobs.specs.declared.job.Job.{Job}
 use Rattle.copy_jobs.specs.Jobs as jobs
 use Rattle.copy_jobs.specs.Keeping as keeping
 use Rattle.copy_jobs.specs.Changes.{change}
-use Rattle.unit_core.specs.Tables.{job_of, jobs_of}
-use Rattle.cm_history.proofs.Finding.{find-map, filter-map, filter-same, map-append, map-map, map-same}
+use Rattle.unit_core.specs.inner.Tables.{job_of, jobs_of}
 use Rattle.unit_core.proofs.Jobs.{IsNexus, IsOwn, own-nexus, job-runs, job-key}
-use Rattle.cm_history.proofs.Serving.{served-or-not}
-use Rattle.unit_core.proofs.Bools.{and_second}
 
 -- ---- a deed that makes an operation
 
@@ -134,10 +128,6 @@ serves-own d o e =
     let on : (o.made.place == o.made.place) ≡ true = grind (arith, nat_tests) in
     ap (λ s. if serves s o then record o { servers = d ∷ o.servers } else o) e
     ∙ ap (λ t. if t then record o { servers = d ∷ o.servers } else o) on
-
-same-own : (a : Actor) → same_actor a a ≡ true
-same-own (Nexus n) = grind (arith, nat_tests)
-same-own (Pump u) = grind (arith, nat_tests)
 
 form-own : (f : Form) → same_form f f ≡ true
 form-own OfToken = refl

@@ -7,7 +7,7 @@ use Rattle.cm_base.specs.Units.{unit_of}
 use Rattle.lba_ranges.specs.declared.ranges.Range.{Range}
 use Rattle.lba_ranges.specs.Denoted.{blocks_of, total, is_within, is_overlapping}
 use Rattle.lba_ranges.specs.HeldBlocks.{HeldBlocks}
-use Rattle.lba_ranges.proofs.Rows.{within-more}
+use Rattle.lba_ranges.proofs.PublicLaws.{within-more}
 use Rattle.cm_history.specs.declared.act.Act.{Act}
 use Rattle.cm_history.specs.declared.act.Actor.{Actor}
 use Rattle.cm_history.specs.declared.answer.Answer.{Answer}
@@ -19,13 +19,13 @@ use Rattle.cm_history.specs.Limits.{within_limits, fits_unit}
 use Rattle.cm_history.specs.Tokens.{tokens}
 use Rattle.cm_history.specs.Operations.{OfToken, OfCopy, running}
 use Rattle.cm_history.specs.Answers.{is_busy, is_crowded, wrote_of}
-use Rattle.cm_history.proofs.Lists.{find-none}
+use Rattle.cm_history.proofs.PublicLaws.{find-none}
 use Rattle.unit_core.specs.declared.block_change.BlockChange.{BlockChange}
 use Rattle.unit_core.specs.declared.job_change.JobChange.{JobChange}
 use Rattle.unit_core.specs.declared.token_change.TokenChange.{TokenChange}
-use Rattle.unit_core.specs.JobChanges.{MayJob}
-use Rattle.unit_core.specs.Tables.{key_of, jobs_of}
-use Rattle.unit_core.specs.Planning.{quiet, IsPlan}
+use Rattle.unit_core.specs.inner.JobChanges.{MayJob}
+use Rattle.unit_core.specs.inner.Tables.{key_of, jobs_of}
+use Rattle.unit_core.specs.inner.Planning.{quiet, IsPlan}
 use Rattle.unit_core.proofs.Jobs.{IsNexus}
 use Rattle.unit_core.proofs.Planned.{IsKnown, refused-plan, populate-plan, start-plan, open-plan}
 

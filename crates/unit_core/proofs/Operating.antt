@@ -14,9 +14,7 @@ use Rattle.scsi_sense.specs.Codes.{operation_in_progress, lba_out_of_range, insu
 use Rattle.cm_history.specs.Tokens.{is_populate, tokens}
 use Rattle.cm_history.specs.Operations.{Operation, OfToken, OfCopy, operations, operation_after, made_operation, makes_operation, is_making}
 use Rattle.cm_history.specs.Answers.{answer_after, serial_made, is_busy, is_crowded}
-use Rattle.cm_history.proofs.Lists.{Each, Each-in, Each-by, Each-map, Each-append}
-use Rattle.cm_history.proofs.Counts.{IsPast, made-after}
-use Rattle.unit_core.proofs.Bools.{and_first, and_second}
+use Rattle.cm_history.proofs.PublicLaws.{Each, Each-in, Each-by, Each-map, Each-append, IsPast, made-after, and_first, and_second}
 
 -- the blocks that a Start writes lie in the unit
 abbrev pub starts_within : ℕ → Act → Bool

@@ -21,8 +21,7 @@ use Rattle.cm_history.specs.Blocks.{held, cut}
 use Rattle.cm_history.specs.Tokens.{tokens, is_populate, is_delete_of, is_redeem_of}
 use Rattle.cm_history.specs.Operations.{Operation, OfToken, OfCopy, is_making, makes_operation, made_operation, would_serve, running, kept}
 use Rattle.cm_history.specs.Answers.{answer_after, writings, wrote_of}
-use Rattle.cm_history.proofs.Lists.{Each, find-none}
-use Rattle.cm_history.proofs.Counts.{IsPast}
+use Rattle.cm_history.proofs.PublicLaws.{Each, find-none, IsPast}
 use Rattle.copy_jobs.specs.declared.job.Job.{Job}
 use Rattle.copy_jobs.specs.Jobs.{started, opened, made}
 use Rattle.copy_jobs.specs.Keeping.{keep}
@@ -32,14 +31,14 @@ use Rattle.unit_core.specs.declared.job_change.JobChange.{JobChange}
 use Rattle.unit_core.specs.declared.token_change.TokenChange.{TokenChange}
 use Rattle.cm_history.specs.Ends.{ends_operation}
 use Rattle.cm_history.specs.Asked.{AllAsked}
-use Rattle.unit_core.specs.BlockChanges.{writings_of, MayChange}
-use Rattle.unit_core.specs.JobChanges.{MayJob}
-use Rattle.unit_core.specs.TokenChanges.{Redeems}
-use Rattle.unit_core.specs.Tables.{key_of, kept_of, tokens_of, job_of, jobs_of}
-use Rattle.unit_core.specs.Planning.{quiet, IsDeed, IsPlan}
+use Rattle.unit_core.specs.inner.BlockChanges.{writings_of, MayChange}
+use Rattle.unit_core.specs.inner.JobChanges.{MayJob}
+use Rattle.unit_core.specs.inner.TokenChanges.{Redeems}
+use Rattle.unit_core.specs.inner.Tables.{key_of, kept_of, tokens_of, job_of, jobs_of}
+use Rattle.unit_core.specs.inner.Planning.{quiet, IsDeed, IsPlan}
 use Rattle.unit_core.proofs.Jobs.{IsNexus, IsOwn, all-own}
 use Rattle.unit_core.proofs.Keeping.{same-jobs, made-jobs}
-use Rattle.unit_core.proofs.Becoming.{start-job, open-job, populate-job}
+use Rattle.unit_core.proofs.JobDeeds.{start-job, open-job, populate-job}
 use Rattle.unit_core.proofs.Tokens.{idle-tokens, deleted-tokens, used-tokens, made-tokens}
 
 -- what is known of the past of a unit

@@ -8,7 +8,7 @@ use Rattle.cm_history.specs.Deeds.{Deed, same_actor}
 use Rattle.cm_history.specs.Legal.{may_ask}
 use Rattle.cm_history.specs.Operations.{Operation, Form, same_form, form_of, id_of, has_key, operations, running}
 use Rattle.cm_history.specs.Answers.{is_busy}
-use Rattle.cm_history.proofs.Lists.{Each, Each-in, Each-by, In-filter}
+use Rattle.cm_history.proofs.PublicLaws.{Each, Each-in, Each-by, In-filter}
 use Rattle.unit_core.proofs.Jobs.{maker-nexus}
 use Rattle.unit_core.proofs.Operating.{IsMadeBy, all-made_by}
 use Rattle.unit_core.proofs.Planned.{IsKnown}

@@ -5,7 +5,7 @@ use Rattle.std.specs.Prelude.{Option, Some, None, nat_lt, if◌then◌else◌}
 use Rattle.lba_ranges.specs.declared.ranges.Range.{Range}
 use Rattle.lba_ranges.specs.Denoted.{blocks_of, is_within}
 use Rattle.lba_ranges.specs.Writings.{Held, Writing, after, mapped_below, unmapped}
-use Rattle.lba_ranges.proofs.WritingLemmas.{mapped-fewer, mapped-left}
+use Rattle.lba_ranges.proofs.PublicLaws.{mapped-fewer, mapped-left}
 use Rattle.cm_base.specs.Configuration.{Configuration}
 use Rattle.cm_base.specs.declared.config.UnitConfig.{UnitConfig}
 use Rattle.cm_base.specs.Units.{unit_of}
@@ -18,7 +18,7 @@ use Rattle.cm_history.specs.Deeds.{Deed, is_refusal}
 use Rattle.cm_history.specs.Operations.{Operation, is_failure, would_serve, next_piece}
 use Rattle.cm_history.specs.Blocks.{held, mapped, mapped_with}
 use Rattle.cm_history.specs.Answers.{answer_after, answer_write, answer_unmap, put_at, wrote_of, writings, piece_of, deed}
-use Rattle.cm_history.proofs.Serving.{Serves, how-serves}
+use Rattle.cm_history.proofs.PublicLaws.{Serves, how-serves}
 
 -- what would be mapped after the writings is within the quota
 abbrev Within : UnitConfig → (ℕ → Held) → List Writing → Type 0

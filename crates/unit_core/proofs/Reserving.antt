@@ -12,18 +12,14 @@ use Rattle.cm_history.specs.Deeds.{Deed}
 use Rattle.cm_history.specs.Limits.{within_limits}
 use Rattle.cm_history.specs.Operations.{Operation, OfToken, form_of, operations, is_making, is_running, is_running_as, is_running_state, is_running_copy, is_foreground, is_background, kept, written, list_of, state, state_of, result_of, result_or}
 use Rattle.cm_history.specs.Room.{pieces, reserved, reserved_by}
-use Rattle.cm_history.proofs.Lists.{In, Each-in}
-use Rattle.cm_history.proofs.Counts.{IsPast, IsBegun, begun}
-use Rattle.cm_history.proofs.Records.{running_kept, kept_in}
+use Rattle.cm_history.proofs.PublicLaws.{In, Each-in, IsPast, IsBegun, begun, running_kept, kept_in, IsPaced, all-paced, few-written, Serves, token-runs, paced-after, start-length}
 use Rattle.copy_jobs.specs.declared.job.Job.{Job}
 use Rattle.copy_jobs.specs.Jobs as jobs
 use Rattle.copy_jobs.specs.Keeping as keeping
 use Rattle.copy_jobs.specs.Changes.{change}
-use Rattle.unit_core.specs.Tables.{work_of, job_of, jobs_of}
+use Rattle.unit_core.specs.inner.Tables.{work_of, job_of, jobs_of}
 use Rattle.cm_history.specs.Asked.{IsAsked}
-use Rattle.cm_history.proofs.Serving.{IsPaced, all-paced, few-written, Serves, token-runs, paced-after}
 use Rattle.unit_core.proofs.Jobs.{IsOwn}
-use Rattle.cm_history.proofs.Starts.{start-length}
 use Rattle.unit_core.proofs.Bools.{off}
 
 sum-filter : {X : Type 0} (f : X → ℕ) (p : X → Bool) (xs : List X) → sum_by f (filter p xs) ≡ sum_by (λ x. if p x then f x else 0) xs

@@ -14,13 +14,10 @@ use Rattle.cm_history.specs.Deeds.{Deed, last_stamp, is_answered}
 use Rattle.cm_history.specs.Operations.{Operation, is_making, is_running_state, makes_operation, made_operation, would_serve, running, kept, state, written, operations, is_running_copy, result_of}
 use Rattle.cm_history.specs.Answers.{deed}
 use Rattle.cm_history.specs.Room.{is_full, is_write, bytes_in, need, pieces, reserved, payload}
-use Rattle.cm_history.proofs.Lists.{Each, Each-in, find-none}
-use Rattle.cm_history.proofs.Counts.{IsBegun, begun}
-use Rattle.cm_history.proofs.Records.{kept_in, making_serves, and_first}
+use Rattle.cm_history.proofs.PublicLaws.{Each, Each-in, find-none, IsBegun, begun, kept_in, making_serves, and_first, IsPaced, all-paced, serving}
 use Rattle.copy_jobs.specs.Jobs as jobs
 use Rattle.cm_history.specs.Asked.{IsAsked}
-use Rattle.unit_core.specs.Tables.{job_of, jobs_of, work_of}
-use Rattle.cm_history.proofs.Serving.{IsPaced, all-paced, serving}
+use Rattle.unit_core.specs.inner.Tables.{job_of, jobs_of, work_of}
 use Rattle.unit_core.proofs.Jobs.{IsOwn, maker-nexus}
 use Rattle.unit_core.proofs.Keeping.{made-jobs, same-jobs, serving-jobs, found-own, served-there, served-runs, own_key, serves-none}
 use Rattle.unit_core.proofs.Reserving.{reserved-is, keep-reserves, change-reserves, serving-reserves}

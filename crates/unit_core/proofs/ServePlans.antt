@@ -17,8 +17,7 @@ use Rattle.cm_history.specs.Blocks.{held, mapped_with}
 use Rattle.cm_history.specs.Limits.{within_limits}
 use Rattle.cm_history.specs.Operations.{Operation, Form, OfToken, OfCopy, form_of, has_key, is_making, would_serve, running, is_running, is_running_copy, is_foreground, is_background, is_failure, is_ending, fits, kept, written, list_of, next_piece, count, count_of}
 use Rattle.cm_history.specs.Answers.{answer_after, writings, wrote_of, progress_by}
-use Rattle.cm_history.proofs.Lists.{In, Each-in, find-none}
-use Rattle.cm_history.proofs.Records.{making_serves}
+use Rattle.cm_history.proofs.PublicLaws.{In, Each-in, find-none, making_serves, find-passes, any-found, Moves, Stops, Ends, Closes, and_first, and_second}
 use Rattle.copy_jobs.specs.declared.key.Key.{Key}
 use Rattle.copy_jobs.specs.declared.job.Job.{Job}
 use Rattle.copy_jobs.specs.declared.job.Work.{Work}
@@ -31,18 +30,16 @@ use Rattle.unit_core.specs.declared.job_change.JobChange.{JobChange}
 use Rattle.unit_core.specs.declared.token_change.TokenChange.{TokenChange}
 use Rattle.unit_core.specs.declared.plan.Plan.{Plan}
 use Rattle.cm_history.specs.Ends.{ends_operation}
-use Rattle.unit_core.specs.BlockChanges.{writings_of, MayChange, MayPut}
-use Rattle.unit_core.specs.JobChanges.{jobs_after, MayJob, grows}
-use Rattle.unit_core.specs.Tables.{key_of, is_copy, job_of, jobs_of}
-use Rattle.unit_core.specs.Planning.{quiet, IsDeed, IsPlan, takes_none, piece_plan}
-use Rattle.cm_history.proofs.Finding.{find-passes, any-found}
-use Rattle.cm_history.proofs.Serving.{Moves, Stops, Ends, Closes}
+use Rattle.unit_core.specs.inner.BlockChanges.{writings_of, MayChange, MayPut}
+use Rattle.unit_core.specs.inner.JobChanges.{jobs_after, MayJob, grows}
+use Rattle.unit_core.specs.inner.Tables.{key_of, is_copy, job_of, jobs_of}
+use Rattle.unit_core.specs.inner.Planning.{quiet, IsDeed, IsPlan, takes_none, piece_plan}
 use Rattle.unit_core.proofs.Jobs.{IsOwn}
 use Rattle.unit_core.proofs.Keeping.{own_key, served-there, served-runs, serving-jobs, found-own}
-use Rattle.unit_core.proofs.Becoming.{moves-work, stops-work, ends-work, closes-work}
+use Rattle.unit_core.proofs.JobDeeds.{moves-work, stops-work, ends-work, closes-work}
 use Rattle.unit_core.proofs.Asking.{key-own}
 use Rattle.unit_core.proofs.Planned.{IsKnown, own-of, deed-answer, deed-serves, deed-makes, idle-step, LeavesTokens}
-use Rattle.unit_core.proofs.Bools.{and_first, and_second, off}
+use Rattle.unit_core.proofs.Bools.{off}
 use Rattle.std.proofs.lemmas.Bool.{or_left, or_right}
 
 pub deed-wrote : (config : Configuration) (unit : ℕ) (past : List Deed) (actor : Actor) (at : ℕ) (act : Act) (d : Deed) → IsDeed config unit past actor at act d

@@ -6,7 +6,7 @@ use Rattle.cm_base.specs.Configuration.{Configuration}
 use Rattle.cm_base.specs.Units.{unit_of}
 use Rattle.lba_ranges.specs.declared.ranges.Range.{Range}
 use Rattle.lba_ranges.specs.Denoted.{blocks_of, is_within}
-use Rattle.lba_ranges.proofs.Rows.{blocks_of-below}
+use Rattle.lba_ranges.proofs.PublicLaws.{blocks_of-below}
 use Rattle.lba_ranges.specs.HeldBlocks.{HeldBlocks}
 use Rattle.lba_ranges.specs.Writings.{Held, unmapped}
 use Rattle.cm_history.specs.declared.act.Act.{Act}
@@ -15,11 +15,11 @@ use Rattle.cm_history.specs.Deeds.{Deed}
 use Rattle.cm_history.specs.Blocks.{held}
 use Rattle.cm_history.specs.Operations.{running}
 use Rattle.cm_history.specs.Answers.{answer_read, answer_write, answer_unmap, answer_status, put_at, wrote_of}
-use Rattle.cm_history.proofs.Lists.{find-none}
+use Rattle.cm_history.proofs.PublicLaws.{find-none}
 use Rattle.unit_core.specs.declared.block_change.BlockChange.{BlockChange}
 use Rattle.unit_core.specs.declared.block_plans.BlockPlan.{BlockPlan}
-use Rattle.unit_core.specs.BlockChanges.{writings_of, MayChange}
-use Rattle.unit_core.specs.Planning.{of_blocks, IsPlan, Reads, Writes}
+use Rattle.unit_core.specs.inner.BlockChanges.{writings_of, MayChange}
+use Rattle.unit_core.specs.inner.Planning.{of_blocks, IsPlan, Reads, Writes}
 use Rattle.unit_core.proofs.Planned.{plain-plan}
 use Rattle.unit_core.proofs.Quotas.{wrote_none}
 

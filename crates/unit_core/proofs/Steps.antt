@@ -3,7 +3,7 @@ use Rattle.std.proofs.Common.{◌≡◌, ℕ, ◌+◌, ◌<◌, ◌≤◌, List,
 use Rattle.std.specs.Prelude.{max, None}
 use Rattle.lba_ranges.specs.HeldBlocks.{HeldBlocks}
 use Rattle.lba_ranges.specs.Writings.{Held, after}
-use Rattle.lba_ranges.proofs.WritingLemmas.{mapped-none}
+use Rattle.lba_ranges.proofs.PublicLaws.{mapped-none}
 use Rattle.cm_base.specs.Configuration.{Configuration, IsUnit}
 use Rattle.cm_base.specs.Units.{unit_of}
 use Rattle.cm_history.specs.declared.act.Entry.{Entry}
@@ -11,16 +11,16 @@ use Rattle.cm_history.specs.Deeds.{moment}
 use Rattle.cm_history.specs.Answers.{deed, writings, wrote_of}
 use Rattle.cm_history.specs.Room.{is_full, bytes_in, need, reserved}
 use Rattle.cm_history.specs.History.{past_of}
-use Rattle.cm_history.proofs.CountLaw.{past-is}
+use Rattle.cm_history.proofs.PublicLaws.{past-is}
 use Rattle.copy_jobs.specs.declared.job.Job.{Job}
 use Rattle.rod_store.specs.Store.{Store}
 use Rattle.unit_core.specs.declared.plan.Plan.{Plan}
 use Rattle.cm_history.specs.Asked.{IsAsked}
-use Rattle.unit_core.specs.Agreeing.{TokensAgree, JobsAgree, CountersAgree, KeepsRoom, IsRecord, Agrees}
-use Rattle.unit_core.specs.BlockChanges.{writings_of}
-use Rattle.unit_core.specs.JobChanges.{jobs_after}
-use Rattle.unit_core.specs.TokenChanges.{tokens_after}
-use Rattle.unit_core.specs.Planning.{IsDeed, IsPlan}
+use Rattle.unit_core.specs.inner.Agreeing.{TokensAgree, JobsAgree, CountersAgree, KeepsRoom, IsRecord, Agrees}
+use Rattle.unit_core.specs.inner.BlockChanges.{writings_of}
+use Rattle.unit_core.specs.inner.JobChanges.{jobs_after}
+use Rattle.unit_core.specs.inner.TokenChanges.{tokens_after}
+use Rattle.unit_core.specs.inner.Planning.{IsDeed, IsPlan}
 use Rattle.unit_core.proofs.Pasts.{past_of-push, own-push}
 use Rattle.unit_core.proofs.Blocks.{blocks-step}
 use Rattle.unit_core.proofs.Rooms.{room-of, payload-step, reserved-step}

@@ -13,27 +13,26 @@ use Rattle.cm_history.specs.declared.act.Act.{Act}
 use Rattle.cm_history.specs.Deeds.{Deed, is_answered}
 use Rattle.cm_history.specs.Blocks.{held, cut}
 use Rattle.cm_history.specs.Tokens.{Token, Fate, Live, Expired, Evicted, Deleted, tokens, token_after, made_token, rod, is_live, is_over, is_live_at, is_older, gives_way, is_populate, is_delete_of, is_redeem_of}
-use Rattle.cm_history.proofs.Lists.{filter-passes}
+use Rattle.cm_history.proofs.PublicLaws.{filter-passes, filter-map, filter-same, map-append, map-map, map-same, all-map, all-same, and_first}
 use Rattle.rod_store.specs.declared.kept.Kept.{Kept}
-use Rattle.rod_store.specs.declared.kept.Standing.{Standing}
+use Rattle.rod_store.specs.declared.kept.TokenState.{TokenState}
 use Rattle.rod_store.specs.Kept as store
-use Rattle.unit_core.specs.Tables.{standing_of, kept_of, tokens_of}
-use Rattle.cm_history.proofs.Finding.{filter-map, filter-same, map-append, map-map, map-same, all-map, all-same}
-use Rattle.unit_core.proofs.Bools.{and_first, eqb-turned}
+use Rattle.unit_core.specs.inner.Tables.{token_state_of, kept_of, tokens_of}
+use Rattle.copy_jobs.proofs.PublicLaws.{same-sym as eqb-turned}
 
 -- ---- one token
 
-pub live-standing : (r : HeldBlocks) (t : Token) (f : Fate) → store.is_live (standing_of r t f) ≡ is_live f
-live-standing r t Live = refl
-live-standing r t Expired = refl
-live-standing r t Evicted = refl
-live-standing r t Deleted = refl
+pub live-state : (r : HeldBlocks) (t : Token) (f : Fate) → store.is_live (token_state_of r t f) ≡ is_live f
+live-state r t Live = refl
+live-state r t Expired = refl
+live-state r t Evicted = refl
+live-state r t Deleted = refl
 
-over-standing : (now : ℕ) (r : HeldBlocks) (t : Token) (f : Fate) → store.is_over now (standing_of r t f) ≡ (is_live f && is_over now t)
-over-standing now r t Live = refl
-over-standing now r t Expired = refl
-over-standing now r t Evicted = refl
-over-standing now r t Deleted = refl
+over-state : (now : ℕ) (r : HeldBlocks) (t : Token) (f : Fate) → store.is_over now (token_state_of r t f) ≡ (is_live f && is_over now t)
+over-state now r t Live = refl
+over-state now r t Expired = refl
+over-state now r t Evicted = refl
+over-state now r t Deleted = refl
 
 -- the token at a moment: it has expired where its time is over
 abbrev expire : ℕ → Token → Token
@@ -41,10 +40,10 @@ expire now t = if is_live t.fate && is_over now t then record t { fate = Expired
 
 expire-kept : (unit : UnitConfig) (now : ℕ) (t : Token) → store.expire_at now (kept_of unit t) ≡ kept_of unit (expire now t)
 expire-kept unit now t =
-    ap (λ b. if b then record (kept_of unit t) { standing = Standing.Expired } else kept_of unit t) (over-standing now (rod unit t) t t.fate)
+    ap (λ b. if b then record (kept_of unit t) { state = TokenState.Expired } else kept_of unit t) (over-state now (rod unit t) t t.fate)
     ∙ go (is_live t.fate && is_over now t)
   where
-    go : (b : Bool) → (if b then record (kept_of unit t) { standing = Standing.Expired } else kept_of unit t) ≡ kept_of unit (if b then record t { fate = Expired } else t)
+    go : (b : Bool) → (if b then record (kept_of unit t) { state = TokenState.Expired } else kept_of unit t) ≡ kept_of unit (if b then record t { fate = Expired } else t)
     go true = refl
     go false = refl
 
@@ -87,8 +86,8 @@ expired-all unit now ts =
 live-kept : (unit : UnitConfig) (now : ℕ) (ts : List Token) → store.live (store.expired now (map (kept_of unit) ts)) ≡ map (kept_of unit) (filter (is_live_at now) ts)
 live-kept unit now ts =
     ap store.live (expired-all unit now ts)
-    ∙ filter-map (kept_of unit) (λ (k : Kept HeldBlocks). store.is_live k.standing) (map (expire now) ts)
-    ∙ ap (map (kept_of unit)) (filter-same (λ t. store.is_live (kept_of unit t).standing) (λ (t : Token). is_live t.fate) (map (expire now) ts) (λ t i. live-standing (rod unit t) t t.fate))
+    ∙ filter-map (kept_of unit) (λ (k : Kept HeldBlocks). store.is_live k.state) (map (expire now) ts)
+    ∙ ap (map (kept_of unit)) (filter-same (λ t. store.is_live (kept_of unit t).state) (λ (t : Token). is_live t.fate) (map (expire now) ts) (λ t i. live-state (rod unit t) t t.fate))
     ∙ ap (map (kept_of unit)) (live-all now ts)
 
 is-live : (f : Fate) → is_live f ≡ true → f ≡ Live
@@ -97,12 +96,12 @@ is-live Expired e = cc
 is-live Evicted e = cc
 is-live Deleted e = cc
 
-last-kept : (unit : UnitConfig) (t : Token) → is_live t.fate ≡ true → store.used_last (kept_of unit t).standing ≡ t.last_use
-last-kept unit t e = ap (λ f. store.used_last (standing_of (rod unit t) t f)) (is-live t.fate e)
+last-kept : (unit : UnitConfig) (t : Token) → is_live t.fate ≡ true → store.used_last (kept_of unit t).state ≡ t.last_use
+last-kept unit t e = ap (λ f. store.used_last (token_state_of (rod unit t) t f)) (is-live t.fate e)
 
 older-kept : (unit : UnitConfig) (a b : Token) → is_live a.fate ≡ true → is_live b.fate ≡ true → store.is_older (kept_of unit a) (kept_of unit b) ≡ is_older a b
 older-kept unit a b x y =
-    ap (λ n. nat_lt n (store.used_last (kept_of unit b).standing) || (n == store.used_last (kept_of unit b).standing && nat_le a.serial b.serial)) (last-kept unit a x)
+    ap (λ n. nat_lt n (store.used_last (kept_of unit b).state) || (n == store.used_last (kept_of unit b).state && nat_le a.serial b.serial)) (last-kept unit a x)
     ∙ ap (λ n. nat_lt a.last_use n || (a.last_use == n && nat_le a.serial b.serial)) (last-kept unit b y)
 
 -- a live token makes room in the store exactly where it does in the past
@@ -112,7 +111,7 @@ room-kept unit now ts t e =
     let lives : is_live t.fate ≡ true = and_first (is_live t.fate) (not (is_over now t)) e in
     let all = live-kept unit now ts in
     let live = filter (is_live_at now) ts in
-    ap (λ b. b && ((length (store.live (store.expired now (map (kept_of unit) ts))) == live_tokens) && list_all (store.is_older (kept_of unit t)) (store.live (store.expired now (map (kept_of unit) ts))))) (live-standing (rod unit t) t t.fate ∙ lives)
+    ap (λ b. b && ((length (store.live (store.expired now (map (kept_of unit) ts))) == live_tokens) && list_all (store.is_older (kept_of unit t)) (store.live (store.expired now (map (kept_of unit) ts))))) (live-state (rod unit t) t t.fate ∙ lives)
     ∙ ap (λ l. (length l == live_tokens) && list_all (store.is_older (kept_of unit t)) l) all
     ∙ ap (λ n. (n == live_tokens) && list_all (store.is_older (kept_of unit t)) (map (kept_of unit) live)) (length-map live (kept_of unit))
     ∙ ap (λ b. (length live == live_tokens) && b)
@@ -122,8 +121,8 @@ room-kept unit now ts t e =
 
 -- ---- a token after one more deed
 
-not-live : (unit : UnitConfig) (now : ℕ) (t : Token) → is_live_at now t ≡ false → store.is_live (kept_of unit (expire now t)).standing ≡ false
-not-live unit now t e = live-standing (rod unit (expire now t)) (expire now t) (expire now t).fate ∙ live-expire now t ∙ e
+not-live : (unit : UnitConfig) (now : ℕ) (t : Token) → is_live_at now t ≡ false → store.is_live (kept_of unit (expire now t)).state ≡ false
+not-live unit now t e = live-state (rod unit (expire now t)) (expire now t) (expire now t).fate ∙ live-expire now t ∙ e
 
 after-dead : (d : Deed) (ts : List Token) (t : Token) → is_live_at d.moment t ≡ false → token_after d ts t ≡ expire d.moment t
 after-dead d ts t e = go (is_live t.fate) (is_over d.moment t) e
@@ -157,7 +156,7 @@ after-live d ts t e = go (is_live t.fate) (is_over d.moment t) e
 
 -- what a deed does to a kept token, where it does nothing but to live ones
 step-kept : (unit : UnitConfig) (d : Deed) (ts : List Token) (g : Kept HeldBlocks → Kept HeldBlocks)
-    → ((k : Kept HeldBlocks) → store.is_live k.standing ≡ false → g k ≡ k)
+    → ((k : Kept HeldBlocks) → store.is_live k.state ≡ false → g k ≡ k)
     → ((t : Token) → is_live_at d.moment t ≡ true → kept_of unit (token_after d ts t) ≡ g (kept_of unit t))
     → (t : Token) → kept_of unit (token_after d ts t) ≡ g (store.expire_at d.moment (kept_of unit t))
 step-kept unit d ts g dead lives t = go (is_live_at d.moment t) refl
@@ -169,7 +168,7 @@ step-kept unit d ts g dead lives t = go (is_live_at d.moment t) refl
         ∙ ap g (sym (expire-kept unit d.moment t))
 
 steps-kept : (unit : UnitConfig) (d : Deed) (ts : List Token) (g : Kept HeldBlocks → Kept HeldBlocks)
-    → ((k : Kept HeldBlocks) → store.is_live k.standing ≡ false → g k ≡ k)
+    → ((k : Kept HeldBlocks) → store.is_live k.state ≡ false → g k ≡ k)
     → ((t : Token) → is_live_at d.moment t ≡ true → kept_of unit (token_after d ts t) ≡ g (kept_of unit t))
     → map (kept_of unit) (map (token_after d ts) ts) ≡ map g (store.expired d.moment (map (kept_of unit) ts))
 steps-kept unit d ts g dead lives =
@@ -186,7 +185,7 @@ none-made d past serial _ e = refl
 
 -- no token was made
 unmade : (unit : UnitConfig) (d : Deed) (past : List Deed) (g : Kept HeldBlocks → Kept HeldBlocks) → (is_populate d.entry.act && is_answered d) ≡ false
-    → ((k : Kept HeldBlocks) → store.is_live k.standing ≡ false → g k ≡ k)
+    → ((k : Kept HeldBlocks) → store.is_live k.state ≡ false → g k ≡ k)
     → ((t : Token) → is_live_at d.moment t ≡ true → kept_of unit (token_after d (tokens past) t) ≡ g (kept_of unit t))
     → tokens_of unit (d ∷ past) ≡ map g (store.expired d.moment (tokens_of unit past))
 unmade unit d past g none dead lives =
@@ -223,23 +222,23 @@ idle-tokens unit d past none undeleted unused =
 pub deleted-tokens : (unit : UnitConfig) (d : Deed) (past : List Deed) (serial : ℕ) → d.entry.act ≡ Act.Delete serial
     → tokens_of unit (d ∷ past) ≡ store.deleted serial (store.expired d.moment (tokens_of unit past))
 deleted-tokens unit d past serial is =
-    unmade unit d past (store.end_at Standing.Deleted serial) (ap (λ a. is_populate a && is_answered d) is) dead lives
+    unmade unit d past (store.end_at TokenState.Deleted serial) (ap (λ a. is_populate a && is_answered d) is) dead lives
   where
-    dead : (k : Kept HeldBlocks) → store.is_live k.standing ≡ false → store.end_at Standing.Deleted serial k ≡ k
-    dead k e = ap (λ b. if b && (k.serial == serial) then record k { standing = Standing.Deleted } else k) e
+    dead : (k : Kept HeldBlocks) → store.is_live k.state ≡ false → store.end_at TokenState.Deleted serial k ≡ k
+    dead k e = ap (λ b. if b && (k.serial == serial) then record k { state = TokenState.Deleted } else k) e
 
-    lives : (t : Token) → is_live_at d.moment t ≡ true → kept_of unit (token_after d (tokens past) t) ≡ store.end_at Standing.Deleted serial (kept_of unit t)
+    lives : (t : Token) → is_live_at d.moment t ≡ true → kept_of unit (token_after d (tokens past) t) ≡ store.end_at TokenState.Deleted serial (kept_of unit t)
     lives t e =
-        let live : store.is_live (kept_of unit t).standing ≡ true = live-standing (rod unit t) t t.fate ∙ and_first (is_live t.fate) (not (is_over d.moment t)) e in
+        let live : store.is_live (kept_of unit t).state ≡ true = live-state (rod unit t) t t.fate ∙ and_first (is_live t.fate) (not (is_over d.moment t)) e in
         ap (kept_of unit)
         (after-live d (tokens past) t e
         ∙ ap (λ a. if is_delete_of t.serial a then record t { fate = Deleted } else if is_populate a && is_answered d && gives_way d.moment (tokens past) t then record t { fate = Evicted } else
         if is_redeem_of t.serial a && is_answered d then record t { last_use = d.moment } else t) is
         ∙ ap (λ b. if b then record t { fate = Deleted } else t) (eqb-turned serial t.serial))
         ∙ go (t.serial == serial)
-        ∙ sym (ap (λ b. if b && (t.serial == serial) then record (kept_of unit t) { standing = Standing.Deleted } else kept_of unit t) live)
+        ∙ sym (ap (λ b. if b && (t.serial == serial) then record (kept_of unit t) { state = TokenState.Deleted } else kept_of unit t) live)
       where
-        go : (b : Bool) → kept_of unit (if b then record t { fate = Deleted } else t) ≡ (if b then record (kept_of unit t) { standing = Standing.Deleted } else kept_of unit t)
+        go : (b : Bool) → kept_of unit (if b then record t { fate = Deleted } else t) ≡ (if b then record (kept_of unit t) { state = TokenState.Deleted } else kept_of unit t)
         go true = refl
         go false = refl
 
@@ -248,13 +247,13 @@ pub used-tokens : (unit : UnitConfig) (d : Deed) (past : List Deed) (text : List
 used-tokens unit d past text target is answered =
     unmade unit d past (store.use_at (serial_of text) d.moment) (ap (λ a. is_populate a && is_answered d) is) dead lives
   where
-    dead : (k : Kept HeldBlocks) → store.is_live k.standing ≡ false → store.use_at (serial_of text) d.moment k ≡ k
-    dead k e = ap (λ b. if b && (k.serial == serial_of text) then record k { standing = store.with_use d.moment k.standing } else k) e
+    dead : (k : Kept HeldBlocks) → store.is_live k.state ≡ false → store.use_at (serial_of text) d.moment k ≡ k
+    dead k e = ap (λ b. if b && (k.serial == serial_of text) then record k { state = store.with_use d.moment k.state } else k) e
 
     lives : (t : Token) → is_live_at d.moment t ≡ true → kept_of unit (token_after d (tokens past) t) ≡ store.use_at (serial_of text) d.moment (kept_of unit t)
     lives t e =
         let lives : is_live t.fate ≡ true = and_first (is_live t.fate) (not (is_over d.moment t)) e in
-        let live : store.is_live (kept_of unit t).standing ≡ true = live-standing (rod unit t) t t.fate ∙ lives in
+        let live : store.is_live (kept_of unit t).state ≡ true = live-state (rod unit t) t t.fate ∙ lives in
         ap (kept_of unit)
         (after-live d (tokens past) t e
         ∙ ap (λ a. if is_delete_of t.serial a then record t { fate = Deleted } else if is_populate a && is_answered d && gives_way d.moment (tokens past) t then record t { fate = Evicted } else
@@ -263,13 +262,13 @@ used-tokens unit d past text target is answered =
         ∙ go-and (serial_of text == t.serial)
         ∙ ap (λ b. if b then record t { last_use = d.moment } else t) (eqb-turned (serial_of text) t.serial))
         ∙ go (t.serial == serial_of text) (is-live t.fate lives)
-        ∙ sym (ap (λ b. if b && (t.serial == serial_of text) then record (kept_of unit t) { standing = store.with_use d.moment (kept_of unit t).standing } else kept_of unit t) live)
+        ∙ sym (ap (λ b. if b && (t.serial == serial_of text) then record (kept_of unit t) { state = store.with_use d.moment (kept_of unit t).state } else kept_of unit t) live)
       where
         go-and : (b : Bool) → (if b && true then record t { last_use = d.moment } else t) ≡ (if b then record t { last_use = d.moment } else t)
         go-and true = refl
         go-and false = refl
 
-        go : (b : Bool) → t.fate ≡ Live → kept_of unit (if b then record t { last_use = d.moment } else t) ≡ (if b then record (kept_of unit t) { standing = store.with_use d.moment (kept_of unit t).standing } else kept_of unit t)
+        go : (b : Bool) → t.fate ≡ Live → kept_of unit (if b then record t { last_use = d.moment } else t) ≡ (if b then record (kept_of unit t) { state = store.with_use d.moment (kept_of unit t).state } else kept_of unit t)
         go true e = rw e refl
         go false e = refl
 
@@ -280,7 +279,7 @@ made-tokens unit d past id timeout ranges is answered =
     ∙ ap (λ l. l ++ map (kept_of unit) (made_token d past (length (tokens past)) d.entry.act)) (steps-kept unit d (tokens past) (store.evict_if now) dead lives)
     ∙ ap (λ a. map (store.evict_if now) now ++ map (kept_of unit) (made_token d past (length (tokens past)) a)) is
     ∙ ap (λ b. map (store.evict_if now) now ++ map (kept_of unit) (if b then new ∷ [] else [])) answered
-    ∙ ap (λ n. map (store.evict_if now) now ++ record { serial = n; blocks = total ranges; standing = Standing.Live timeout d.moment (cut unit (held past) (blocks_of ranges)) } ∷ []) count
+    ∙ ap (λ n. map (store.evict_if now) now ++ record { serial = n; blocks = total ranges; state = TokenState.Live timeout d.moment (cut unit (held past) (blocks_of ranges)) } ∷ []) count
   where
     now : List (Kept HeldBlocks)
     now = store.expired d.moment (tokens_of unit past)
@@ -291,8 +290,8 @@ made-tokens unit d past id timeout ranges is answered =
     count : length (tokens past) ≡ length now
     count = sym (length-map (tokens_of unit past) (store.expire_at d.moment) ∙ length-map (tokens past) (kept_of unit))
 
-    dead : (k : Kept HeldBlocks) → store.is_live k.standing ≡ false → store.evict_if now k ≡ k
-    dead k e = ap (λ b. if b && ((length (store.live now) == live_tokens) && list_all (store.is_older k) (store.live now)) then record k { standing = Standing.Evicted } else k) e
+    dead : (k : Kept HeldBlocks) → store.is_live k.state ≡ false → store.evict_if now k ≡ k
+    dead k e = ap (λ b. if b && ((length (store.live now) == live_tokens) && list_all (store.is_older k) (store.live now)) then record k { state = TokenState.Evicted } else k) e
 
     lives : (t : Token) → is_live_at d.moment t ≡ true → kept_of unit (token_after d (tokens past) t) ≡ store.evict_if now (kept_of unit t)
     lives t e =
@@ -302,8 +301,8 @@ made-tokens unit d past id timeout ranges is answered =
         if is_redeem_of t.serial a && is_answered d then record t { last_use = d.moment } else t) is
         ∙ ap (λ b. if b && gives_way d.moment (tokens past) t then record t { fate = Evicted } else t) answered)
         ∙ go (gives_way d.moment (tokens past) t)
-        ∙ sym (ap (λ b. if b then record (kept_of unit t) { standing = Standing.Evicted } else kept_of unit t) (room-kept unit d.moment (tokens past) t e))
+        ∙ sym (ap (λ b. if b then record (kept_of unit t) { state = TokenState.Evicted } else kept_of unit t) (room-kept unit d.moment (tokens past) t e))
       where
-        go : (b : Bool) → kept_of unit (if b then record t { fate = Evicted } else t) ≡ (if b then record (kept_of unit t) { standing = Standing.Evicted } else kept_of unit t)
+        go : (b : Bool) → kept_of unit (if b then record t { fate = Evicted } else t) ≡ (if b then record (kept_of unit t) { state = TokenState.Evicted } else kept_of unit t)
         go true = refl
         go false = refl

@@ -1,9 +1,3 @@
-pub mod Standing
+pub mod UnitState
 pub mod Acting
-pub mod Tables
-pub mod Agreeing
-pub mod BlockChanges
-pub mod JobChanges
-pub mod TokenChanges
-pub mod Planning
-pub mod Asked
+pub mod inner

@@ -1,6 +1,6 @@
 ghost use Rattle.std.specs.Prelude.{◌≡◌, ℕ, OnOk, OnErr, false};
 ghost use Rattle.lba_ranges.specs.Writings.{after};
-ghost use Rattle.unit_core.specs.BlockChanges.{writings_of, MayChange, is_nothing};
+ghost use Rattle.unit_core.specs.inner.BlockChanges.{writings_of, MayChange, is_nothing};
 
 use cm_base::OutOfMemory;
 use lba_ranges::{BlockList, Blocks, RangeList};

@@ -3,7 +3,7 @@ ghost use Rattle.std.specs.Prelude.{◌≡◌, ◌<◌, ◌^◌, ◌∷◌, [], 
 ghost use Rattle.lba_ranges.specs.Denoted.{blocks_of};
 ghost use Rattle.lba_ranges.specs.Writings.{unmapped};
 ghost use Rattle.cm_history.specs.Answers.{answer_read, answer_write, answer_unmap, answer_status, put_at, wrote_of};
-ghost use Rattle.unit_core.specs.BlockChanges.{writings_of, MayChange};
+ghost use Rattle.unit_core.specs.inner.BlockChanges.{writings_of, MayChange};
 
 use crate::block_change::BlockChange;
 use crate::refusals;
@@ -11,7 +11,7 @@ use cm_base::{OutOfMemory, UnitConfig};
 use cm_history::Answer;
 use lba_ranges::{BlockList, Blocks, Range, RangeList};
 use std::alloc::Global;
-use unmap_thin::{mapped_after, runs};
+use unmap_thin::{map_runs, mapped_after};
 
 /// What an act is answered, and what it is to write.
 #[derive(Drop)]
@@ -125,6 +125,6 @@ pub(crate) fn status<B: Blocks>(
     if lba >= unit.blocks {
         return Ok(answered(refusals::lba_out_of_range()));
     }
-    let list = runs(alloc, blocks, unit.blocks, lba)?;
+    let list = map_runs(alloc, blocks, unit.blocks, lba)?;
     Ok(answered(Answer::Status(list)))
 }

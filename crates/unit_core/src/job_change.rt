@@ -1,5 +1,5 @@
 ghost use Rattle.std.specs.Prelude.{◌≡◌, OnOk, OnErr, true};
-ghost use Rattle.unit_core.specs.JobChanges.{jobs_after, MayJob, grows};
+ghost use Rattle.unit_core.specs.inner.JobChanges.{jobs_after, MayJob, grows};
 
 use cm_base::OutOfMemory;
 use cm_history::CopyEnd;

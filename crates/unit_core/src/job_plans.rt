@@ -8,7 +8,7 @@ ghost use Rattle.cm_history.specs.declared.act.Actor.{Actor};
 ghost use Rattle.cm_history.specs.Limits.{within_limits};
 ghost use Rattle.cm_history.specs.Legal.{may_ask};
 ghost use Rattle.unit_core.specs.Acting.{past};
-ghost use Rattle.unit_core.specs.Planning.{IsPlan, WritesPiece, piece_plan};
+ghost use Rattle.unit_core.specs.inner.Planning.{IsPlan, WritesPiece, piece_plan};
 
 use crate::block_change::BlockChange;
 use crate::job_change::JobChange;
@@ -158,7 +158,7 @@ impl<B: Blocks + Drop> UnitOver<B> {
         ensures { (at : ℕ) → IsPlan self.now.config self.now.unit (past self.now) actor at (Act.Abort id) result }
     {
         let key = token_key(actor, id);
-        if !self.tables.jobs.runs_behind(key) {
+        if !self.tables.jobs.runs_in_background(key) {
             return Plan::answered(refusals::no_such_operation());
         }
         Plan::of_jobs(Answer::Done, JobChange::End { key })

@@ -1,5 +1,5 @@
 ghost use Rattle.std.specs.Prelude.{◌≡◌};
-ghost use Rattle.unit_core.specs.Planning.{quiet, of_blocks};
+ghost use Rattle.unit_core.specs.inner.Planning.{quiet, of_blocks};
 
 use crate::block_change::BlockChange;
 use crate::block_plans::BlockPlan;

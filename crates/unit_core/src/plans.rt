@@ -6,7 +6,7 @@ ghost use Rattle.cm_history.specs.declared.act.Actor.{Actor};
 ghost use Rattle.cm_history.specs.Limits.{within_limits};
 ghost use Rattle.cm_history.specs.Legal.{may_ask};
 ghost use Rattle.unit_core.specs.Acting.{past, ends_operation_at};
-ghost use Rattle.unit_core.specs.Planning.{IsPlan, Reads, Writes};
+ghost use Rattle.unit_core.specs.inner.Planning.{IsPlan, Reads, Writes};
 
 use crate::plan::Plan;
 use crate::room::token_key;

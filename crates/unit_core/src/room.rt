@@ -4,17 +4,14 @@ ghost use Rattle.cm_history.specs.declared.act.Actor.{Actor};
 ghost use Rattle.cm_history.specs.Limits.{within_limits};
 ghost use Rattle.cm_history.specs.Legal.{may_ask};
 ghost use Rattle.cm_history.specs.Operations.{Form, OfToken, OfCopy, would_serve};
-ghost use Rattle.cm_history.specs.Room.{bytes_in, pieces, need};
+ghost use Rattle.cm_history.specs.Room.{bytes_in, need};
 ghost use Rattle.unit_core.specs.Acting.{past, is_full_at, serves_operation};
-ghost use Rattle.unit_core.specs.Tables.{number_of, key_of};
+ghost use Rattle.unit_core.specs.inner.Tables.{number_of, key_of};
 
 use crate::unit::UnitOver;
-use cm_history::{Act, Actor};
+use cm_history::{Act, Actor, pieces};
 use copy_jobs::Key;
 use lba_ranges::Blocks;
-
-/// Blocks of a piece.
-const PIECE_BLOCKS: u64 = 1024;
 
 /// The bytes of a Write, and none of another act.
 pub(crate) fn bytes_in(act: &Act) -> u64
@@ -25,14 +22,6 @@ pub(crate) fn bytes_in(act: &Act) -> u64
         Act::Write { list, .. } => list.blocks() * u64::from(list.block_length()),
         _ => 0,
     }
-}
-
-/// How many pieces so many blocks are written in.
-fn pieces(blocks: u64) -> u64
-    requires { blocks ≤ 1_048_576 }
-    ensures { result ≡ pieces blocks }
-{
-    blocks.div_ceil(PIECE_BLOCKS)
 }
 
 /// The number of the one who asks.
@@ -77,7 +66,7 @@ impl<B: Blocks + Drop> UnitOver<B> {
         match act {
             Act::Advance { id } | Act::End { id } => jobs.waits(Some(token_key(actor, *id))),
             Act::Pump => jobs.waits(None),
-            Act::Abort { id } => jobs.runs_behind(token_key(actor, *id)),
+            Act::Abort { id } => jobs.runs_in_background(token_key(actor, *id)),
             Act::Close { id, .. } => jobs.runs(copy_key(actor, *id)),
             _ => false,
         }

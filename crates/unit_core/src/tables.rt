@@ -2,10 +2,10 @@ ghost use Rattle.std.specs.Prelude.{◌≡◌, ℕ, ◌≤◌, ◌<◌, [], leng
 ghost use Rattle.cm_base.specs.Configuration.{IsUnit};
 ghost use Rattle.cm_base.specs.Units.{unit_of};
 ghost use Rattle.lba_ranges.specs.Writings.{after};
-ghost use Rattle.unit_core.specs.BlockChanges.{writings_of, MayChange, is_nothing};
-ghost use Rattle.unit_core.specs.JobChanges.{jobs_after, MayJob, grows};
-ghost use Rattle.unit_core.specs.TokenChanges.{tokens_after, MayToken, is_make};
-ghost use Rattle.unit_core.specs.Planning.{takes_none};
+ghost use Rattle.unit_core.specs.inner.BlockChanges.{writings_of, MayChange, is_nothing};
+ghost use Rattle.unit_core.specs.inner.JobChanges.{jobs_after, MayJob, grows};
+ghost use Rattle.unit_core.specs.inner.TokenChanges.{tokens_after, MayToken, is_make};
+ghost use Rattle.unit_core.specs.inner.Planning.{takes_none};
 
 use crate::plan::Plan;
 use cm_base::{Config, OutOfMemory};

@@ -1,6 +1,6 @@
 ghost use Rattle.std.specs.Prelude.{◌≡◌, ◌≤◌, ◌<◌, length, OnOk, OnErr, true};
 ghost use Rattle.rod_store.specs.Kept.{expired, live};
-ghost use Rattle.unit_core.specs.TokenChanges.{tokens_after, MayToken, is_make};
+ghost use Rattle.unit_core.specs.inner.TokenChanges.{tokens_after, MayToken, is_make};
 
 use cm_base::{Config, OutOfMemory};
 use cm_history::TokenText;

@@ -5,7 +5,7 @@ ghost use Rattle.cm_history.specs.declared.act.Actor.{Actor};
 ghost use Rattle.cm_history.specs.Limits.{within_limits};
 ghost use Rattle.cm_history.specs.Legal.{may_ask};
 ghost use Rattle.unit_core.specs.Acting.{past};
-ghost use Rattle.unit_core.specs.Planning.{IsPlan};
+ghost use Rattle.unit_core.specs.inner.Planning.{IsPlan};
 
 use crate::block_change::BlockChange;
 use crate::job_change::JobChange;

@@ -7,7 +7,7 @@ ghost use Rattle.cm_history.specs.Deeds.{last_stamp};
 ghost use Rattle.cm_history.specs.Blocks.{mapped};
 ghost use Rattle.cm_history.specs.History.{on, answer};
 ghost use Rattle.cm_history.specs.Forms.{HasForm};
-ghost use Rattle.unit_core.specs.Standing.{Standing};
+ghost use Rattle.unit_core.specs.UnitState.{UnitState};
 ghost use Rattle.cm_history.specs.Tokens.{Token, rod};
 ghost use Rattle.unit_core.specs.Acting.{past, is_full_at, entry_at, serves_operation, ends_operation_at, MayRedeem};
 
@@ -37,10 +37,10 @@ pub struct UnitOver<B: Blocks + Drop> {
 pub type Unit = UnitOver<ExtentUnit>;
 
 impl<B: Blocks + Drop> Model for UnitOver<B> {
-    ghost use Rattle.unit_core.specs.Standing.{Standing};
-    ghost use Rattle.unit_core.specs.Agreeing.{Agrees};
+    ghost use Rattle.unit_core.specs.UnitState.{UnitState};
+    ghost use Rattle.unit_core.specs.inner.Agreeing.{Agrees};
 
-    ghost Value = { Standing };
+    ghost Value = { UnitState };
 
     ghost view = { λ u. record { config = u.config; unit = u.unit; entries = u.history.entries } };
 

@@ -1,6 +1,6 @@
 // Random acts on units of 40 blocks, and on one of 1100.
 ghost use Rattle.std.specs.Prelude.{◌≡◌, ◌<◌, length, IfOk};
-ghost use Rattle.unit_core.specs.Asked.{IsOfNexus};
+ghost use Rattle.unit_core.proofs.Asked.{IsOfNexus};
 
 use cm_base::{Config, Payload};
 use cm_history::{Act, CopyEnd, CopyState, TokenText};

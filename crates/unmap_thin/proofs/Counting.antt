@@ -5,8 +5,7 @@ use Rattle.std.proofs.lemmas.List.{take-append-drop}
 use Rattle.lba_ranges.specs.declared.ranges.Range.{Range}
 use Rattle.lba_ranges.specs.Denoted.{row, blocks_of, is_within, is_overlapping}
 use Rattle.lba_ranges.specs.Writings.{Held, mapped_below, mapped_among}
-use Rattle.lba_ranges.proofs.Rows.{blocks_of-append, blocks_of-below, blocks_of-get}
-use Rattle.lba_ranges.proofs.WritingLemmas.{among-append, among-le}
+use Rattle.lba_ranges.proofs.PublicLaws.{blocks_of-append, blocks_of-below, blocks_of-get, among-append, among-le}
 
 -- one more range
 pub among-next : (held : ℕ → Held) (rs : List Range) (k : ℕ) (r : Range) → slice_get rs k ≡ Some r

@@ -5,7 +5,7 @@ mod quota;
 mod status;
 
 pub use quota::mapped_after;
-pub use status::runs;
+pub use status::map_runs;
 
 #[cfg(test)]
 mod tests;

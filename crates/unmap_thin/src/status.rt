@@ -1,5 +1,6 @@
 ghost use Rattle.std.specs.Prelude.{◌≡◌, ◌-◌, ◌<◌, IfOk};
-ghost use Rattle.lba_ranges.specs.Status.{told_runs, map_runs, IsRun};
+ghost use Rattle.lba_ranges.specs.Status.{told_runs, map_runs};
+ghost use Rattle.lba_ranges.specs.inner.Status.{IsRun};
 
 use cm_base::OutOfMemory;
 use lba_ranges::{Blocks, MapRun, StatusList};
@@ -26,7 +27,7 @@ fn run_at<B: Blocks>(unit: &B, block: u64) -> MapRun
 
 /// The first 64 runs of mapped and unmapped blocks from `lba` on, of a unit of so many blocks. A run is cut at
 /// 4,294,967,295 blocks, and its rest is the next run (SBC-3, GET LBA STATUS).
-pub fn runs<B: Blocks>(
+pub fn map_runs<B: Blocks>(
     alloc: Global,
     unit: &B,
     blocks: u64,

@@ -80,13 +80,13 @@ fn is_run(run: &MapRun, lba: u64, count: u32, mapped: bool) -> bool {
 #[test]
 fn runs_are_told(rt: HostRuntime) -> Result<(), Fail> {
     let unit = unit_of_eight(&rt)?;
-    let all = runs(rt.alloc(), &unit, 8, 0)?;
+    let all = map_runs(rt.alloc(), &unit, 8, 0)?;
     let all = all.as_slice();
     assert!(rt; all.len() == 3);
     assert!(rt; is_run(&all[0], 0, 2, false));
     assert!(rt; is_run(&all[1], 2, 2, true));
     assert!(rt; is_run(&all[2], 4, 4, false));
-    let last = runs(rt.alloc(), &unit, 8, 3)?;
+    let last = map_runs(rt.alloc(), &unit, 8, 3)?;
     let last = last.as_slice();
     assert!(rt; last.len() == 2);
     assert!(rt; is_run(&last[0], 3, 1, true));

@@ -14,9 +14,9 @@ ghost use Rattle.xcopy_exec.specs.Meaning.{by_phase, by_stage, given, tally, mov
 
 use crate::open_record::{Counted, OpenRecord};
 use crate::phase::{CopyCommand, CopyPhase};
-use crate::pieces::{PIECE, Pieces};
+use crate::pieces::Pieces;
 use crate::stage::{Stage, copy_ended};
-use cm_history::Answer;
+use cm_history::{Answer, PIECE_BLOCKS};
 use cmd_machine::{CommandOf, Ended, LastAct};
 use lba_ranges::BlockList;
 use scsi_sense::Sense;
@@ -135,7 +135,7 @@ impl ListCopy {
             pieces: Pieces {
                 blocks,
                 at: 0,
-                left: (u64::from(segment.count) - 1) / PIECE,
+                left: (u64::from(segment.count) - 1) / PIECE_BLOCKS,
             },
         }))
     }

@@ -40,7 +40,11 @@ pub(crate) fn begin(unit: u16, id: u8, allocation: u32) -> CopyPhase
     ensures program { (config : Configuration) → by_phase config result ≡ ask_then unit (Act.Recall id) (told_copy allocation) }
     ensures sound { (config : Configuration) → unit < length config.units → IsSoundPhase config result }
 {
-    CopyPhase::Recalling(RecallQuery { unit, id, allocation })
+    CopyPhase::Recalling(RecallQuery {
+        unit,
+        id,
+        allocation,
+    })
 }
 
 impl RecallQuery {

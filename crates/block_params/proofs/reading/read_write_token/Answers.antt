@@ -7,7 +7,7 @@ use Rattle.scsi_sense.specs.Faults.{Refuses}
 use Rattle.block_params.specs.declared.lists.WriteList.{WriteList}
 use Rattle.block_params.specs.RangesRead.{ranges_in, ranges_from, length_fault, range_fault}
 use Rattle.block_params.specs.inner.RangesRead.{checked}
-use Rattle.scsi_sense.proofs.FaultLaws.{unless-none_first, unless-made, Refuses-made}
+use Rattle.scsi_sense.proofs.PublicLaws.{unless-none_first, unless-made, Refuses-made}
 use Rattle.block_params.proofs.reading.read_write_token.Goals as goal
 
 -- the list of these ranges

@@ -1,6 +1,6 @@
 use Rattle.std.proofs.Common.{◌≡◌, ◌+◌, [], ◌∷◌, ◌++◌, take, ap, subst, sym, ◌∙◌, append_assoc}
 use Rattle.std.proofs.lemmas.List.Elements.{All-push}
-use Rattle.lba_ranges.proofs.Rows.{take-get}
+use Rattle.lba_ranges.proofs.PublicLaws.{take-get}
 use Rattle.block_params.specs.inner.Lists.{IsRange, AreRanges}
 use Rattle.block_params.specs.ListsWritten.{descriptor, descriptors}
 use Rattle.block_params.proofs.Written.{descriptors-push}

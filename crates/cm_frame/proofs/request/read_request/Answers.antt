@@ -1,6 +1,6 @@
 use Rattle.std.proofs.Common.{◌<◌, slice_index, sym, subst, arith, ℕ}
 use Rattle.cm_base.specs.Fields.{AreBytes}
-use Rattle.cm_base.proofs.FieldLaws.{bytes-from_places, bytes-part}
+use Rattle.cm_base.proofs.PublicLaws.{bytes-from_places, bytes-part}
 use Rattle.cm_frame.proofs.DataFits.{data-fits}
 use Rattle.cm_frame.proofs.request.read_request.Goals as goal
 

@@ -1,7 +1,7 @@
 use Rattle.std.proofs.Common.{◌≡◌, ℕ, subst, sym, true}
 use Rattle.cm_history.specs.Limits.{within_limits}
 use Rattle.plain_model.specs.Holds.{AreWithin}
-use Rattle.plain_model.proofs.Within.{within-push}
+use Rattle.plain_model.proofs.PublicLaws.{within-push}
 use Rattle.copymgr.proofs.random.append.Goals as goal
 
 pub returns : goal.returns

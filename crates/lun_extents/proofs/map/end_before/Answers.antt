@@ -1,7 +1,7 @@
 use Rattle.std.proofs.Common.{◌≡◌, ◌∙◌, ◌+◌, ℕ, ◌-◌, ap, arith, cond}
 use Rattle.std.specs.Prelude.{Some, ◌==◌}
 use Rattle.lba_ranges.specs.HeldBlocks.{filled}
-use Rattle.lba_ranges.proofs.Cells.{length-filled}
+use Rattle.lba_ranges.proofs.PublicLaws.{length-filled}
 use Rattle.lun_extents.specs.Extents.{stored}
 use Rattle.lun_extents.proofs.Places.{held_at-over}
 use Rattle.lun_extents.proofs.Splits.{IsCut, cut-held, cut-ended}

@@ -1,7 +1,7 @@
 use Rattle.std.proofs.Common.{◌≡◌, ◌∙◌, ◌+◌, ◌-◌, ap, sym, arith, rules}
 use Rattle.std.specs.Prelude.{slice_range}
 use Rattle.lba_ranges.specs.HeldBlocks.{filled, held_at}
-use Rattle.lba_ranges.proofs.Cells.{length-filled}
+use Rattle.lba_ranges.proofs.PublicLaws.{length-filled}
 use Rattle.lun_extents.proofs.Places.{held_at-rest}
 use Rattle.lun_extents.proofs.map.rest_at.Goals as goal
 

@@ -3,7 +3,7 @@ use Rattle.std.specs.Prelude.{slice_range}
 use Rattle.std.proofs.lemmas.List.Sums.{sum_by_push}
 use Rattle.lba_ranges.specs.Denoted.{row, total}
 use Rattle.lba_ranges.specs.declared.ranges.Range.{Range}
-use Rattle.lba_ranges.proofs.Rows.{within-at, total-get, take-get, blocks_of-get}
+use Rattle.lba_ranges.proofs.PublicLaws.{within-at, total-get, take-get, blocks_of-get}
 use Rattle.lun_extents.proofs.Planned.{front-more}
 use Rattle.lun_extents.proofs.runs.runs_of.Goals as goal
 

@@ -2,7 +2,7 @@ use Rattle.std.proofs.Common.{◌≡◌, ◌∙◌, ◌+◌, ◌-◌, ◌<◌, �
 use Rattle.std.specs.Prelude.{slice_range}
 use Rattle.std.proofs.lemmas.List.{length-replicate}
 use Rattle.lba_ranges.specs.HeldBlocks.{filled, held_at}
-use Rattle.lba_ranges.proofs.Cells.{length-filled, held_at-hole}
+use Rattle.lba_ranges.proofs.PublicLaws.{length-filled, held_at-hole}
 use Rattle.lun_extents.specs.Extents.{stored, held_from, held_in}
 use Rattle.lun_extents.proofs.Places.{by_places, held_at-part}
 use Rattle.lun_extents.proofs.walk.piece_at.Goals as goal

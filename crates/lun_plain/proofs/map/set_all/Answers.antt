@@ -1,6 +1,6 @@
 use Rattle.std.proofs.Common.{◌≡◌, ◌<◌, ◌∷◌, [], suc, ap, sym, subst, length, arith, length-append, get_or, ◌∙◌}
 use Rattle.std.specs.Prelude.{IsSome, Option, List, ℕ, cond, ◌==◌}
-use Rattle.lba_ranges.proofs.WritingLemmas.{after-before, after-more}
+use Rattle.lba_ranges.proofs.PublicLaws.{after-before, after-more}
 use Rattle.lun_plain.proofs.map.set_all.Goals as goal
 
 pub set-requires : goal.set-requires

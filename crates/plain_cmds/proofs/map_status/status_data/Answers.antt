@@ -1,7 +1,7 @@
 use Rattle.std.proofs.Common.{◌≡◌, ◌+◌, ◌*◌, [], ◌∷◌, ◌++◌, take, ap, sym, ◌∙◌, append_assoc, arith}
 use Rattle.byteorder.specs.Endian.{big_bytes}
 use Rattle.cm_base.specs.Fields.{zeros}
-use Rattle.lba_ranges.proofs.Rows.{take-get}
+use Rattle.lba_ranges.proofs.PublicLaws.{take-get}
 use Rattle.cmd_program.specs.AnswerBytes.{run_bytes, runs_bytes}
 use Rattle.plain_cmds.proofs.MapRuns.{runs-push, all-told}
 use Rattle.plain_cmds.proofs.map_status.status_data.Goals as goal

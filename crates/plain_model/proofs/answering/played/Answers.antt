@@ -1,10 +1,10 @@
 use Rattle.std.proofs.Common.{◌≡◌, ◌+◌, ◌≤◌, ◌^◌, ◌++◌, ◌∷◌, [], ◌∙◌, sym, ap, subst, take, arith, List}
 use Rattle.cm_base.specs.declared.config.UnitConfig.{UnitConfig}
 use Rattle.cm_base.specs.Units.{unit_of}
-use Rattle.lba_ranges.proofs.Rows.{take-get}
+use Rattle.lba_ranges.proofs.PublicLaws.{take-get}
 use Rattle.cm_history.specs.declared.act.Entry.{Entry}
 use Rattle.cm_history.specs.History.{past_of}
-use Rattle.plain_model.specs.Pasts.{IsPlayed}
+use Rattle.plain_model.specs.inner.Pasts.{IsPlayed}
 use Rattle.plain_model.proofs.Sizes.{Fits, AllFit}
 use Rattle.plain_model.proofs.Steps.{fit-mine, fit-other, played-mine, played-other, follows}
 use Rattle.plain_model.proofs.answering.played.Goals as goal

@@ -1,5 +1,5 @@
 use Rattle.std.proofs.Common.{take}
-use Rattle.plain_model.specs.Pasts.{IsPlayed}
+use Rattle.plain_model.specs.inner.Pasts.{IsPlayed}
 use Rattle.cm_history.specs.History.{past_of}
 use Rattle.plain_model.proofs.Sizes.{AllFit}
 use Rattle.plain_model.proofs.answering.played.Given as goal

@@ -3,7 +3,7 @@ use Rattle.std.specs.Prelude.{nat_lt, true}
 use Rattle.std.proofs.lemmas.Bool.{lt-ltb}
 use Rattle.cm_history.specs.declared.answer.Answer.{Answer}
 use Rattle.cm_history.specs.Blocks.{held}
-use Rattle.lba_ranges.proofs.MapRuns.{runs-step, runs-done}
+use Rattle.lba_ranges.proofs.PublicLaws.{runs-step, runs-done}
 use Rattle.plain_model.proofs.blocks.status.Goals as goal
 use Rattle.plain_model.proofs.blocks.status.Goals.{then-loop-block-test+else-len-lt-TOLD_RUNS, else-loop-block-test}
 

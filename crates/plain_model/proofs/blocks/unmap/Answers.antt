@@ -1,6 +1,6 @@
 use Rattle.std.proofs.Common.{◌≡◌, ◌∙◌, ◌^◌, sym, arith, rules, true}
 use Rattle.lba_ranges.specs.Denoted.{is_within}
-use Rattle.lba_ranges.proofs.Rows.{within-more}
+use Rattle.lba_ranges.proofs.PublicLaws.{within-more}
 use Rattle.plain_model.proofs.blocks.unmap.Goals as goal
 
 pub unmapped-requires : goal.unmapped-requires

@@ -1,6 +1,6 @@
 use Rattle.std.proofs.Common.{All, take, subst, sym}
 use Rattle.std.proofs.lemmas.List.Elements.{All-push}
-use Rattle.lba_ranges.proofs.Rows.{take-get}
+use Rattle.lba_ranges.proofs.PublicLaws.{take-get}
 use Rattle.seg_parse.specs.inner.Sizes.{IsWide}
 use Rattle.seg_parse.specs.ListWritten.{segment_bytes, all_segments}
 use Rattle.seg_parse.proofs.Written.{all_segments-push, written-more}

@@ -1,7 +1,7 @@
 use Rattle.std.proofs.Common.{◌≡◌, ◌+◌, ◌≤◌, arith, refl, true, []}
 use Rattle.std.proofs.lemmas.Bool.Decides.{nat_tests}
 use Rattle.std.specs.Prelude.{nat_le}
-use Rattle.lba_ranges.proofs.Overlaps.{overlapping-cons}
+use Rattle.lba_ranges.proofs.PublicLaws.{overlapping-cons}
 use Rattle.unit_core.proofs.block_plans.write.Goals as goal
 
 pub mapped_after-requires-clause-apart : goal.mapped_after-requires-clause-apart

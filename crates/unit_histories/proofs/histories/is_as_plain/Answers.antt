@@ -2,7 +2,7 @@ use Rattle.std.proofs.Common.{◌≡◌, true, sym, subst}
 use Rattle.cm_history.specs.declared.act.Entry.{Entry}
 use Rattle.cm_history.specs.Limits.{within_limits}
 use Rattle.plain_model.specs.Holds.{AreWithin}
-use Rattle.plain_model.proofs.Within.{within-push}
+use Rattle.plain_model.proofs.PublicLaws.{within-push}
 use Rattle.unit_histories.proofs.histories.is_as_plain.Goals as goal
 
 pub returns-clause-within : goal.returns-clause-within

@@ -2,8 +2,7 @@ use Rattle.std.proofs.Common.{◌≤◌, ◌∙◌, length, ap, arith}
 use Rattle.std.proofs.lemmas.List.{take_all}
 use Rattle.lba_ranges.specs.Denoted.{blocks_of}
 use Rattle.lba_ranges.specs.Writings.{paired, after, mapped_among}
-use Rattle.lba_ranges.proofs.Rows.{within-at, length-blocks_of, blocks_of-below}
-use Rattle.lba_ranges.proofs.WritingLemmas.{mapped-put, mapped-le}
+use Rattle.lba_ranges.proofs.PublicLaws.{within-at, length-blocks_of, blocks_of-below, mapped-put, mapped-le}
 use Rattle.unmap_thin.proofs.Counting.{among-next, among-enough}
 use Rattle.unmap_thin.proofs.quota.mapped_after.Goals as goal
 

@@ -2,7 +2,7 @@ use Rattle.std.proofs.Common.{◌≡◌, ◌+◌, List, ap, ◌∙◌, arith, tr
 use Rattle.copy_jobs.specs.declared.job.Job.{Job}
 use Rattle.copy_jobs.specs.Jobs.{is_busy, is_crowded, is_running, reserved, reserved_for}
 use Rattle.copy_jobs.specs.Keeping.{keep}
-use Rattle.copy_jobs.specs.Tables.{IsTable}
+use Rattle.copy_jobs.specs.inner.Tables.{IsTable}
 use Rattle.copy_jobs.proofs.Counts.{one_if, byte-one, reserved-few}
 use Rattle.copy_jobs.proofs.Keeps.{kept-reserved, kept-table}
 use Rattle.copy_jobs.proofs.table.JobTable.add.Goals as goal

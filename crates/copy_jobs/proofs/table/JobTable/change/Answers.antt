@@ -4,23 +4,23 @@ use Rattle.std.specs.List.{position_or_len}
 use Rattle.copy_jobs.specs.declared.key.Key.{Key}
 use Rattle.copy_jobs.specs.declared.job.Job.{Job}
 use Rattle.copy_jobs.specs.declared.job.Work.{Work}
-use Rattle.copy_jobs.specs.declared.step.Step.{Step}
+use Rattle.copy_jobs.specs.declared.change.Change.{Change}
 use Rattle.copy_jobs.specs.Jobs.{runs_as, is_busy, is_running_work, running, reserved_for}
 use Rattle.copy_jobs.specs.Changes.{change, with_work}
-use Rattle.copy_jobs.specs.Steps.{stepped, MayStep}
-use Rattle.copy_jobs.specs.Tables.{IsTable}
+use Rattle.copy_jobs.specs.inner.Steps.{stepped, MayStep}
+use Rattle.copy_jobs.specs.inner.Tables.{IsTable}
 use Rattle.copy_jobs.proofs.Counts.{one_if, byte-one, reserved-few}
 use Rattle.copy_jobs.proofs.Changed.{change-set, change-running}
 use Rattle.copy_jobs.proofs.Stepping.{Stepping, stepping, stepped-table, stepped-frees}
 use Rattle.copy_jobs.proofs.table.JobTable.change.Goals as goal
 
 -- the job that stands at the place is the one that takes the step
-record Turn (step : Step) (key : Key) (jobs : List Job) (place : ℕ) (stood : Job) : Type 0 where
+record Turn (step : Change) (key : Key) (jobs : List Job) (place : ℕ) (stood : Job) : Type 0 where
   pub s : Stepping step key jobs
   pub here : stood ≡ s.it.job
   pub at : place ≡ position_or_len (runs_as key) jobs
 
-turn : {value jobs seen : List Job} {place own_running own_reserved : ℕ} (step : Step) (key : Key) (stood : Job) → jobs ≡ value → IsTable jobs own_running own_reserved
+turn : {value jobs seen : List Job} {place own_running own_reserved : ℕ} (step : Change) (key : Key) (stood : Job) → jobs ≡ value → IsTable jobs own_running own_reserved
     → is_busy key value ≡ true → MayStep step key value → seen ≡ jobs → place ≡ position_or_len (runs_as key) seen → stood ≡ get_or jobs place stood → Turn step key jobs place stood
 turn {value} {jobs} step key stood view is busy may same at read =
     let s = stepping step key jobs is.jobs (ap (is_busy key) view ∙ busy) (rw view may) in
@@ -28,7 +28,7 @@ turn {value} {jobs} step key stood view is busy may same at read =
     record { s = s; here = read ∙ ap (λ n. get_or jobs n stood) first ∙ s.it.stands stood; at = first }
 
 -- what is left at the place
-left : (step : Step) (key : Key) (jobs : List Job) (place : ℕ) (stood : Job) (work : Work) → Turn step key jobs place stood → work ≡ stepped step stood.work
+left : (step : Change) (key : Key) (jobs : List Job) (place : ℕ) (stood : Job) (work : Work) → Turn step key jobs place stood → work ≡ stepped step stood.work
     → set jobs place (record { key = stood.key; work = work }) ≡ change (runs_as key) (with_work (stepped step)) jobs
 left step key jobs place stood work t took =
     let new : Job = record { key = stood.key; work = work } in
@@ -38,12 +38,12 @@ left step key jobs place stood work t took =
     ∙ sym (change-set (runs_as key) (with_work (stepped step)) jobs t.s.it.job t.s.it.is)
 
 -- the work that is left is that of the job
-left-work : (step : Step) (key : Key) (jobs : List Job) (place : ℕ) (stood : Job) (work : Work) → (t : Turn step key jobs place stood) → work ≡ stepped step stood.work
+left-work : (step : Change) (key : Key) (jobs : List Job) (place : ℕ) (stood : Job) (work : Work) → (t : Turn step key jobs place stood) → work ≡ stepped step stood.work
     → work ≡ stepped step t.s.it.job.work
 left-work step key jobs place stood work t took = took ∙ ap (λ (j : Job). stepped step j.work) t.here
 
 -- a job that runs no more was counted
-was-counted : (step : Step) (key : Key) (jobs : List Job) (s : Stepping step key jobs) → one_if (not (is_running_work (stepped step s.it.job.work))) ≤ length (running jobs)
+was-counted : (step : Change) (key : Key) (jobs : List Job) (s : Stepping step key jobs) → one_if (not (is_running_work (stepped step s.it.job.work))) ≤ length (running jobs)
 was-counted step key jobs s =
     let counted = change-running (runs_as key) (with_work (stepped step)) jobs s.it.job s.it.is in
     let was : one_if (is_running_work s.it.job.work) ≡ 1 = rw s.runs refl in

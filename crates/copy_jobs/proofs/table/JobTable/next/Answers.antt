@@ -6,8 +6,10 @@ use Rattle.std.proofs.lemmas.Iterator.{YieldsList-from_slice}
 use Rattle.copy_jobs.specs.declared.key.Key.{Key}
 use Rattle.copy_jobs.specs.declared.job.Job.{Job}
 use Rattle.copy_jobs.specs.declared.piece.NextPiece.{NextPiece}
-use Rattle.copy_jobs.specs.Pieces.{is_next, IsPieceOf, IsNextPiece}
-use Rattle.copy_jobs.specs.Tables.{KeysApart, IsJob}
+use Rattle.copy_jobs.specs.Pieces.{is_next, IsNextPiece}
+use Rattle.copy_jobs.specs.inner.Pieces.{IsPieceOf}
+use Rattle.copy_jobs.specs.Tables.{KeysApart}
+use Rattle.copy_jobs.specs.inner.Tables.{IsJob}
 use Rattle.copy_jobs.proofs.Found.{find-job}
 use Rattle.copy_jobs.proofs.Next.{next-is}
 use Rattle.copy_jobs.proofs.table.JobTable.next.Goals as goal

@@ -1,8 +1,9 @@
 use Rattle.std.proofs.Common.{◌≡◌, length, ap, sym, arith}
 use Rattle.std.specs.Prelude.{is_some}
 use Rattle.std.proofs.lemmas.List.Sums.{count_by-le-length}
-use Rattle.lba_ranges.specs.HeldBlocks.{HeldBlocks, items_of}
-use Rattle.lba_ranges.specs.Runs.{pieces_of}
+use Rattle.lba_ranges.specs.HeldBlocks.{HeldBlocks}
+use Rattle.lba_ranges.specs.inner.HeldBlocks.{items_of}
+use Rattle.lba_ranges.specs.inner.Runs.{pieces_of}
 use Rattle.lba_ranges.proofs.Spanning.{count-drop}
 use Rattle.lba_ranges.proofs.list.BlockList.mapped.Goals as goal
 

@@ -1,6 +1,7 @@
 use Rattle.std.proofs.Common.{◌≡◌, ap, arith, length}
-use Rattle.lba_ranges.specs.Runs.{Spans, pieces_of}
-use Rattle.lba_ranges.specs.HeldBlocks.{HeldBlocks, AllFull}
+use Rattle.lba_ranges.specs.inner.Runs.{Spans, pieces_of}
+use Rattle.lba_ranges.specs.HeldBlocks.{HeldBlocks}
+use Rattle.lba_ranges.specs.inner.HeldBlocks.{AllFull}
 use Rattle.lba_ranges.proofs.Spanning.{Spans-rise, Spans-within, AllFull-at, stands-in, part-in_run, first-within}
 use Rattle.lba_ranges.proofs.list.BlockList.piece_at.Goals as goal
 

@@ -1,6 +1,7 @@
 use Rattle.std.proofs.Common.{◌≡◌, ◌+◌, ◌-◌, ◌++◌, drop, min, arith, refl}
-use Rattle.lba_ranges.specs.HeldBlocks.{filled, items_of}
-use Rattle.lba_ranges.specs.Runs.{pieces_of}
+use Rattle.lba_ranges.specs.HeldBlocks.{filled}
+use Rattle.lba_ranges.specs.inner.HeldBlocks.{items_of}
+use Rattle.lba_ranges.specs.inner.Runs.{pieces_of}
 use Rattle.lba_ranges.proofs.Cells.{length-filled}
 use Rattle.lba_ranges.proofs.Spanning.{AllFull-at, items_of-drop}
 use Rattle.lba_ranges.proofs.Windows.{window_step}

@@ -1,7 +1,7 @@
 use Rattle.std.proofs.Common.{◌≡◌, ◌+◌, ◌≤◌, ◌++◌, length, take, drop}
 use Rattle.std.specs.Prelude.{slice_range}
-use Rattle.lba_ranges.specs.HeldBlocks.{items_of}
-use Rattle.lba_ranges.specs.Runs.{pieces_of}
+use Rattle.lba_ranges.specs.inner.HeldBlocks.{items_of}
+use Rattle.lba_ranges.specs.inner.Runs.{pieces_of}
 use Rattle.lba_ranges.proofs.list.BlockList.push_window.Given as goal
 
 abbrev pub invariant-loop-run : goal.invariant-loop-run

@@ -1,6 +1,7 @@
 use Rattle.std.proofs.Common.{◌≡◌, ◌++◌, take}
-use Rattle.lba_ranges.specs.HeldBlocks.{items_of, items_bytes}
-use Rattle.lba_ranges.specs.Runs.{pieces_of}
+use Rattle.lba_ranges.specs.inner.HeldBlocks.{items_of}
+use Rattle.lba_ranges.specs.HeldBlocks.{items_bytes}
+use Rattle.lba_ranges.specs.inner.Runs.{pieces_of}
 use Rattle.lba_ranges.proofs.list.BlockList.read_into.Given as goal
 
 abbrev pub invariant-loop-run : goal.invariant-loop-run

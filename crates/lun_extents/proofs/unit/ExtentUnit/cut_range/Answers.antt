@@ -3,7 +3,7 @@ use Rattle.std.specs.Prelude.{map}
 use Rattle.std.proofs.lemmas.List.{length-map, map-append}
 use Rattle.lba_ranges.specs.HeldBlocks.{HeldBlocks, filled}
 use Rattle.lba_ranges.specs.Denoted.{row}
-use Rattle.lba_ranges.proofs.Rows.{length-row}
+use Rattle.lba_ranges.proofs.PublicLaws.{length-row}
 use Rattle.lun_extents.specs.Extents.{held_in}
 use Rattle.lun_extents.proofs.Counting.{row-append}
 use Rattle.lun_extents.proofs.unit.ExtentUnit.cut_range.Goals as goal

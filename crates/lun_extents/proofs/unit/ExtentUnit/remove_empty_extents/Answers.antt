@@ -1,7 +1,7 @@
 use Rattle.std.proofs.Common.{◌≡◌, ◌∙◌, ap, arith}
 use Rattle.std.specs.Prelude.{true}
 use Rattle.lba_ranges.specs.Denoted.{is_within}
-use Rattle.lba_ranges.proofs.Rows.{within-at}
+use Rattle.lba_ranges.proofs.PublicLaws.{within-at}
 use Rattle.lun_extents.specs.Extents.{Extents}
 use Rattle.lun_extents.proofs.unit.ExtentUnit.remove_empty_extents.Goals as goal
 

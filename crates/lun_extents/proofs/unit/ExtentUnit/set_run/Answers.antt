@@ -2,7 +2,7 @@ use Rattle.std.proofs.Common.{◌≡◌, ◌∙◌, ◌+◌, ◌-◌, ◌≤◌,
 use Rattle.lba_ranges.specs.HeldBlocks.{IsFull}
 use Rattle.lba_ranges.specs.Denoted.{row}
 use Rattle.lba_ranges.specs.Writings.{mapped_below, mapped_among}
-use Rattle.lba_ranges.proofs.WritingLemmas.{mapped-le}
+use Rattle.lba_ranges.proofs.PublicLaws.{mapped-le}
 use Rattle.lun_extents.specs.Extents.{Extents, held_in}
 use Rattle.lun_extents.specs.inner.Runs.{is_mapped}
 use Rattle.lun_extents.proofs.Counting.{set-counted, among-le}

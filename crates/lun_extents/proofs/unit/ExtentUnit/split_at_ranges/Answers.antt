@@ -1,7 +1,7 @@
 use Rattle.std.proofs.Common.{◌≡◌, ◌∙◌, ◌+◌, ap, subst, arith}
 use Rattle.std.specs.Prelude.{true, IsSome}
 use Rattle.lba_ranges.specs.Denoted.{is_within}
-use Rattle.lba_ranges.proofs.Rows.{within-at}
+use Rattle.lba_ranges.proofs.PublicLaws.{within-at}
 use Rattle.lun_extents.specs.Extents.{Extents, stored}
 use Rattle.lun_extents.proofs.Planned.{splits-more}
 use Rattle.lun_extents.proofs.unit.ExtentUnit.split_at_ranges.Goals as goal

@@ -1,8 +1,7 @@
 use Rattle.std.proofs.Common.{◌∙◌, take, ap, sym, arith}
 use Rattle.lba_ranges.specs.Denoted.{row, blocks_of}
 use Rattle.lba_ranges.specs.Writings.{Held, unmapped, after}
-use Rattle.lba_ranges.proofs.Rows.{within-at, blocks_of-get}
-use Rattle.lba_ranges.proofs.WritingLemmas.{after-append, unmapped-append}
+use Rattle.lba_ranges.proofs.PublicLaws.{within-at, blocks_of-get, after-append, unmapped-append}
 use Rattle.lun_extents.specs.Extents.{held_in}
 use Rattle.lun_extents.proofs.Planned.{splits-kept}
 use Rattle.lun_extents.proofs.unit.ExtentUnitBlocks.clear.Goals as goal

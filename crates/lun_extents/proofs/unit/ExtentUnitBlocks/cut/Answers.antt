@@ -2,7 +2,7 @@ use Rattle.std.proofs.Common.{◌≡◌, length, take, ap, ◌∙◌, arith, ref
 use Rattle.std.specs.Prelude.{true}
 use Rattle.std.proofs.lemmas.List.{length-map, map-append}
 use Rattle.lba_ranges.specs.Denoted.{blocks_of, is_within}
-use Rattle.lba_ranges.proofs.Rows.{within-at, blocks_of-get, length-blocks_of, total-get}
+use Rattle.lba_ranges.proofs.PublicLaws.{within-at, blocks_of-get, length-blocks_of, total-get}
 use Rattle.lun_extents.specs.Extents.{Extents, held_in}
 use Rattle.lun_extents.proofs.unit.ExtentUnitBlocks.cut.Goals as goal
 

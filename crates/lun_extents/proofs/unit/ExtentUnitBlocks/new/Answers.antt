@@ -1,7 +1,7 @@
 use Rattle.std.proofs.Common.{◌≡◌, ℕ, sym, refl, rules, List, []}
 use Rattle.std.specs.Prelude.{None}
 use Rattle.lba_ranges.specs.declared.fill.Piece.{Piece}
-use Rattle.lba_ranges.proofs.WritingLemmas.{mapped-none}
+use Rattle.lba_ranges.proofs.PublicLaws.{mapped-none}
 use Rattle.lun_extents.specs.Extents.{stored, held_in}
 use Rattle.lun_extents.specs.inner.Extents.{AreExtents}
 use Rattle.lun_extents.proofs.Nearest.{from-none}

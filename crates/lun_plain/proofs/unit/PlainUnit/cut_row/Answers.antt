@@ -2,7 +2,7 @@ use Rattle.std.proofs.Common.{◌≡◌, ◌+◌, ◌++◌, ◌∷◌, [], lengt
 use Rattle.std.specs.Prelude.{map}
 use Rattle.std.proofs.lemmas.List.{length-map, map-append}
 use Rattle.lba_ranges.specs.Denoted.{row}
-use Rattle.lba_ranges.proofs.Rows.{length-row, row-push}
+use Rattle.lba_ranges.proofs.PublicLaws.{length-row, row-push}
 use Rattle.lun_plain.specs.Plain.{stored}
 use Rattle.lun_plain.proofs.unit.PlainUnit.cut_row.Goals as goal
 

@@ -2,8 +2,7 @@ use Rattle.std.proofs.Common.{◌≡◌, take, ap, sym, ◌∙◌, arith}
 use Rattle.std.specs.Prelude.{true}
 use Rattle.lba_ranges.specs.Denoted.{row, blocks_of, is_within}
 use Rattle.lba_ranges.specs.Writings.{Held, unmapped, after}
-use Rattle.lba_ranges.proofs.Rows.{within-at, blocks_of-get}
-use Rattle.lba_ranges.proofs.WritingLemmas.{after-append, unmapped-append}
+use Rattle.lba_ranges.proofs.PublicLaws.{within-at, blocks_of-get, after-append, unmapped-append}
 use Rattle.lun_plain.specs.Plain.{Plain, stored}
 use Rattle.lun_plain.proofs.PlainLemmas.{plain-clear}
 use Rattle.lun_plain.proofs.unit.PlainUnitBlocks.clear.Goals as goal

@@ -1,7 +1,7 @@
 use Rattle.std.proofs.Common.{◌≡◌, ◌^◌, length, ap, sym, ◌∙◌, arith}
 use Rattle.std.specs.Prelude.{true}
 use Rattle.lba_ranges.specs.Denoted.{blocks_of, is_within}
-use Rattle.lba_ranges.proofs.Rows.{within-more, length-blocks_of, blocks_of-below}
+use Rattle.lba_ranges.proofs.PublicLaws.{within-more, length-blocks_of, blocks_of-below}
 use Rattle.lun_plain.specs.Plain.{Plain}
 use Rattle.lun_plain.proofs.PlainLemmas.{undone, put_over, plain-put}
 use Rattle.lun_plain.proofs.unit.PlainUnitBlocks.put.Goals as goal

@@ -2,7 +2,7 @@ use Rattle.std.proofs.Common.{◌∙◌, ap, sym, length, arith}
 use Rattle.cm_history.specs.declared.act.Act.{Act}
 use Rattle.cm_history.specs.Operations.{list_of}
 use Rattle.lba_ranges.specs.Denoted.{blocks_of}
-use Rattle.lba_ranges.proofs.Rows.{length-blocks_of}
+use Rattle.lba_ranges.proofs.PublicLaws.{length-blocks_of}
 use Rattle.plain_model.proofs.OneByOne.{length-paired, list-few}
 use Rattle.plain_model.proofs.operations.PlainOperation.blocks.Goals as goal
 

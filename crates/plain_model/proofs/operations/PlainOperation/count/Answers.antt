@@ -1,6 +1,6 @@
 use Rattle.std.proofs.Common.{◌≤◌, arith, subst}
 use Rattle.lba_ranges.specs.Denoted.{total}
-use Rattle.plain_model.specs.Holds.{IsSoundAct}
+use Rattle.plain_model.specs.inner.Holds.{IsSoundAct}
 use Rattle.plain_model.proofs.operations.PlainOperation.count.Goals as goal
 
 pub overflow_cast-result : goal.overflow_cast-result

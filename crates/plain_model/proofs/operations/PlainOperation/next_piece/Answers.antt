@@ -1,7 +1,7 @@
 use Rattle.std.proofs.Common.{subst, length, ◌≤◌, ◌^◌}
 use Rattle.std.specs.Prelude.{IsTrue}
 use Rattle.lba_ranges.specs.Denoted.{is_within}
-use Rattle.plain_model.specs.Holds.{IsSoundAct}
+use Rattle.plain_model.specs.inner.Holds.{IsSoundAct}
 use Rattle.plain_model.proofs.operations.PlainOperation.next_piece.Goals as goal
 
 pub paired-requires : goal.paired-requires

@@ -2,7 +2,7 @@ use Rattle.std.proofs.Common.{◌≡◌, ◌∙◌, ap, sym, true, List}
 use Rattle.std.specs.Prelude.{filter}
 use Rattle.std.specs.List.{list_any}
 use Rattle.cm_history.specs.Operations.{Operation, operations, is_running, has_key}
-use Rattle.plain_model.specs.Forms.{as_form}
+use Rattle.plain_model.specs.inner.Forms.{as_form}
 use Rattle.plain_model.proofs.OneByOne.{any-found}
 use Rattle.plain_model.proofs.unit.PlainUnit.is_busy.Goals as goal
 

@@ -1,7 +1,7 @@
 use Rattle.std.proofs.Common.{◌≡◌, ◌∙◌, ap, sym, true, false, take, List}
 use Rattle.std.specs.Prelude.{find}
 use Rattle.cm_history.specs.Operations.{Operation, kept, has_key}
-use Rattle.plain_model.specs.Forms.{as_form}
+use Rattle.plain_model.specs.inner.Forms.{as_form}
 use Rattle.plain_model.proofs.OneByOne.{find-later, find-last, take-next}
 use Rattle.plain_model.proofs.unit.PlainUnit.kept.Goals as goal
 

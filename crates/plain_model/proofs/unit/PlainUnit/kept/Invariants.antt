@@ -1,7 +1,7 @@
 use Rattle.std.proofs.Common.{◌≡◌, take, None}
 use Rattle.std.specs.Prelude.{find}
 use Rattle.cm_history.specs.Operations.{has_key}
-use Rattle.plain_model.specs.Forms.{as_form}
+use Rattle.plain_model.specs.inner.Forms.{as_form}
 use Rattle.plain_model.proofs.unit.PlainUnit.kept.Given as goal
 
 abbrev pub invariant-loop-operation : goal.invariant-loop-operation

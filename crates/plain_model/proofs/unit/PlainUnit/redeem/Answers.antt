@@ -3,7 +3,7 @@ use Rattle.std.specs.List.{slice_get}
 use Rattle.rod_token.specs.TokenText.{serial_of}
 use Rattle.cm_base.specs.Units.{unit_of}
 use Rattle.cm_history.specs.Tokens.{Token, tokens}
-use Rattle.cm_history.proofs.Lists.{Each-in, get-in}
+use Rattle.cm_history.proofs.PublicLaws.{Each-in, get-in}
 use Rattle.plain_model.proofs.Sizes.{held-sized, before-sized}
 use Rattle.plain_model.proofs.unit.PlainUnit.redeem.Goals as goal
 

@@ -4,7 +4,7 @@ use Rattle.cm_history.specs.Answers.{answer_end, done_if}
 use Rattle.cm_history.specs.Blocks.{held}
 use Rattle.cm_history.specs.Deeds.{Deed}
 use Rattle.cm_history.specs.Operations.{would_serve}
-use Rattle.plain_model.specs.Holds.{AreSized}
+use Rattle.plain_model.specs.inner.Holds.{AreSized}
 use Rattle.plain_model.proofs.Sizes.{held-sized}
 use Rattle.plain_model.proofs.unit.PlainUnit.told.Goals as goal
 

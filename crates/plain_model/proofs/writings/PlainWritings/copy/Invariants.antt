@@ -1,5 +1,5 @@
 use Rattle.std.proofs.Common.{◌≡◌, map, take}
-use Rattle.plain_model.specs.Writings.{writing_of}
+use Rattle.plain_model.specs.inner.Writings.{writing_of}
 use Rattle.plain_model.proofs.writings.PlainWritings.copy.Given as goal
 
 abbrev pub invariant-loop-writing : goal.invariant-loop-writing

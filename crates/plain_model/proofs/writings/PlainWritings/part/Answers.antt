@@ -2,7 +2,7 @@ use Rattle.std.proofs.Common.{◌≡◌, ◌+◌, ◌++◌, ◌∷◌, [], ◌�
 use Rattle.std.specs.Prelude.{map}
 use Rattle.std.proofs.lemmas.List.{length-map, length-take-le}
 use Rattle.lba_ranges.specs.Writings.{Writing}
-use Rattle.plain_model.specs.Writings.{writing_of}
+use Rattle.plain_model.specs.inner.Writings.{writing_of}
 use Rattle.plain_model.proofs.Loops.{taken-more, part-in, part-before, part-behind}
 use Rattle.plain_model.proofs.writings.PlainWritings.part.Goals as goal
 use Rattle.plain_model.proofs.writings.PlainWritings.part.Goals.{then-from-place+then-place-from+in_ok-shared+in_ok-push, else-from-place, else-from-place-via-then-from-place+else-place-from, else-from-place-via-else-from-place}

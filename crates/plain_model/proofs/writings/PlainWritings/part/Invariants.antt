@@ -1,5 +1,5 @@
 use Rattle.std.proofs.Common.{◌≡◌, map, take, drop}
-use Rattle.plain_model.specs.Writings.{writing_of}
+use Rattle.plain_model.specs.inner.Writings.{writing_of}
 use Rattle.plain_model.proofs.writings.PlainWritings.part.Given as goal
 
 abbrev pub invariant-loop-place : goal.invariant-loop-place

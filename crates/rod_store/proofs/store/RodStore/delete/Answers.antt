@@ -1,5 +1,5 @@
 use Rattle.std.proofs.Common.{sym, ◌∙◌}
-use Rattle.rod_store.specs.declared.kept.Standing.TheVariants.{Deleted}
+use Rattle.rod_store.specs.declared.kept.TokenState.TheVariants.{Deleted}
 use Rattle.rod_store.proofs.Stored.{end-none}
 use Rattle.rod_store.proofs.store.RodStore.delete.Goals as goal
 

@@ -13,8 +13,8 @@ invariant_of-self g c =
     let at = lives_at tokens c.args.serial (subst (λ l. IsSome (value_at c.args.serial l)) (sym kept) c.requires.live) in
     let same : at.token ≡ c.index_mut.result.now = token-is tokens c.args.serial at.token c.index_mut.result.now at.found c.index_mut.ensures.value in
     let found = at.found ∙ ap Some same in
-    let lives : is_live c.index_mut.result.now.standing ≡ true = rw (← same) at.lives in
-    let stored = stored-end tokens c.self.inside.living.items c.self.inside.soonest c.self.invariant.0 c.args.ending c.requires.ends c.args.serial c.index_mut.result.now found lives in
+    let lives : is_live c.index_mut.result.now.state ≡ true = rw (← same) at.lives in
+    let stored = stored-end tokens c.self.inside.live_serials.items c.self.inside.next_expiry c.self.invariant.0 c.args.ending c.requires.ends c.args.serial c.index_mut.result.now found lives in
     let write = end-set tokens c.self.invariant.0.placed c.args.ending c.args.serial c.index_mut.result.now found lives in
     (rw (c.replace.ensures.after, write, c.forget.ensures.serials) stored, rw c.forget.ensures.room c.self.invariant.1)
 
@@ -24,7 +24,7 @@ returns-clause-value g c =
     let kept = ap (λ (v : Store g.row.K.Denot). v.tokens) c.self.view_is in
     let at = lives_at tokens c.args.serial (subst (λ l. IsSome (value_at c.args.serial l)) (sym kept) c.requires.live) in
     let same : at.token ≡ c.index_mut.result.now = token-is tokens c.args.serial at.token c.index_mut.result.now at.found c.index_mut.ensures.value in
-    let value : value_of c.index_mut.result.now.standing ≡ Some c.in-Live.value = ap value_of (sym c.replace.ensures.value ∙ c.in-Live.is) in
+    let value : value_of c.index_mut.result.now.state ≡ Some c.in-Live.value = ap value_of (sym c.replace.ensures.value ∙ c.in-Live.is) in
     rw (← kept) (value-at tokens c.args.serial c.index_mut.result.now (at.found ∙ ap Some same) ∙ value)
 
 pub returns-clause-tokens : goal.returns-clause-tokens
@@ -33,7 +33,7 @@ returns-clause-tokens g c =
     let kept = ap (λ (v : Store g.row.K.Denot). v.tokens) c.self.view_is in
     let at = lives_at tokens c.args.serial (subst (λ l. IsSome (value_at c.args.serial l)) (sym kept) c.requires.live) in
     let same : at.token ≡ c.index_mut.result.now = token-is tokens c.args.serial at.token c.index_mut.result.now at.found c.index_mut.ensures.value in
-    let lives : is_live c.index_mut.result.now.standing ≡ true = rw (← same) at.lives in
+    let lives : is_live c.index_mut.result.now.state ≡ true = rw (← same) at.lives in
     rw (c.replace.ensures.after, ← kept)
     (end-set tokens c.self.invariant.0.placed c.args.ending c.args.serial c.index_mut.result.now (at.found ∙ ap Some same) lives)
 

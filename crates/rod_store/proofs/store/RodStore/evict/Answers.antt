@@ -1,7 +1,8 @@
 use Rattle.std.proofs.Common.{◌≡◌, ◌<◌, length, ap, sym, ◌∙◌, subst, arith}
 use Rattle.cm_history.specs.Bounds.{live_tokens}
 use Rattle.rod_store.specs.Kept.{IsPlaced, live}
-use Rattle.rod_store.specs.Store.{Store, IsOldest}
+use Rattle.rod_store.specs.Store.{Store}
+use Rattle.rod_store.specs.inner.Store.{IsOldest}
 use Rattle.rod_store.proofs.LiveWalks.{serials-many}
 use Rattle.rod_store.proofs.Oldest.{evict-end, evicted-first, evict-none, evicted-none}
 use Rattle.rod_store.proofs.store.RodStore.evict.Goals as goal
@@ -9,23 +10,23 @@ use Rattle.rod_store.proofs.store.RodStore.evict.Goals as goal
 pub returns-then-len-lt-MOST_LIVE-clause-value : goal.returns-then-len-lt-MOST_LIVE-clause-value
 returns-then-len-lt-MOST_LIVE-clause-value g c =
     let kept = ap (λ (v : Store g.row.K.Denot). v.tokens) c.self.view_is in
-    let many = serials-many c.self.inside.tokens.items c.self.inside.living.items c.self.invariant.0.living in
-    let few : length (live c.self.inside.tokens.items) < live_tokens = omega (arith, many, c.len.ensures, c.if-len-lt-MOST_LIVE.true, c.self.inside.living.ok) in
+    let many = serials-many c.self.inside.tokens.items c.self.inside.live_serials.items c.self.invariant.0.live_serials in
+    let few : length (live c.self.inside.tokens.items) < live_tokens = omega (arith, many, c.len.ensures, c.if-len-lt-MOST_LIVE.true, c.self.inside.live_serials.ok) in
     sym (evicted-none c.args.self.now.tokens (subst (λ l. length (live l) < live_tokens) kept few))
 
 pub returns-then-len-lt-MOST_LIVE-clause-tokens : goal.returns-then-len-lt-MOST_LIVE-clause-tokens
 returns-then-len-lt-MOST_LIVE-clause-tokens g c =
     let kept = ap (λ (v : Store g.row.K.Denot). v.tokens) c.self.view_is in
-    let many = serials-many c.self.inside.tokens.items c.self.inside.living.items c.self.invariant.0.living in
-    let few : length (live c.self.inside.tokens.items) < live_tokens = omega (arith, many, c.len.ensures, c.if-len-lt-MOST_LIVE.true, c.self.inside.living.ok) in
+    let many = serials-many c.self.inside.tokens.items c.self.inside.live_serials.items c.self.invariant.0.live_serials in
+    let few : length (live c.self.inside.tokens.items) < live_tokens = omega (arith, many, c.len.ensures, c.if-len-lt-MOST_LIVE.true, c.self.inside.live_serials.ok) in
     sym (evict-none c.args.self.now.tokens (subst (λ l. length (live l) < live_tokens) kept few))
 
 pub returns-clause-value : goal.returns-clause-value
 returns-clause-value g c =
     let kept = c.deref.ensures.value ∙ ap (λ (v : Store g.row.K.Denot). v.tokens) c.self.view_is in
-    let many = serials-many c.self.inside.tokens.items c.self.inside.living.items c.self.invariant.0.living in
+    let many = serials-many c.self.inside.tokens.items c.self.inside.live_serials.items c.self.invariant.0.live_serials in
     let most = c.self.invariant.0.few in
-    let full : length (live c.self.inside.tokens.items) ≡ live_tokens = omega (arith, many, most, c.len.ensures, c.if-len-lt-MOST_LIVE.false, c.self.inside.living.ok) in
+    let full : length (live c.self.inside.tokens.items) ≡ live_tokens = omega (arith, many, most, c.len.ensures, c.if-len-lt-MOST_LIVE.false, c.self.inside.live_serials.ok) in
     let placed = subst (IsPlaced 0) (ap (λ (v : Store g.row.K.Denot). v.tokens) c.self.view_is) c.self.invariant.0.placed in
     let all = subst (λ l. length (live l) ≡ live_tokens) (ap (λ (v : Store g.row.K.Denot). v.tokens) c.self.view_is) full in
     let oldest = subst (λ l. IsOldest l c.oldest-serial.result) kept c.oldest-serial.ensures in
@@ -34,9 +35,9 @@ returns-clause-value g c =
 pub returns-clause-tokens : goal.returns-clause-tokens
 returns-clause-tokens g c =
     let kept = c.deref.ensures.value ∙ ap (λ (v : Store g.row.K.Denot). v.tokens) c.self.view_is in
-    let many = serials-many c.self.inside.tokens.items c.self.inside.living.items c.self.invariant.0.living in
+    let many = serials-many c.self.inside.tokens.items c.self.inside.live_serials.items c.self.invariant.0.live_serials in
     let most = c.self.invariant.0.few in
-    let full : length (live c.self.inside.tokens.items) ≡ live_tokens = omega (arith, many, most, c.len.ensures, c.if-len-lt-MOST_LIVE.false, c.self.inside.living.ok) in
+    let full : length (live c.self.inside.tokens.items) ≡ live_tokens = omega (arith, many, most, c.len.ensures, c.if-len-lt-MOST_LIVE.false, c.self.inside.live_serials.ok) in
     let placed = subst (IsPlaced 0) (ap (λ (v : Store g.row.K.Denot). v.tokens) c.self.view_is) c.self.invariant.0.placed in
     let all = subst (λ l. length (live l) ≡ live_tokens) (ap (λ (v : Store g.row.K.Denot). v.tokens) c.self.view_is) full in
     let oldest = subst (λ l. IsOldest l c.oldest-serial.result) kept c.oldest-serial.ensures in

@@ -1,23 +1,24 @@
 use Rattle.std.proofs.Common.{◌≡◌, Some, None, ap, sym, ◌∙◌, subst}
 use Rattle.rod_store.specs.Kept.{is_over_at, first, expired}
-use Rattle.rod_store.specs.Store.{Store, serial_in}
+use Rattle.rod_store.specs.Store.{Store}
+use Rattle.rod_store.specs.inner.Store.{serial_in}
 use Rattle.rod_store.proofs.Expiring.{ExpiresAt, NoneExpires, expires_at, none_earlier, none_found}
 use Rattle.rod_store.proofs.store.RodStore.expire.Goals as goal
 
 pub returns-then-moment-self-clause-value : goal.returns-then-moment-self-clause-value
 returns-then-moment-self-clause-value g c =
     let kept = ap (λ (v : Store g.row.K.Denot). v.tokens) c.self.view_is in
-    (subst (λ l. NoneExpires l c.args.moment) kept (none_earlier c.self.inside.tokens.items c.self.inside.soonest c.args.moment c.if-moment-self.true c.self.invariant.0.soonest)).value
+    (subst (λ l. NoneExpires l c.args.moment) kept (none_earlier c.self.inside.tokens.items c.self.inside.next_expiry c.args.moment c.if-moment-self.true c.self.invariant.0.next_expiry)).value
 
 pub returns-then-moment-self-clause-tokens : goal.returns-then-moment-self-clause-tokens
 returns-then-moment-self-clause-tokens g c =
     let kept = ap (λ (v : Store g.row.K.Denot). v.tokens) c.self.view_is in
-    (subst (λ l. NoneExpires l c.args.moment) kept (none_earlier c.self.inside.tokens.items c.self.inside.soonest c.args.moment c.if-moment-self.true c.self.invariant.0.soonest)).ends
+    (subst (λ l. NoneExpires l c.args.moment) kept (none_earlier c.self.inside.tokens.items c.self.inside.next_expiry c.args.moment c.if-moment-self.true c.self.invariant.0.next_expiry)).ends
 
 pub returns-then-moment-self-clause-none : goal.returns-then-moment-self-clause-none
 returns-then-moment-self-clause-none g c =
     let kept = ap (λ (v : Store g.row.K.Denot). v.tokens) c.self.view_is in
-    (subst (λ l. NoneExpires l c.args.moment) kept (none_earlier c.self.inside.tokens.items c.self.inside.soonest c.args.moment c.if-moment-self.true c.self.invariant.0.soonest)).none
+    (subst (λ l. NoneExpires l c.args.moment) kept (none_earlier c.self.inside.tokens.items c.self.inside.next_expiry c.args.moment c.if-moment-self.true c.self.invariant.0.next_expiry)).none
 
 pub end-requires-clause-live : goal.end-requires-clause-live
 end-requires-clause-live g c =

@@ -1,7 +1,7 @@
 use Rattle.std.proofs.Common.{ℕ, List, sym, subst}
 use Rattle.lba_ranges.specs.HeldBlocks.{HeldBlocks}
 use Rattle.rod_store.specs.declared.kept.Kept.{Kept}
-use Rattle.unit_core.specs.TokenChanges.{MayToken}
+use Rattle.unit_core.specs.inner.TokenChanges.{MayToken}
 use Rattle.unit_core.proofs.tables.Tables.change.Goals as goal
 
 pub apply-requires-3 : goal.apply-requires-3

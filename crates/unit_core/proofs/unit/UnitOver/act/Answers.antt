@@ -6,8 +6,8 @@ use Rattle.cm_history.specs.declared.act.Act.{Act}
 use Rattle.cm_history.specs.Operations.{would_serve}
 use Rattle.cm_history.specs.History.{past_of}
 use Rattle.copy_jobs.specs.Jobs as jobs
-use Rattle.unit_core.specs.Tables.{tokens_of}
-use Rattle.unit_core.specs.Planning.{IsPlan}
+use Rattle.unit_core.specs.inner.Tables.{tokens_of}
+use Rattle.unit_core.specs.inner.Planning.{IsPlan}
 use Rattle.unit_core.proofs.Steps.{known-of}
 use Rattle.std.specs.Prelude.{Result, Ok, Err, IfErr}
 use Rattle.cm_base.specs.Configuration.{Configuration}
@@ -21,11 +21,11 @@ use Rattle.cm_history.specs.Answers.{answer_after}
 use Rattle.cm_history.specs.Ends.{ends_operation}
 use Rattle.unit_core.specs.Acting.{MayRedeem}
 use Rattle.cm_history.specs.Asked.{IsAsked}
-use Rattle.unit_core.specs.TokenChanges.{MayToken, tokens_after}
+use Rattle.unit_core.specs.inner.TokenChanges.{MayToken, tokens_after}
 use Rattle.unit_core.proofs.Reserving.{reserved-is}
 use Rattle.unit_core.proofs.Rooms.{full-serving, need-served, reserved-step}
 use Rattle.unit_core.proofs.Planned.{ends-serves}
-use Rattle.unit_core.proofs.Wording.{some-there, redeem-given}
+use Rattle.unit_core.proofs.TableAnswers.{some-there, redeem-given}
 use Rattle.unit_core.proofs.Steps.{Done, agrees-step}
 use Rattle.unit_core.proofs.Forming.{answer-formed}
 use Rattle.cm_history.specs.Forms.{HasForm}

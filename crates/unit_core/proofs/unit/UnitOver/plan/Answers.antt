@@ -4,7 +4,7 @@ use Rattle.cm_history.specs.declared.act.Act.{Act}
 use Rattle.cm_history.specs.declared.act.Actor.{Actor}
 use Rattle.unit_core.specs.Acting.{past}
 use Rattle.unit_core.specs.declared.plan.Plan.{Plan}
-use Rattle.unit_core.specs.Planning.{IsPlan}
+use Rattle.unit_core.specs.inner.Planning.{IsPlan}
 use Rattle.unit_core.proofs.Planned.{delete-plan}
 use Rattle.unit_core.proofs.unit.UnitOver.plan.Goals as goal
 

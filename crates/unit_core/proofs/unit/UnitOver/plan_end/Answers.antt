@@ -13,12 +13,12 @@ use Rattle.copy_jobs.specs.Jobs as jobs
 use Rattle.copy_jobs.specs.Pieces as next
 use Rattle.copy_jobs.specs.Reports as reports
 use Rattle.unit_core.specs.declared.job_change.JobChange.{JobChange}
-use Rattle.unit_core.specs.Tables.{key_of}
-use Rattle.unit_core.specs.Planning.{quiet, IsPlan}
+use Rattle.unit_core.specs.inner.Tables.{key_of}
+use Rattle.unit_core.specs.inner.Planning.{quiet, IsPlan}
 use Rattle.unit_core.proofs.Asking.{asker, serves-advance}
 use Rattle.unit_core.proofs.Steps.{known-of}
 use Rattle.unit_core.proofs.ServePlans.{end-plan}
-use Rattle.unit_core.proofs.Wording.{none-some, some-there, end-none, end-count, end-kept}
+use Rattle.unit_core.proofs.TableAnswers.{none-some, some-there, end-none, end-count, end-kept}
 use Rattle.unit_core.proofs.unit.UnitOver.plan_end.Goals as goal
 
 pub returns-then-not-waits : goal.returns-then-not-waits

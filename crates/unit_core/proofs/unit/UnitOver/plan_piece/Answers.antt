@@ -3,12 +3,12 @@ use Rattle.std.specs.Prelude.{None, find}
 use Rattle.cm_history.specs.Operations.{would_serve}
 use Rattle.cm_history.specs.History.{past_of}
 use Rattle.copy_jobs.specs.Pieces as next
-use Rattle.unit_core.specs.Tables.{jobs_of}
+use Rattle.unit_core.specs.inner.Tables.{jobs_of}
 use Rattle.unit_core.proofs.Steps.{known-of}
 use Rattle.copy_jobs.specs.Pieces.{IsNextPiece}
 use Rattle.unit_core.proofs.Keeping.{served-there}
 use Rattle.unit_core.proofs.ServePlans.{piece-plan}
-use Rattle.unit_core.proofs.Wording.{piece-found, piece-of, next-is, found-of, none-of, for-piece, no-piece}
+use Rattle.unit_core.proofs.TableAnswers.{piece-found, piece-of, next-is, found-of, none-of, for-piece, no-piece}
 use Rattle.unit_core.proofs.unit.UnitOver.plan_piece.Goals as goal
 
 pub write_piece-requires-clause-within : goal.write_piece-requires-clause-within

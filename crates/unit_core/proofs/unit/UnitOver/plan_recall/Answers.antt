@@ -8,10 +8,10 @@ use Rattle.copy_jobs.specs.declared.key.Key.{Key}
 use Rattle.copy_jobs.specs.declared.job.Job.{Job}
 use Rattle.copy_jobs.specs.Jobs as jobs
 use Rattle.copy_jobs.specs.Reports as reports
-use Rattle.unit_core.specs.Tables.{key_of}
+use Rattle.unit_core.specs.inner.Tables.{key_of}
 use Rattle.unit_core.proofs.Asking.{asker}
 use Rattle.unit_core.proofs.Steps.{known-of}
-use Rattle.unit_core.proofs.Wording.{recall-plan, recall-none}
+use Rattle.unit_core.proofs.TableAnswers.{recall-plan, recall-none}
 use Rattle.unit_core.proofs.unit.UnitOver.plan_recall.Goals as goal
 
 pub returns-in-Some : goal.returns-in-Some

@@ -4,14 +4,14 @@ use Rattle.std.proofs.lemmas.Bool.Decides.{nat_tests}
 use Rattle.cm_base.specs.Units.{unit_of}
 use Rattle.cm_history.specs.declared.act.Act.{Act}
 use Rattle.cm_history.specs.History.{past_of}
-use Rattle.unit_core.specs.Tables.{tokens_of}
-use Rattle.unit_core.proofs.Wording.{redeem-is, answer_of}
+use Rattle.unit_core.specs.inner.Tables.{tokens_of}
+use Rattle.unit_core.proofs.TableAnswers.{redeem-is, answer_of}
 use Rattle.unit_core.proofs.Planned.{redeem-plan, refused-plan}
 use Rattle.rod_token.specs.TokenText.{is_named}
 use Rattle.rod_store.specs.Judging.{judged}
 use Rattle.cm_history.specs.Deeds.{moment}
 use Rattle.cm_history.specs.Operations.{running}
-use Rattle.cm_history.proofs.Lists.{find-none}
+use Rattle.cm_history.proofs.PublicLaws.{find-none}
 use Rattle.std.proofs.lemmas.Bool.{and_parts}
 use Rattle.unit_core.proofs.unit.UnitOver.plan_redeem.Goals as goal
 

@@ -2,7 +2,7 @@ use Rattle.std.proofs.Common.{◌∙◌, ap, subst}
 use Rattle.cm_base.specs.declared.config.UnitConfig.{UnitConfig}
 use Rattle.cm_history.specs.Answers.{answer_unmap}
 use Rattle.cm_history.specs.History.{past_of}
-use Rattle.unit_core.specs.BlockChanges.{MayChange}
+use Rattle.unit_core.specs.inner.BlockChanges.{MayChange}
 use Rattle.unit_core.proofs.SimplePlans.{unmap-plan}
 use Rattle.unit_core.proofs.unit.UnitOver.plan_unmap.Goals as goal
 

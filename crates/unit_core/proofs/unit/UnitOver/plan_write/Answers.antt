@@ -3,7 +3,7 @@ use Rattle.cm_base.specs.declared.config.UnitConfig.{UnitConfig}
 use Rattle.cm_base.specs.Units.{unit_of}
 use Rattle.cm_history.specs.Answers.{answer_write}
 use Rattle.cm_history.specs.History.{past_of}
-use Rattle.unit_core.specs.BlockChanges.{MayChange}
+use Rattle.unit_core.specs.inner.BlockChanges.{MayChange}
 use Rattle.unit_core.proofs.Blocks.{write-agrees}
 use Rattle.unit_core.proofs.SimplePlans.{write-plan}
 use Rattle.unit_core.proofs.unit.UnitOver.plan_write.Goals as goal

@@ -8,10 +8,10 @@ use Rattle.cm_history.specs.declared.act.Actor.{Actor}
 use Rattle.cm_history.specs.declared.act.CopyEnd.{CopyEnd}
 use Rattle.cm_history.specs.declared.act.Act.{Act}
 use Rattle.cm_history.specs.History.{past_of}
-use Rattle.cm_history.proofs.Lists.{find-none}
-use Rattle.copy_jobs.specs.Pieces.{is_next, runs_behind}
+use Rattle.cm_history.proofs.PublicLaws.{find-none}
+use Rattle.copy_jobs.specs.Pieces.{is_next, runs_in_background}
 use Rattle.copy_jobs.specs.Jobs.{is_busy}
-use Rattle.unit_core.specs.Tables.{key_of}
+use Rattle.unit_core.specs.inner.Tables.{key_of}
 use Rattle.unit_core.proofs.Asking.{asker, serves-advance, serves-pump, serves-abort, serves-close}
 use Rattle.unit_core.proofs.Steps.{known-of}
 use Rattle.unit_core.proofs.unit.UnitOver.serves.Goals as goal
@@ -40,8 +40,8 @@ returns-in-Abort g c =
     let known = known-of u.config u.unit u.history.entries c.self.invariant.record_is in
     let mine = asker c.args.self.now.unit c.args.actor (Act.Abort c.in-Abort.id) (sym (ap (may_ask c.args.self.now.unit c.args.actor) c.in-Abort.is) ∙ c.requires) refl in
     rw (c.in-Abort.is, ← c.self.view_is)
-    (c.runs_behind.ensures ∙ ap (λ k. list_any (runs_behind k) u.tables.jobs) c.token_key.ensures
-    ∙ ap (list_any (runs_behind (key_of c.args.actor OfToken c.in-Abort.id))) c.self.invariant.jobs.jobs ∙ serves-abort u.config u.unit past c.args.actor c.in-Abort.id known mine)
+    (c.runs_in_background.ensures ∙ ap (λ k. list_any (runs_in_background k) u.tables.jobs) c.token_key.ensures
+    ∙ ap (list_any (runs_in_background (key_of c.args.actor OfToken c.in-Abort.id))) c.self.invariant.jobs.jobs ∙ serves-abort u.config u.unit past c.args.actor c.in-Abort.id known mine)
 
 pub returns-in-Close : goal.returns-in-Close
 returns-in-Close g c =

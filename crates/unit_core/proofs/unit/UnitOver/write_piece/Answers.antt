@@ -6,7 +6,7 @@ use Rattle.lba_ranges.specs.Denoted.{blocks_of}
 use Rattle.cm_history.specs.Blocks.{held}
 use Rattle.cm_history.specs.History.{past_of}
 use Rattle.lba_ranges.specs.Writings.{paired, after, mapped_below, held_with}
-use Rattle.lba_ranges.proofs.WritingLemmas.{mapped-same}
+use Rattle.lba_ranges.proofs.PublicLaws.{mapped-same}
 use Rattle.cm_history.specs.Blocks.{mapped_with}
 use Rattle.std.specs.Prelude.{nat_lt}
 use Rattle.unit_core.proofs.unit.UnitOver.write_piece.Goals as goal

@@ -1,6 +1,6 @@
 use Rattle.std.proofs.Common.{◌≡◌, ◌-◌, ◌≤◌, ◌++◌, length}
 use Rattle.lba_ranges.specs.Status.{map_runs}
-use Rattle.unmap_thin.proofs.status.runs.Given as goal
+use Rattle.unmap_thin.proofs.status.map_runs.Given as goal
 
 abbrev pub invariant-loop-block : goal.invariant-loop-block
 invariant-loop-block g l =

@@ -1,8 +1,8 @@
 use Rattle.std.proofs.Common.{◌-◌, ◌++◌, ◌∙◌, length, ap, sym, arith, append-nil, inl, inr}
-use Rattle.lba_ranges.specs.Status.{IsRun}
-use Rattle.lba_ranges.proofs.MapRuns.{runs-step, runs-done}
-use Rattle.unmap_thin.proofs.status.runs.Goals as goal
-use Rattle.unmap_thin.proofs.status.runs.Goals.{then-loop-block-test+else-len-lt-TOLD_RUNS, else-loop-block-test}
+use Rattle.lba_ranges.specs.inner.Status.{IsRun}
+use Rattle.lba_ranges.proofs.PublicLaws.{runs-step, runs-done}
+use Rattle.unmap_thin.proofs.status.map_runs.Goals as goal
+use Rattle.unmap_thin.proofs.status.map_runs.Goals.{then-loop-block-test+else-len-lt-TOLD_RUNS, else-loop-block-test}
 
 pub loop-block-preserved : goal.loop-block-preserved
 loop-block-preserved g c =

@@ -23,10 +23,10 @@ use Rattle.unit_core.specs.declared.block_plans.BlockPlan.{BlockPlan}
 use Rattle.unit_core.specs.declared.job_change.JobChange.{JobChange}
 use Rattle.unit_core.specs.declared.token_change.TokenChange.{TokenChange}
 use Rattle.unit_core.specs.declared.plan.Plan.{Plan}
-use Rattle.unit_core.specs.BlockChanges.{writings_of, MayChange, is_nothing}
-use Rattle.unit_core.specs.JobChanges.{jobs_after, MayJob, grows}
-use Rattle.unit_core.specs.TokenChanges.{tokens_after, MayToken, is_make}
-use Rattle.unit_core.specs.Tables.{key_of, tokens_of, jobs_of}
+use Rattle.unit_core.specs.inner.BlockChanges.{writings_of, MayChange, is_nothing}
+use Rattle.unit_core.specs.inner.JobChanges.{jobs_after, MayJob, grows}
+use Rattle.unit_core.specs.inner.TokenChanges.{tokens_after, MayToken, is_make}
+use Rattle.unit_core.specs.inner.Tables.{key_of, tokens_of, jobs_of}
 use Rattle.cm_history.specs.Ends.{ends_operation}
 
 -- nothing is to change

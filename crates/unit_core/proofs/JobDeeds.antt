@@ -9,7 +9,7 @@ use Rattle.lba_ranges.specs.declared.ranges.Range.{Range}
 use Rattle.lba_ranges.specs.Denoted.{blocks_of, total, is_overlapping}
 use Rattle.lba_ranges.specs.HeldBlocks.{HeldBlocks}
 use Rattle.lba_ranges.specs.Writings.{Held, paired}
-use Rattle.lba_ranges.proofs.Rows.{length-blocks_of}
+use Rattle.lba_ranges.proofs.PublicLaws.{length-blocks_of}
 use Rattle.cm_history.specs.declared.act.Act.{Act}
 use Rattle.cm_history.specs.declared.answer.Answer.{Answer}
 use Rattle.cm_history.specs.declared.answer.OpState.{OpState}
@@ -21,9 +21,8 @@ use Rattle.cm_history.specs.Answers.{progress_by, serial_made}
 use Rattle.copy_jobs.specs.declared.job.Work.TheVariants.{Populated, Writing, Copying}
 use Rattle.copy_jobs.specs.Jobs.{started, opened, made}
 use Rattle.copy_jobs.specs.Changes.{moved_by, stopped_by, terminated, closed_by}
-use Rattle.unit_core.specs.Tables.{key_of, work_of, job_of, serial_or_none}
-use Rattle.cm_history.proofs.Starts.{start-total, start-few, start-alike, start-length}
-use Rattle.cm_history.proofs.Serving.{Moves, Stops, Ends, Closes, left-running, token-runs}
+use Rattle.unit_core.specs.inner.Tables.{key_of, work_of, job_of, serial_or_none}
+use Rattle.cm_history.proofs.PublicLaws.{start-total, start-few, start-alike, start-length, Moves, Stops, Ends, Closes, left-running, token-runs}
 
 -- ---- a deed that serves
 

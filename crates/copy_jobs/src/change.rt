@@ -3,7 +3,7 @@ use scsi_sense::Sense;
 
 /// What happens to an operation that runs.
 #[derive(Drop, Clone, Copy)]
-pub(crate) enum Step {
+pub(crate) enum Change {
     /// So many more blocks were written, a whole piece.
     Moved(u32),
     /// A piece was refused.

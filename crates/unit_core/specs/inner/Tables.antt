@@ -11,7 +11,7 @@ use Rattle.lba_ranges.specs.Denoted.{total}
 use Rattle.lba_ranges.specs.HeldBlocks.{HeldBlocks}
 use Rattle.cm_history.specs.Tokens.{Token, Fate, Live, Expired, Evicted, Deleted, tokens, rod}
 use Rattle.rod_store.specs.declared.kept.Kept.{Kept}
-use Rattle.rod_store.specs.declared.kept.Standing.{Standing}
+use Rattle.rod_store.specs.declared.kept.TokenState.{TokenState}
 use Rattle.copy_jobs.specs.declared.key.Key.{Key}
 use Rattle.copy_jobs.specs.declared.job.Job.{Job}
 use Rattle.copy_jobs.specs.declared.job.Work.{Work}
@@ -20,14 +20,14 @@ use Rattle.copy_jobs.specs.declared.job.Work.TheVariants.{Populated, Writing, Co
 -- ---- tokens
 
 -- a token stands for its blocks as long as it is live
-abbrev pub standing_of : HeldBlocks → Token → Fate → Standing HeldBlocks
-standing_of rod t Live = Standing.Live t.timeout t.last_use rod
-standing_of rod t Expired = Standing.Expired
-standing_of rod t Evicted = Standing.Evicted
-standing_of rod t Deleted = Standing.Deleted
+abbrev pub token_state_of : HeldBlocks → Token → Fate → TokenState HeldBlocks
+token_state_of rod t Live = TokenState.Live t.timeout t.last_use rod
+token_state_of rod t Expired = TokenState.Expired
+token_state_of rod t Evicted = TokenState.Evicted
+token_state_of rod t Deleted = TokenState.Deleted
 
 abbrev pub kept_of : UnitConfig → Token → Kept HeldBlocks
-kept_of unit t = record { serial = t.serial; blocks = total t.ranges; standing = standing_of (rod unit t) t t.fate }
+kept_of unit t = record { serial = t.serial; blocks = total t.ranges; state = token_state_of (rod unit t) t t.fate }
 
 -- the tokens that a unit made
 abbrev pub tokens_of : UnitConfig → List Deed → List (Kept HeldBlocks)

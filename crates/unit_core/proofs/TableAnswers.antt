@@ -25,10 +25,7 @@ use Rattle.cm_history.specs.Tokens.{Token, Fate, Live, Expired, Evicted, Deleted
 use Rattle.cm_history.specs.Redeeming.{redeemed, are_alike, answer_by_fate, fate_at}
 use Rattle.cm_history.specs.Operations.{Operation, Form, OfToken, OfCopy, form_of, same_form, id_of, state, has_key, would_serve, running, is_foreground, is_background, fits, kept, operations, written, list_of, next_piece, count, result_of}
 use Rattle.cm_history.specs.Answers.{answer_after, answer_report, answer_recall, answer_end, done_if, report_of, progress, piece_of}
-use Rattle.cm_history.proofs.Lists.{In, Each-in, find-in, find-none}
-use Rattle.cm_history.proofs.Keys.{same_form-is, record-found}
-use Rattle.cm_history.proofs.Counts.{IsBegun, begun}
-use Rattle.cm_history.proofs.Records.{kept_in}
+use Rattle.cm_history.proofs.PublicLaws.{In, Each-in, find-in, find-none, same_form-is, record-found, IsBegun, begun, kept_in, find-passes, find-map, few-written, length-next, start-total, start-length, start-alike, start-few, length-paired, and_first, and_second}
 use Rattle.copy_jobs.specs.declared.key.Key.{Key}
 use Rattle.copy_jobs.specs.declared.job.Job.{Job}
 use Rattle.copy_jobs.specs.declared.job.Work.TheVariants.{Writing}
@@ -37,24 +34,20 @@ use Rattle.copy_jobs.specs.declared.piece.NextPiece.{NextPiece}
 use Rattle.copy_jobs.specs.Jobs as jobs
 use Rattle.copy_jobs.specs.Pieces as next
 use Rattle.copy_jobs.specs.Reports as reports
-use Rattle.rod_store.specs.Judging.{judged, judged_token, judged_standing}
-use Rattle.unit_core.specs.Tables.{key_of, kept_of, tokens_of, standing_of, job_of, jobs_of, work_of}
+use Rattle.rod_store.specs.Judging.{judged, judged_token, judged_state}
+use Rattle.unit_core.specs.inner.Tables.{key_of, kept_of, tokens_of, token_state_of, job_of, jobs_of, work_of}
 use Rattle.cm_history.specs.History.{past_of}
-use Rattle.unit_core.specs.Standing.{Standing}
+use Rattle.unit_core.specs.UnitState.{UnitState}
 use Rattle.unit_core.specs.Acting.{MayRedeem}
-use Rattle.unit_core.specs.Planning.{quiet, IsPlan, WritesPiece}
-use Rattle.lba_ranges.proofs.Rows.{length-blocks_of}
+use Rattle.unit_core.specs.inner.Planning.{quiet, IsPlan, WritesPiece}
+use Rattle.lba_ranges.proofs.PublicLaws.{length-blocks_of}
 use Rattle.unit_core.specs.declared.block_change.BlockChange.{BlockChange}
 use Rattle.unit_core.proofs.Operating.{starts_within}
-use Rattle.cm_history.proofs.Finding.{find-passes, find-map}
-use Rattle.cm_history.proofs.Serving.{few-written, length-next}
 use Rattle.unit_core.proofs.Jobs.{IsNexus, IsOwn, own-nexus, found-job, is-next-key, is-next-pump, work-foreground, work-background}
 use Rattle.unit_core.proofs.Keeping.{own_key, served-there}
-use Rattle.cm_history.proofs.Starts.{start-total, start-length, start-alike, start-few, length-paired}
 use Rattle.unit_core.proofs.Asking.{asker, found-key, job-report, job-result}
 use Rattle.unit_core.proofs.Planned.{IsKnown, own-of, plain-plan, refused-plan}
 use Rattle.unit_core.proofs.ServePlans.{IsPieceOf, IsForPiece}
-use Rattle.unit_core.proofs.Bools.{and_first, and_second}
 use Rattle.std.proofs.lemmas.Bool.{or_left, or_right}
 
 -- ---- a redeem
@@ -69,7 +62,7 @@ abbrev pub answer_of : Result HeldBlocks SenseCode → Answer
 answer_of (Ok list) = Answer.Rod list
 answer_of (Err sense) = Answer.Refused sense
 
-fate-is : (unit : UnitConfig) (now : ℕ) (t : Token) (f : Fate) → answer_by_fate unit t (fate_at now t f) ≡ answer_of (judged_standing now (standing_of (rod unit t) t f))
+fate-is : (unit : UnitConfig) (now : ℕ) (t : Token) (f : Fate) → answer_by_fate unit t (fate_at now t f) ≡ answer_of (judged_state now (token_state_of (rod unit t) t f))
 fate-is unit now t Live = go (is_over now t)
   where
     go : (b : Bool) → answer_by_fate unit t (if b then Expired else Live) ≡ answer_of (if b then Err token_expired else Ok (rod unit t))
@@ -86,7 +79,7 @@ token-is config unit now text target (Some t) =
     go (are_alike (unit_of config unit) (unit_of config target)) (bytes_eq text (token_text config unit t.serial (total t.ranges)))
   where
     last : Result HeldBlocks SenseCode
-    last = judged_standing now (standing_of (rod (unit_of config unit) t) t t.fate)
+    last = judged_state now (token_state_of (rod (unit_of config unit) t) t t.fate)
 
     go : (a b : Bool)
         → (if not a then Answer.Refused remote_token_usage_not_supported else if not b then Answer.Refused token_corrupt else answer_by_fate (unit_of config unit) t (fate_at now t t.fate))
@@ -103,7 +96,7 @@ redeem-is config unit past actor at text target =
     ∙ ap (λ o. answer_of (judged_token config unit (max at (moment past)) text target o)) (sym (get-map (kept_of (unit_of config unit)) (tokens past) (serial_of text)))
 
 -- a live token that may be used is given
-pub redeem-given : (s : Standing) (actor : Actor) (at : ℕ) (text : List ℕ) (target : ℕ) (t : Token) → MayRedeem s at text target t
+pub redeem-given : (s : UnitState) (actor : Actor) (at : ℕ) (text : List ℕ) (target : ℕ) (t : Token) → MayRedeem s at text target t
     → answer_after s.config s.unit (past_of s.config s.unit s.entries) actor at (Act.Redeem text target) ≡ Answer.Rod (rod (unit_of s.config s.unit) t)
 redeem-given s actor at text target t may =
     ap (redeemed s.config s.unit (max at (moment (past_of s.config s.unit s.entries))) text target) may.named

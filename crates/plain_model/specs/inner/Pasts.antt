@@ -5,7 +5,7 @@ use Rattle.cm_base.specs.Units.{unit_of}
 use Rattle.cm_history.specs.declared.act.Entry.{Entry}
 use Rattle.cm_history.specs.Deeds.{Deed}
 use Rattle.cm_history.specs.History.{past_of}
-use Rattle.plain_model.specs.Holds.{IsSizedPast}
+use Rattle.plain_model.specs.inner.Holds.{IsSizedPast}
 
 -- the past of the entries, and its blocks have the unit's length
 pub record IsPlayed (config : Configuration) (unit : ℕ) (entries : List Entry) (past : List Deed) : Type 0 where

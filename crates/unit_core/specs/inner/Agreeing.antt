@@ -13,7 +13,7 @@ use Rattle.cm_history.specs.History.{on, past_of}
 use Rattle.cm_history.specs.Asked.{AllAsked}
 use Rattle.rod_store.specs.Store.{Store}
 use Rattle.copy_jobs.specs.declared.job.Job.{Job}
-use Rattle.unit_core.specs.Tables.{tokens_of, jobs_of}
+use Rattle.unit_core.specs.inner.Tables.{tokens_of, jobs_of}
 
 -- the blocks hold what the past says
 pub record BlocksAgree (unit : UnitConfig) (past : List Deed) (own_blocks own_length : ℕ) (holds : ℕ → Held) : Type 0 where

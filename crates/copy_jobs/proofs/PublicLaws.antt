@@ -1,0 +1,2 @@
+-- The lemmas of copy_jobs that other crates may cite
+pub use Rattle.copy_jobs.proofs.SameKeys.{same-sym}

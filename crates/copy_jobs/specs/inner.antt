@@ -1,0 +1,4 @@
+pub mod Jobs
+pub mod Pieces
+pub mod Steps
+pub mod Tables

@@ -1,0 +1,4 @@
+pub mod HeldBlocks
+pub mod Runs
+pub mod Denoted
+pub mod Status

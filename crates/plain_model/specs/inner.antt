@@ -1,0 +1,6 @@
+pub mod Writings
+pub mod Holds
+pub mod Outcomes
+pub mod Pasts
+pub mod Forms
+pub mod Fates

@@ -1,0 +1,6 @@
+pub mod Tables
+pub mod Agreeing
+pub mod BlockChanges
+pub mod JobChanges
+pub mod TokenChanges
+pub mod Planning
