@@ -3,3 +3,5 @@ pub mod Reading
 pub mod Laws
 pub mod DataOut
 pub mod Gathering
+pub mod Taking
+pub mod Framing

@@ -2,6 +2,7 @@
 #![tactic(auto)]
 
 mod frame;
+mod framing;
 mod header;
 mod item;
 mod item_buffer;
@@ -13,6 +14,7 @@ mod request;
 
 pub use cm_base::Parsed;
 pub use frame::{Reply, Request};
+pub use framing::{Framed, Framer};
 pub use header::{read_header, write_header};
 pub use item::{TraceItem, read_item, write_item};
 pub use item_buffer::ItemBuffer;
@@ -21,5 +23,7 @@ pub use memory::Memory;
 pub use reply::{read_reply, reply_head, write_reply};
 pub use request::{DATA_LIMIT, read_request, write_request};
 
+#[cfg(test)]
+mod framing_tests;
 #[cfg(test)]
 mod tests;
