@@ -98,7 +98,7 @@ status-same unit f g lba same = go (cases_lt lba unit.blocks)
 
 -- ---- what ranges within the unit hold
 
-both : (a b : Bool) → (a && b) ≡ true → (a ≡ true) × (b ≡ true)
+pub both : (a b : Bool) → (a && b) ≡ true → (a ≡ true) × (b ≡ true)
 both true b e = (refl, e)
 both false b e = cc
 

@@ -26,6 +26,7 @@ use Rattle.cm_history.proofs.Records.{kept_in, running_kept, and_first}
 use Rattle.cm_history.proofs.Keys.{KeysApart, keys-apart, and_second}
 use Rattle.cm_history.proofs.Made.{length-map}
 use Rattle.cm_history.proofs.Serving.{few-written, left-running, length-drop}
+use Rattle.cm_history.proofs.CountLaw.{same_actor-self}
 
 -- ---- which operations run, and which an act fits
 
@@ -196,11 +197,7 @@ moved-image d o runs begun =
 
 -- ---- the one that is served is the first that the act fits
 
-same_actor-self : (a : Actor) → same_actor a a ≡ true
-same_actor-self (Actor.Nexus n) = grind (arith, nat_tests)
-same_actor-self (Actor.Pump n) = grind (arith, nat_tests)
-
-same_form-self : (f : Form) → same_form f f ≡ true
+pub same_form-self : (f : Form) → same_form f f ≡ true
 same_form-self OfToken = refl
 same_form-self OfCopy = refl
 

@@ -92,7 +92,7 @@ all-meant config unit (d ∷ past) asked = go (all-meant config unit past asked.
         ap (λ (x : Deed). within_limits config unit x.entry.act) (made-after d o) ∙ Each-in (IsMeant config unit) (operations past) o before i)))
         (new (makes_operation d))
 
-whole-pieces : (n : ℕ) → pieces (piece_blocks * n) ≡ n
+pub whole-pieces : (n : ℕ) → pieces (piece_blocks * n) ≡ n
 whole-pieces n = omega arith
 
 reserved-act : (config : Configuration) (unit : ℕ) (o : Operation) (act : Act) → o.made.entry.act ≡ act → Runs o act (form_of act) ≡ true → within_limits config unit act ≡ true
@@ -110,7 +110,7 @@ reserved-act config unit o (Act.Start id background ranges rod) is runs meant pa
 reserved-act config unit o (Act.Open id) is runs meant paced begun = refl
 reserved-act config unit o _ is runs meant paced begun = cc
 
-sum-filter : {X : Type 0} (f : X → ℕ) (p : X → Bool) (xs : List X) → sum_by f (filter p xs) ≡ sum_by (λ x. if p x then f x else 0) xs
+pub sum-filter : {X : Type 0} (f : X → ℕ) (p : X → Bool) (xs : List X) → sum_by f (filter p xs) ≡ sum_by (λ x. if p x then f x else 0) xs
 sum-filter f p [] = refl
 sum-filter f p (x ∷ xs) =
     go (p x) (sum-filter f p xs) ∙ sym (sum_by-cons (λ y. if p y then f y else 0) x xs)
@@ -120,11 +120,11 @@ sum-filter f p (x ∷ xs) =
     go true ih = sum_by-cons f x (filter p xs) ∙ ap (λ n. f x + n) ih
     go false ih = omega (arith, ih)
 
-sum-map : {X Y : Type 0} (h : X → Y) (f : Y → ℕ) (xs : List X) → sum_by f (map h xs) ≡ sum_by (λ x. f (h x)) xs
+pub sum-map : {X Y : Type 0} (h : X → Y) (f : Y → ℕ) (xs : List X) → sum_by f (map h xs) ≡ sum_by (λ x. f (h x)) xs
 sum-map h f [] = refl
 sum-map h f (x ∷ xs) = sum_by-cons f (h x) (map h xs) ∙ ap (λ n. f (h x) + n) (sum-map h f xs) ∙ sym (sum_by-cons (λ y. f (h y)) x xs)
 
-sum-same : {X : Type 0} (f g : X → ℕ) (xs : List X) → ((x : X) → In x xs → f x ≡ g x) → sum_by f xs ≡ sum_by g xs
+pub sum-same : {X : Type 0} (f g : X → ℕ) (xs : List X) → ((x : X) → In x xs → f x ≡ g x) → sum_by f xs ≡ sum_by g xs
 sum-same f g [] h = refl
 sum-same f g (x ∷ xs) h =
     sum_by-cons f x xs ∙ ap (λ n. n + sum_by f xs) (h x (inl refl)) ∙ ap (λ n. g x + n) (sum-same f g xs (λ y i. h y (inr i))) ∙ sym (sum_by-cons g x xs)
@@ -153,7 +153,7 @@ reserved-image config unit past is asked =
 
 -- ---- what an act needs
 
-some-map : {X Y : Type 0} (f : X → Y) (w : Option X) → is_some (option_map f w) ≡ is_some w
+pub some-map : {X Y : Type 0} (f : X → Y) (w : Option X) → is_some (option_map f w) ≡ is_some w
 some-map f None = refl
 some-map f (Some x) = refl
 

@@ -1,5 +1,5 @@
 -- The lemmas of cm_history that other crates may cite
-pub use Rattle.cm_history.proofs.Lists.{Each, Each-all, Each-append, Each-by, Each-in, Each-map, In, In-filter, In-map, filter-passes, find-in, find-none, find-some, get-in}
+pub use Rattle.cm_history.proofs.Lists.{Each, Each-all, Each-append, Each-by, Each-in, Each-map, In, In-filter, In-map, filter-passes, find-in, find-none, find-some, get-in, length-take-short}
 pub use Rattle.cm_history.proofs.Counts.{IsBegun, IsPast, begun, made-after}
 pub use Rattle.cm_history.proofs.Records.{and_first, kept_in, making_serves, running_kept, served_none}
 pub use Rattle.cm_history.proofs.Made.{Has, IsMade, all-made, past_of-mine, past_of-other, token-kept}
@@ -11,6 +11,8 @@ pub use Rattle.cm_history.proofs.AnswerKinds.{after-kind, answer-kind}
 pub use Rattle.cm_history.proofs.WritesOn.{more_of, no-failure}
 pub use Rattle.cm_history.proofs.WritesEnd.{Follows, follows-answer, follows-more, follows-started}
 pub use Rattle.cm_history.proofs.Finding.{all-map, all-same, any-filter, any-found, any-map, any-same, any-some, filter-map, filter-same, find-filter, find-map, find-passes, find-same, map-append, map-map, map-same}
-pub use Rattle.cm_history.proofs.Starts.{length-paired, start-alike, start-few, start-length, start-total}
+pub use Rattle.cm_history.proofs.Starts.{length-paired, populate-few, start-alike, start-few, start-length, start-total}
 pub use Rattle.cm_history.proofs.Serving.{Closes, Ends, IsPaced, Moves, Serves, Stops, all-paced, few-written, how-serves, left-running, length-next, paced-after, served-or-not, serving, token-runs}
-pub use Rattle.cm_history.proofs.ImageBlocks.{read-same, status-same, write-same}
+pub use Rattle.cm_history.proofs.ImageBlocks.{both, read-same, status-same, write-same}
+pub use Rattle.cm_history.proofs.ImageOperations.{same_form-self}
+pub use Rattle.cm_history.proofs.ImageRoom.{some-map, sum-filter, sum-map, sum-same, whole-pieces}

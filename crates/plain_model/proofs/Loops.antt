@@ -10,6 +10,7 @@ use Rattle.plain_model.specs.declared.writings.PlainWriting.{PlainWriting}
 use Rattle.plain_model.specs.inner.Writings.{writing_of}
 use Rattle.cm_history.specs.Deeds.{Deed}
 use Rattle.cm_history.specs.Operations.{written_by}
+use Rattle.cm_history.proofs.PublicLaws.{length-take-short as length-take_count}
 
 -- the first elements and one more, the latest first
 pub reverse-more : {X : Type 0} (xs : List X) (i : ℕ) (x : X) → i < length xs → x ≡ get_or xs i x → reverse (take (i + 1) xs) ≡ x ∷ reverse (take i xs)
@@ -105,11 +106,6 @@ part-behind [] zero (suc count) x a b = absurd (omega arith)
 part-behind (y ∷ xs) zero (suc count) x a b = ap (λ l. y ∷ l) (part-behind xs zero count x (omega arith) (omega arith))
 part-behind [] (suc from) count x a b = absurd (omega arith)
 part-behind (y ∷ xs) (suc from) count x a b = part-behind xs from count x (omega arith) (omega arith)
-
-pub length-take_count : {X : Type 0} (n : ℕ) (xs : List X) → length (take n xs) ≤ n
-length-take_count zero xs = omega arith
-length-take_count (suc n) [] = omega arith
-length-take_count (suc n) (x ∷ xs) = let h = length-take_count n xs in omega arith
 
 -- one more block of a row
 pub row-more : (lba n : ℕ) → row lba (n + 1) ≡ row lba n ++ (lba + n) ∷ []

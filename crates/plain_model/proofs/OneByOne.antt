@@ -8,6 +8,7 @@ use Rattle.lba_ranges.specs.Writings.{Held, paired}
 use Rattle.cm_history.specs.declared.act.Act.{Act}
 use Rattle.cm_history.specs.Operations.{Operation, list_of}
 use Rattle.plain_model.specs.inner.Holds.{IsSoundAct, IsSoundOperation, AllSound}
+use Rattle.cm_history.proofs.PublicLaws.{find-filter as find-filtered}
 
 pub length-paired : (bs : List ℕ) (xs : List Held) → length (paired bs xs) ≡ min (length bs) (length xs)
 length-paired [] xs = omega arith
@@ -48,15 +49,6 @@ find-later p (y ∷ xs) (suc i) x there is none passes = go (p y) none (λ h. fi
     go : (t : Bool) → cond t (Some y) (find p (take i xs)) ≡ None → (find p (take i xs) ≡ None → find p xs ≡ Some x) → cond t (Some y) (find p xs) ≡ Some x
     go true h later = cc
     go false h later = later h
-
-pub find-filtered : {X : Type 0} (q p : X → Bool) (xs : List X) → find p (filter q xs) ≡ find (λ x. q x && p x) xs
-find-filtered q p [] = refl
-find-filtered q p (x ∷ xs) = go (q x) (find-filtered q p xs)
-  where
-    go : (t : Bool) → find p (filter q xs) ≡ find (λ x. q x && p x) xs
-        → find p (cond t (x ∷ filter q xs) (filter q xs)) ≡ cond (t && p x) (Some x) (find (λ x. q x && p x) xs)
-    go true ih = ap (cond (p x) (Some x)) ih
-    go false ih = ih
 
 -- the first that passes both tests
 pub served-found : {X : Type 0} (q p : X → Bool) (xs : List X) (i : ℕ) (x : X) → i < length xs → x ≡ get_or xs i x

@@ -19,17 +19,11 @@ use Rattle.cm_history.specs.Tokens.{tokens}
 use Rattle.cm_history.specs.Operations.{Operation, OfToken, operations, operation_after, made_operation, makes_operation, is_making, kept, list_of, written}
 use Rattle.cm_history.specs.Answers.{answer_after, deed, is_busy, is_crowded}
 use Rattle.plain_model.specs.inner.Holds.{MadeSound, IsSoundAct, IsSoundOperation, AllSound, MayFollow}
-use Rattle.cm_history.proofs.PublicLaws.{In-map, Each, Each-in, Each-by, Each-map, Each-append, IsPast, IsBegun, begun, made-after, kept_in, and_first, and_second}
+use Rattle.cm_history.proofs.PublicLaws.{In-map, Each, Each-in, Each-by, Each-map, Each-append, IsPast, IsBegun, begun, made-after, kept_in, and_first, and_second, populate-few as few-populated}
 use Rattle.plain_model.proofs.Sizes.{Fits, AllFit}
 
 numbers-within : (blocks : ℕ) (ranges : List Range) → blocks ≤ 2 ^ 64 → is_within blocks ranges ≡ true → IsTrue (is_within (2 ^ 64) ranges)
 numbers-within blocks ranges few inside = let far : is_within (2 ^ 64) ranges ≡ true = within-more blocks (2 ^ 64) ranges few inside in far
-
-few-populated : (config : Configuration) (unit id timeout : ℕ) (ranges : List Range) → within_limits config unit (Act.Populate id timeout ranges) ≡ true → total ranges ≤ 1_048_576
-few-populated config unit id timeout ranges limits =
-    let few : nat_le (total ranges) 1_048_576 ≡ true =
-    and_second (not (is_overlapping ranges)) _ (and_first _ (nat_le 1 timeout) (and_first _ (nat_le timeout 3600) limits)) in
-    grind (arith, nat_tests)
 
 -- the act of a deed that was not refused
 sound-act : (config : Configuration) (unit : ℕ) (past : List Deed) (actor : Actor) (now : ℕ) (act : Act) → (unit_of config unit).blocks ≤ 2 ^ 64 → within_limits config unit act ≡ true

@@ -26,6 +26,7 @@ use Rattle.trace_replay.specs.Played.{played_after, play, shortage_for, shortage
 use Rattle.trace_replay.specs.Shortages.{is_no_shortage, allowed_at_act, allowed_at_run, is_allowed, are_allowed, allowed_after}
 use Rattle.trace_replay.proofs.Laws.{ShortagesTell}
 use Rattle.trace_replay.proofs.Grows.{Follows, next-follows}
+use Rattle.cm_history.proofs.PublicLaws.{both as both-true}
 
 -- ---- words
 
@@ -324,10 +325,6 @@ pub none-behind : (item : TraceItem) → shortages_behind item [] ≡ []
 none-behind (TraceItem.Begin i m r) = refl
 none-behind (TraceItem.Run i m) = refl
 none-behind (TraceItem.Pump u m) = refl
-
-both-true : (a b : Bool) → (a && b) ≡ true → (a ≡ true) × (b ≡ true)
-both-true true b e = (refl, e)
-both-true false b e = cc
 
 -- the same as with no shortages, or it shows
 abbrev Tells : Stepping → Configuration → ReplayState → List Placed → Ending → List Shortage → Type 0

@@ -28,6 +28,7 @@ use Rattle.trace_replay.specs.declared.units.Units.{Units}
 use Rattle.trace_replay.specs.ReplayState.{seq, new_entry, has_no_room, entries_after}
 use Rattle.trace_replay.proofs.Legally.{legal-more, low-more}
 use Rattle.trace_replay.specs.inner.Machines.{HaveDone, HavePumped, HaveCounted, Refuses, DoesAct}
+use Rattle.copy_jobs.proofs.PublicLaws.{or_first as not-last}
 
 -- ---- lists
 
@@ -104,10 +105,6 @@ its config entries u = record { config = config; unit = u; entries = on u entrie
 
 same-past : (config : Configuration) (entries : List Entry) (u : ℕ) → acting.past (its config entries u) ≡ past_of config u entries
 same-past config entries u = past_of-on config u entries
-
-not-last : (a b : Bool) → (a || b) ≡ false → a ≡ false
-not-last true b e = cc
-not-last false b e = refl
 
 module _ (config : Configuration) (entries : List Entry) (units : Units) (u : ℕ) (value : unit.UnitState) (actor : Actor) (act : Act)
     (have : HaveDone config entries units) (at : slice_get units.units.items u ≡ Some value) where

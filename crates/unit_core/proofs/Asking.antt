@@ -19,7 +19,7 @@ use Rattle.cm_history.specs.Legal.{may_ask}
 use Rattle.cm_history.specs.Tokens.{Token, rod, is_live, is_populate}
 use Rattle.cm_history.specs.Operations.{Operation, Form, OfToken, OfCopy, same_form, form_of, id_of, has_key, would_serve, is_running, is_background, fits, kept, is_making, result_of, written, state_of, count_of}
 use Rattle.cm_history.specs.Answers.{report_of, serial_made}
-use Rattle.cm_history.proofs.PublicLaws.{In, Each-in, same_actor-is, same_form-is, any-some, find-map, find-same, filter-map, filter-same, and_first, and_second}
+use Rattle.cm_history.proofs.PublicLaws.{In, Each-in, same_actor-is, same_form-is, any-some, find-map, find-same, filter-map, filter-same, and_first, and_second, some-map}
 use Rattle.copy_jobs.specs.declared.job.Job.{Job}
 use Rattle.copy_jobs.specs.Jobs as jobs
 use Rattle.copy_jobs.specs.Pieces as next
@@ -41,10 +41,6 @@ pub asker : (unit : ℕ) (actor : Actor) (act : Act) → may_ask unit actor act 
 asker unit (Nexus n) act e p = tt
 asker unit (Pump u) Act.Pump e p = cc
 asker unit (Pump u) _ e p = cc
-
-some-map : {X Y : Type 0} (f : X → Y) (w : Option X) → is_some (option_map f w) ≡ is_some w
-some-map f None = refl
-some-map f (Some x) = refl
 
 -- a test that holds of the jobs of the operations that an act fits
 serves-by : (config : Configuration) (unit : ℕ) (past : List Deed) (actor : Actor) (act : Act) (test : Job → Bool) → IsKnown config unit past

@@ -28,7 +28,7 @@ use Rattle.cm_history.specs.Operations.{Operation, OfToken, OfCopy, form_of, has
 use Rattle.cm_history.specs.Answers.{answer_after, answer_report, is_busy, is_crowded, serial_made}
 use Rattle.cm_history.specs.History.{past_of, answer}
 use Rattle.cm_history.specs.Forms.{HasForm}
-use Rattle.cm_history.proofs.PublicLaws.{after-kind, In, Each, Each-in, Each-by, Each-map, Each-append, find-in, get-in, IsPast, IsBegun, begun, made-after, kept_in, Has, IsMade, all-made, and_first, and_second, find-passes, few-written, start-few, start-length}
+use Rattle.cm_history.proofs.PublicLaws.{after-kind, In, Each, Each-in, Each-by, Each-map, Each-append, find-in, get-in, IsPast, IsBegun, begun, made-after, kept_in, Has, IsMade, all-made, and_first, and_second, find-passes, few-written, start-few, start-length, populate-few}
 use Rattle.cm_history.specs.Asked.{IsAsked, AllAsked}
 use Rattle.unit_core.specs.inner.Agreeing.{IsRecord}
 use Rattle.unit_core.proofs.Operating.{IsMadeBy, all-made_by}
@@ -68,14 +68,6 @@ asked-has : (config : Configuration) (unit : ℕ) (past : List Deed) (d : Deed) 
 asked-has config unit [] d before has asked = absurd has
 asked-has config unit (x ∷ past) d before (inl same) asked = subst (IsAsked config unit) same.0 asked.0
 asked-has config unit (x ∷ past) d before (inr earlier) asked = asked-has config unit past d before earlier asked.1
-
--- at most 1,048,576 blocks
-populate-few : (config : Configuration) (unit id timeout : ℕ) (ranges : List Range) → within_limits config unit (Act.Populate id timeout ranges) ≡ true → total ranges ≤ 1_048_576
-populate-few config unit id timeout ranges e =
-    let apart = not (is_overlapping ranges) in
-    let few = nat_le (total ranges) 1_048_576 in
-    leb-true (total ranges) 1_048_576
-    (and_second apart few (and_first (apart && few) (nat_le 1 timeout) (and_first (apart && few && nat_le 1 timeout) (nat_le timeout 3600) e)))
 
 token-few : (config : Configuration) (unit : ℕ) (past : List Deed) (t : Token) → AllAsked config unit past → In t (tokens past) → total t.ranges ≤ 1_048_576
 token-few config unit past t asked there =

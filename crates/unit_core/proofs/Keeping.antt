@@ -12,7 +12,7 @@ use Rattle.cm_history.specs.Bounds.{kept_operations}
 use Rattle.cm_history.specs.Deeds.{Deed, same_actor}
 use Rattle.cm_history.specs.Operations.{Operation, Form, OfToken, OfCopy, same_form, serves, form_of, id_of, has_key, operation_after, made_operation, makes_operation, would_serve, running, is_running, fits, kept, keep, has_ended, same_key, with_room, without_first_ended}
 use Rattle.cm_history.specs.Answers.{deed}
-use Rattle.cm_history.proofs.PublicLaws.{In, Each, Each-in, Each-by, In-filter, find-in, find-some, filter-passes, IsPast, running_kept, kept_in, served_none, KeysApart, keys-apart, one-key, same-record, find-map, filter-map, filter-same, map-append, map-map, map-same, served-or-not, and_second, same_actor-self as same-own}
+use Rattle.cm_history.proofs.PublicLaws.{In, Each, Each-in, Each-by, In-filter, find-in, find-some, filter-passes, IsPast, running_kept, kept_in, served_none, KeysApart, keys-apart, one-key, same-record, find-map, filter-map, filter-same, map-append, map-map, map-same, served-or-not, and_second, same_actor-self as same-own, same_form-self as form-own}
 use Rattle.copy_jobs.specs.declared.key.Key.{Key}
 use Rattle.copy_jobs.specs.declared.job.Job.{Job}
 use Rattle.copy_jobs.specs.Jobs as jobs
@@ -128,10 +128,6 @@ serves-own d o e =
     let on : (o.made.place == o.made.place) ≡ true = grind (arith, nat_tests) in
     ap (λ s. if serves s o then record o { servers = d ∷ o.servers } else o) e
     ∙ ap (λ t. if t then record o { servers = d ∷ o.servers } else o) on
-
-form-own : (f : Form) → same_form f f ≡ true
-form-own OfToken = refl
-form-own OfCopy = refl
 
 has-own : (o : Operation) → IsNexus o.made.entry.actor → has_key o.made.entry.actor (form_of o.made.entry.act) (id_of o.made.entry.act) o ≡ true
 has-own o its =

@@ -12,7 +12,7 @@ use Rattle.cm_history.specs.Deeds.{Deed}
 use Rattle.cm_history.specs.Limits.{within_limits}
 use Rattle.cm_history.specs.Operations.{Operation, OfToken, form_of, operations, is_making, is_running, is_running_as, is_running_state, is_running_copy, is_foreground, is_background, kept, written, list_of, state, state_of, result_of, result_or}
 use Rattle.cm_history.specs.Room.{pieces, reserved, reserved_by}
-use Rattle.cm_history.proofs.PublicLaws.{In, Each-in, IsPast, IsBegun, begun, running_kept, kept_in, IsPaced, all-paced, few-written, Serves, token-runs, paced-after, start-length}
+use Rattle.cm_history.proofs.PublicLaws.{In, Each-in, IsPast, IsBegun, begun, running_kept, kept_in, IsPaced, all-paced, few-written, Serves, token-runs, paced-after, start-length, sum-filter, sum-map, sum-same, whole-pieces}
 use Rattle.copy_jobs.specs.declared.job.Job.{Job}
 use Rattle.copy_jobs.specs.Jobs as jobs
 use Rattle.copy_jobs.specs.Keeping as keeping
@@ -22,32 +22,10 @@ use Rattle.cm_history.specs.Asked.{IsAsked}
 use Rattle.unit_core.proofs.Jobs.{IsOwn}
 use Rattle.unit_core.proofs.Bools.{off}
 
-sum-filter : {X : Type 0} (f : X → ℕ) (p : X → Bool) (xs : List X) → sum_by f (filter p xs) ≡ sum_by (λ x. if p x then f x else 0) xs
-sum-filter f p [] = refl
-sum-filter f p (x ∷ xs) =
-    go (p x) (sum-filter f p xs) ∙ sym (sum_by-cons (λ y. if p y then f y else 0) x xs)
-  where
-    go : (t : Bool) → sum_by f (filter p xs) ≡ sum_by (λ y. if p y then f y else 0) xs
-        → sum_by f (cond t (x ∷ filter p xs) (filter p xs)) ≡ (if t then f x else 0) + sum_by (λ y. if p y then f y else 0) xs
-    go true ih = sum_by-cons f x (filter p xs) ∙ ap (λ n. f x + n) ih
-    go false ih = omega (arith, ih)
-
-sum-map : {X Y : Type 0} (h : X → Y) (f : Y → ℕ) (xs : List X) → sum_by f (map h xs) ≡ sum_by (λ x. f (h x)) xs
-sum-map h f [] = refl
-sum-map h f (x ∷ xs) = sum_by-cons f (h x) (map h xs) ∙ ap (λ n. f (h x) + n) (sum-map h f xs) ∙ sym (sum_by-cons (λ y. f (h y)) x xs)
-
-sum-same : {X : Type 0} (f g : X → ℕ) (xs : List X) → ((x : X) → In x xs → f x ≡ g x) → sum_by f xs ≡ sum_by g xs
-sum-same f g [] h = refl
-sum-same f g (x ∷ xs) h =
-    sum_by-cons f x xs ∙ ap (λ n. n + sum_by f xs) (h x (inl refl)) ∙ ap (λ n. g x + n) (sum-same f g xs (λ y i. h y (inr i))) ∙ sym (sum_by-cons g x xs)
-
 -- ---- of one operation
 
 abbrev pub needs : Operation → ℕ
 needs o = reserved_by (length o.servers) o.made.entry.act
-
-whole-pieces : (n : ℕ) → pieces (piece_blocks * n) ≡ n
-whole-pieces n = omega arith
 
 nothing : (t : Bool) → zero ≡ (if t then zero else zero)
 nothing true = refl
