@@ -6,13 +6,11 @@ mod job;
 mod key;
 mod piece;
 mod records;
-mod refused;
 mod table;
 
 pub use job::{Job, Work, WriteJob};
 pub use key::Key;
 pub use piece::NextPiece;
-pub use refused::JobRefused;
 pub use table::JobTable;
 
 #[cfg(test)]

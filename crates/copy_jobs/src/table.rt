@@ -1,4 +1,4 @@
-ghost use Rattle.std.specs.Prelude.{◌≡◌, ◌≢◌, ℕ, ◌+◌, ◌^◌, ◌≤◌, [], length, find, Some, None, true, false, IfOk, IfErr, OnOk, OnErr, IfSome, IfNone};
+ghost use Rattle.std.specs.Prelude.{◌≡◌, ℕ, ◌+◌, ◌^◌, ◌≤◌, [], length, find, Some, None, true, false, IfOk, OnOk, OnErr, IfSome};
 ghost use Rattle.std.specs.Option.{option_map};
 ghost use Rattle.std.specs.List.{list_any};
 ghost use Rattle.lba_ranges.specs.Denoted.{total, is_within, is_overlapping};
@@ -19,7 +19,7 @@ use crate::job::{Job, Work, WriteJob};
 use crate::key::Key;
 use crate::piece::NextPiece;
 use crate::records;
-use crate::refused::JobRefused;
+use crate::change::Change;
 use cm_base::OutOfMemory;
 use cm_history::{CopyEnd, CopyState, OpReport, OpState};
 use lba_ranges::{BlockList, RangeList};
@@ -96,29 +96,19 @@ impl JobTable {
         self.running
     }
 
+    /// As many operations run as may: 64. It takes no memory.
+    pub fn is_crowded(&self) -> bool
+        ensures { result ≡ is_crowded self.now }
+    {
+        self.running >= RUNNING_OPERATIONS
+    }
+
     /// How many entries of the unit's record are kept free for the operations that run. It takes no memory.
     pub fn reserved(&self) -> u64
         ensures reserved { result ≡ reserved self.now }
         ensures few { result ≤ 65_600 }
     {
         self.reserved
-    }
-
-    /// One more operation may run as the key.
-    fn admit(&self, key: Key) -> Result<(), JobRefused>
-        ensures idle { OnOk result (is_busy key self.now ≡ false) }
-        ensures room { OnOk result (is_crowded self.now ≡ false) }
-        ensures busy { IfErr result (λ e. e ≡ JobRefused.InUse → is_busy key self.now ≡ true) }
-        ensures judged { IfErr result (λ e. e ≡ JobRefused.TooMany → is_busy key self.now ≡ false) }
-        ensures crowded { IfErr result (λ e. e ≡ JobRefused.TooMany → is_crowded self.now ≡ true) }
-    {
-        if self.runs(key) {
-            return Err(JobRefused::InUse);
-        }
-        if self.running >= RUNNING_OPERATIONS {
-            return Err(JobRefused::TooMany);
-        }
-        Ok(())
     }
 
     /// Keeps a job for which there is room. At `OutOfMemory` the table is as before.
@@ -154,31 +144,27 @@ impl JobTable {
     }
 
     /// Keeps an operation that is to write the blocks of `rod`, at most 1,048,576, to `ranges` (SPC-4, WRITE USING
-    /// TOKEN). One without blocks is done at once. The record of an ended operation of the key is replaced; where
-    /// 256 are kept, the first that has ended makes room. After each refusal the table is as before: `InUse` where
-    /// an operation of the key runs, else `TooMany` where 64 run.
+    /// TOKEN). One without blocks is done at once. No operation of the key runs (`runs`), and fewer than 64 do
+    /// (`is_crowded`). The record of an ended operation of the key is replaced; where 256 are kept, the first that has
+    /// ended makes room. At `OutOfMemory` the table is as before.
     pub fn start(
         &mut self,
         key: Key,
         background: bool,
         ranges: RangeList,
         rod: BlockList,
-    ) -> Result<(), JobRefused>
+    ) -> Result<(), OutOfMemory>
         requires token { key.copy ≡ false }
+        requires idle { is_busy key self.old ≡ false }
+        requires room { is_crowded self.old ≡ false }
         requires apart { is_overlapping ranges ≡ false }
         requires numbers { is_within (2 ^ 64) ranges ≡ true }
         requires total { total ranges ≡ length rod.items }
         requires few { length rod.items ≤ 1_048_576 }
         ensures kept { OnOk result (self.new ≡ keep self.old (started key background ranges rod)) }
         ensures reserves { OnOk result (reserved self.new ≡ reserved self.old + reserved_at_start (length rod.items)) }
-        ensures idle { OnOk result (is_busy key self.old ≡ false) }
-        ensures room { OnOk result (is_crowded self.old ≡ false) }
-        ensures busy { IfErr result (λ e. e ≡ JobRefused.InUse → is_busy key self.old ≡ true) }
-        ensures judged { IfErr result (λ e. e ≡ JobRefused.TooMany → is_busy key self.old ≡ false) }
-        ensures crowded { IfErr result (λ e. e ≡ JobRefused.TooMany → is_crowded self.old ≡ true) }
         ensures refused { OnErr result (self.new ≡ self.old) }
     {
-        self.admit(key)?;
         let state = if rod.blocks() == 0 {
             OpState::Done
         } else {
@@ -191,50 +177,38 @@ impl JobTable {
             written: 0,
             state,
         });
-        self.add(Job { key, work })?;
-        Ok(())
+        self.add(Job { key, work })
     }
 
-    /// Keeps a copy that its nexus is to carry out (SPC-4, EXTENDED COPY). Room is made, and refused, as by `start`.
-    pub fn open(&mut self, key: Key) -> Result<(), JobRefused>
-        requires { key.copy ≡ true }
+    /// Keeps a copy that its nexus is to carry out (SPC-4, EXTENDED COPY). It is tested, and room is made, as for
+    /// `start`. At `OutOfMemory` the table is as before.
+    pub fn open(&mut self, key: Key) -> Result<(), OutOfMemory>
+        requires copy { key.copy ≡ true }
+        requires idle { is_busy key self.old ≡ false }
+        requires room { is_crowded self.old ≡ false }
         ensures kept { OnOk result (self.new ≡ keep self.old (opened key)) }
         ensures reserves { OnOk result (reserved self.new ≡ reserved self.old + 1) }
-        ensures idle { OnOk result (is_busy key self.old ≡ false) }
-        ensures room { OnOk result (is_crowded self.old ≡ false) }
-        ensures busy { IfErr result (λ e. e ≡ JobRefused.InUse → is_busy key self.old ≡ true) }
-        ensures judged { IfErr result (λ e. e ≡ JobRefused.TooMany → is_busy key self.old ≡ false) }
-        ensures crowded { IfErr result (λ e. e ≡ JobRefused.TooMany → is_crowded self.old ≡ true) }
         ensures refused { OnErr result (self.new ≡ self.old) }
     {
-        self.admit(key)?;
         let work = Work::Copying(CopyEnd {
             state: CopyState::Running,
             segments: 0,
             bytes: 0,
         });
-        self.add(Job { key, work })?;
-        Ok(())
+        self.add(Job { key, work })
     }
 
-    /// Keeps that the token of this serial was made of so many blocks (SPC-4, POPULATE TOKEN). Room is made as by
-    /// `start`. It is refused as `InUse` where an operation of the key runs, and never as `TooMany`; the table is
-    /// then as before.
-    pub fn made(&mut self, key: Key, serial: u64, blocks: u32) -> Result<(), JobRefused>
-        requires { key.copy ≡ false }
+    /// Keeps that the token of this serial was made of so many blocks (SPC-4, POPULATE TOKEN). No operation of the key
+    /// runs; any number of others may. Room is made as by `start`. At `OutOfMemory` the table is as before.
+    pub fn made(&mut self, key: Key, serial: u64, blocks: u32) -> Result<(), OutOfMemory>
+        requires token { key.copy ≡ false }
+        requires idle { is_busy key self.old ≡ false }
         ensures kept { OnOk result (self.new ≡ keep self.old (made key serial blocks)) }
         ensures reserves { OnOk result (reserved self.new ≡ reserved self.old) }
-        ensures idle { OnOk result (is_busy key self.old ≡ false) }
-        ensures busy { IfErr result (λ e. e ≡ JobRefused.InUse → is_busy key self.old ≡ true) }
-        ensures never { IfErr result (λ e. e ≢ JobRefused.TooMany) }
         ensures refused { OnErr result (self.new ≡ self.old) }
     {
-        if self.runs(key) {
-            return Err(JobRefused::InUse);
-        }
         let work = Work::Populated { serial, blocks };
-        self.add(Job { key, work })?;
-        Ok(())
+        self.add(Job { key, work })
     }
 
     /// What is to be written next, at most 1024 blocks: by the foreground operation of a key, or without a key by the

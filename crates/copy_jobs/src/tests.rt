@@ -49,9 +49,33 @@ fn start(
         fill: Fill::Hole,
     })?;
     if !ranges.overlap() && ranges.within(1 << 40) && ranges.total() == rod.blocks() {
-        table.start(key, background, ranges, rod)?;
+        if !table.runs(key) && !table.is_crowded() {
+            table.start(key, background, ranges, rod)?;
+        }
     }
     Ok(())
+}
+
+/// Keeps that a token was made of so many blocks. Whether no operation of the key ran.
+fn make(table: &mut JobTable, key: Key, serial: u64, blocks: u32) -> Result<bool, Fail>
+    requires { key.copy ≡ false }
+{
+    if table.runs(key) {
+        return Ok(false);
+    }
+    table.made(key, serial, blocks)?;
+    Ok(true)
+}
+
+/// Opens a copy. Whether there was room, and none of the key ran.
+fn open(table: &mut JobTable, key: Key) -> Result<bool, Fail>
+    requires { key.copy ≡ true }
+{
+    if table.runs(key) || table.is_crowded() {
+        return Ok(false);
+    }
+    table.open(key)?;
+    Ok(true)
 }
 
 /// Writes the next piece; gives its first block, and how many it has.
@@ -71,8 +95,8 @@ fn write_next(table: &mut JobTable, key: Option<Key>) -> Result<Option<(u64, u32
 #[test]
 fn made_tokens(rt: HostRuntime) -> Result<(), Fail> {
     let mut table = JobTable::new(rt.alloc());
-    table.made(token(1), 5, 80)?;
-    table.made(token(1), 6, 90)?;
+    assert!(rt; make(&mut table, token(1), 5, 80)?);
+    assert!(rt; make(&mut table, token(1), 6, 90)?);
     assert_eq!(rt; table.running(), 0);
     assert_eq!(rt; table.reserved(), 0);
     assert!(rt;
@@ -181,12 +205,12 @@ fn background(rt: HostRuntime) -> Result<(), Fail> {
 fn in_use(rt: HostRuntime) -> Result<(), Fail> {
     let mut table = JobTable::new(rt.alloc());
     start(rt.alloc(), &mut table, token(1), true, 0, 3)?;
-    assert!(rt; matches!(table.made(token(1), 0, 3), Err(JobRefused::InUse)));
+    assert!(rt; !make(&mut table, token(1), 0, 3)?);
     start(rt.alloc(), &mut table, token(2), false, 0, 0)?;
     assert!(rt; !table.runs(token(2)));
-    table.made(token(2), 4, 3)?;
-    table.open(copy(1))?;
-    assert!(rt; matches!(table.open(copy(1)), Err(JobRefused::InUse)));
+    assert!(rt; make(&mut table, token(2), 4, 3)?);
+    assert!(rt; open(&mut table, copy(1))?);
+    assert!(rt; !open(&mut table, copy(1))?);
     assert!(rt;
         matches!(table.recall(copy(1)), Some(end) if matches!(end.state, CopyState::Running) && end.bytes == 0)
     );
@@ -211,28 +235,20 @@ fn in_use(rt: HostRuntime) -> Result<(), Fail> {
             })
         )
     );
-    table.open(copy(1))?;
+    assert!(rt; open(&mut table, copy(1))?);
     Ok(())
 }
 
-/// The 65th operation is one too many, unless its key is in use. A token may still be made.
+/// The 65th operation is one too many. A token may still be made.
 #[test]
 fn too_many(rt: HostRuntime) -> Result<(), Fail> {
     let mut table = JobTable::new(rt.alloc());
     for id in 0..64 {
-        table.open(copy(id))?;
+        assert!(rt; open(&mut table, copy(id))?);
     }
-    assert!(rt; matches!(table.open(copy(64)), Err(JobRefused::TooMany)));
-    assert!(rt; matches!(table.open(copy(63)), Err(JobRefused::InUse)));
-    let ranges = RangeList::empty(rt.alloc());
-    let rod = BlockList::empty(rt.alloc(), 512);
-    assert!(rt;
-        matches!(
-            table.start(token(1), false, ranges, rod),
-            Err(JobRefused::TooMany)
-        )
-    );
-    table.made(token(1), 0, 1)?;
+    assert!(rt; table.is_crowded());
+    assert!(rt; !table.runs(copy(64)) && table.runs(copy(63)));
+    assert!(rt; make(&mut table, token(1), 0, 1)?);
     assert_eq!(rt; table.running(), 64);
     assert_eq!(rt; table.reserved(), 64);
     Ok(())
@@ -242,12 +258,12 @@ fn too_many(rt: HostRuntime) -> Result<(), Fail> {
 #[test]
 fn room(rt: HostRuntime) -> Result<(), Fail> {
     let mut table = JobTable::new(rt.alloc());
-    table.open(copy(0))?;
+    assert!(rt; open(&mut table, copy(0))?);
     for id in 0..255 {
-        table.made(token(id), 9, 1)?;
+        assert!(rt; make(&mut table, token(id), 9, 1)?);
     }
     assert!(rt; table.report(token(0)).is_some());
-    table.made(token(255), 9, 1)?;
+    assert!(rt; make(&mut table, token(255), 9, 1)?);
     assert!(rt; table.runs(copy(0)));
     assert!(rt; table.report(token(0)).is_none());
     assert!(rt; table.report(token(1)).is_some());

@@ -4,3 +4,4 @@ pub mod LiveWalks
 pub mod Oldest
 pub mod Stored
 pub mod Expiring
+pub mod Redeemed

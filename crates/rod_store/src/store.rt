@@ -1,4 +1,4 @@
-ghost use Rattle.std.specs.Prelude.{◌≡◌, ◌<◌, ◌≤◌, ◌+◌, ◌++◌, ◌∷◌, ◌^◌, ◌==◌, [], map, length, slice_get, option_copied, is_some, IfOk, IfErr, IfSome, IfNone, OnSome, OnOk, OnErr, Ok, Err, Some, IsOk, IsSome, true, false};
+ghost use Rattle.std.specs.Prelude.{◌≡◌, ◌<◌, ◌≤◌, ◌+◌, ◌++◌, ◌∷◌, ◌^◌, ◌==◌, [], map, length, slice_get, option_copied, is_some, IfOk, IfErr, IfSome, IfNone, OnSome, OnOk, OnErr, Ok, Err, Some, IsSome, true, false};
 ghost use Rattle.cm_history.specs.Bounds.{live_tokens};
 ghost use Rattle.rod_token.specs.TokenText.{is_named, serial_of};
 ghost use Rattle.rod_store.specs.Kept.{is_live, live, IsPlaced, value_at, first_value, is_over_at, expired, expire_first, evict_if, evicted_value, populated, end_at, deleted, used};
@@ -169,51 +169,45 @@ impl<K: Drop> RodStore<K> {
     }
 
     /// What a redeem of the token that the text names is answered at the moment, in seconds, for
-    /// the target unit: the value, or the first refusal that holds (own profile). Nothing changes.
-    /// It takes no memory.
+    /// the target unit: its serial and its value, or the first refusal that holds (own profile).
+    /// A token that is told is live, also once what is over at the moment has expired. Nothing
+    /// changes. It takes no memory.
     pub fn peek(
         &self,
         config: &Config,
         moment: u64,
         text: &[u8; 512],
         target: u16,
-    ) -> Result<&K, Sense>
+    ) -> Result<(u64, &K), Sense>
         requires unit { self.now.unit < length config.now.units }
         requires named { is_named self.now.unit text.now ≡ true }
         requires target { target < length config.now.units }
-        ensures ok { IfOk result (λ value. judged config.now self.now.unit moment text.now target self.now.tokens ≡ Ok value.now) }
+        ensures ok { IfOk result (λ found. judged config.now self.now.unit moment text.now target self.now.tokens ≡ Ok found.1.now) }
+        ensures serial { IfOk result (λ found. found.0 ≡ serial_of text.now) }
+        ensures lives { OnOk result (IsSome (value_at (serial_of text.now) (expired moment self.now.tokens))) }
         ensures err { IfErr result (λ sense. judged config.now self.now.unit moment text.now target self.now.tokens ≡ Err sense) }
     {
-        match self.token(judge::serial_of(self.unit, text)) {
-            Some(token) => judge::judge(config, self.unit, moment, text, target, token),
+        let serial = judge::serial_of(self.unit, text);
+        match self.token(serial) {
+            Some(token) => match judge::judge(config, self.unit, moment, text, target, token) {
+                Ok(value) => Ok((serial, value)),
+                Err(sense) => Err(sense),
+            },
             None => Err(Sense::token_unknown()),
         }
     }
 
-    /// Redeems the token that the text names at the moment, in seconds, for the target unit: its
-    /// time begins anew. `peek` tells its value. After a refusal, which is that of `peek`, the
-    /// store is as before. No token may be left to expire at the moment. It takes no memory.
-    pub fn redeem(
-        &mut self,
-        config: &Config,
-        moment: u64,
-        text: &[u8; 512],
-        target: u16,
-    ) -> Result<(), Sense>
-        requires unit { self.old.unit < length config.now.units }
-        requires named { is_named self.old.unit text.now ≡ true }
-        requires target { target < length config.now.units }
-        requires over { expired moment self.old.tokens ≡ self.old.tokens }
-        ensures ok { OnOk result (IsOk (judged config.now self.old.unit moment text.now target self.old.tokens)) }
-        ensures err { IfErr result (λ sense. judged config.now self.old.unit moment text.now target self.old.tokens ≡ Err sense) }
-        ensures tokens { OnOk result (self.new.tokens ≡ used (serial_of text.now) moment self.old.tokens) }
-        ensures unchanged { OnErr result (self.new ≡ self.old) }
+    /// Notes that the live token of the serial, as `peek` told it, was redeemed at the moment, in
+    /// seconds: its time begins anew. It takes no memory.
+    pub fn note_use(&mut self, serial: u64, moment: u64)
+        requires { IsSome (value_at serial self.old.tokens) }
+        ensures tokens { self.new.tokens ≡ used serial moment self.old.tokens }
         ensures unit { self.new.unit ≡ self.old.unit }
         ensures spare { self.new.spare ≡ self.old.spare }
     {
-        self.peek(config, moment, text, target)?;
-        self.note_use(judge::serial_of(self.unit, text), moment);
-        Ok(())
+        let token = &mut self.tokens[serial as usize];
+        token.standing.note_use(moment);
+        self.soonest = token.standing.end_until(self.soonest);
     }
 
     /// Ends the token of the serial and hands its value back; `None` where no live one has it, and
@@ -249,18 +243,6 @@ impl<K: Drop> RodStore<K> {
             Some(token) => matches!(token.state, TokenState::Live { .. }),
             None => false,
         }
-    }
-
-    /// Notes a use of a live token.
-    fn note_use(&mut self, serial: u64, moment: u64)
-        requires { IsSome (value_at serial self.old.tokens) }
-        ensures tokens { self.new.tokens ≡ used serial moment self.old.tokens }
-        ensures unit { self.new.unit ≡ self.old.unit }
-        ensures spare { self.new.spare ≡ self.old.spare }
-    {
-        let token = &mut self.tokens[serial as usize];
-        token.state.note_use(moment);
-        self.next_expiry = token.state.end_until(self.next_expiry);
     }
 
     /// Ends a live token, and hands its value back.

@@ -108,8 +108,11 @@ fn redeem(
     ensures count { length store.new.tokens ≡ length store.old.tokens }
 {
     settle(store, moment);
-    match store.redeem(config, moment, text, target) {
-        Ok(()) => 0,
+    match store.peek(config, moment, text, target) {
+        Ok((serial, _)) => {
+            store.note_use(serial, moment);
+            0
+        }
         Err(sense) => sense.ascq(),
     }
 }
@@ -147,7 +150,7 @@ fn time_is_over(rt: HostRuntime) -> Result<(), Fail> {
     assert!(rt; made.serial == 0 && made.evicted.is_none());
     let text = named(&config, 0, 1)?;
     assert!(rt; settle(&mut store, 110) == 0 && store.live() == 1);
-    assert!(rt; matches!(store.peek(&config, 110, &text, 0), Ok(value) if *value == 0));
+    assert!(rt; matches!(store.peek(&config, 110, &text, 0), Ok((0, value)) if *value == 0));
     assert!(rt; matches!(store.peek(&config, 111, &text, 0), Err(sense) if sense.ascq() == 0x07));
     assert!(rt; store.expire(111) == Some(0) && store.expire(111).is_none());
     assert!(rt; store.live() == 0 && redeem(&mut store, &config, 111, &text, 0) == 0x07);

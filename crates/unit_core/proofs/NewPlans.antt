@@ -1,5 +1,5 @@
 -- Plans of acts that make an operation, by what is judged in turn
-use Rattle.std.proofs.Common.{◌≡◌, ℕ, ◌<◌, ◌≤◌, ◌^◌, List, [], length, refl, arith, true, false, Bool}
+use Rattle.std.proofs.Common.{◌≡◌, ℕ, ◌<◌, ◌≤◌, ◌^◌, List, [], length, refl, ◌∙◌, arith, true, false, Bool}
 use Rattle.std.specs.Prelude.{◌==◌, ◌&&◌, not, nat_le, if◌then◌else◌}
 use Rattle.std.proofs.lemmas.Bool.Decides.{nat_tests}
 use Rattle.cm_base.specs.Configuration.{Configuration}
@@ -24,10 +24,11 @@ use Rattle.unit_core.specs.declared.block_change.BlockChange.{BlockChange}
 use Rattle.unit_core.specs.declared.job_change.JobChange.{JobChange}
 use Rattle.unit_core.specs.declared.token_change.TokenChange.{TokenChange}
 use Rattle.unit_core.specs.inner.JobChanges.{MayJob}
+use Rattle.copy_jobs.specs.Jobs as jobs
 use Rattle.unit_core.specs.inner.Tables.{key_of, jobs_of}
 use Rattle.unit_core.specs.inner.Planning.{quiet, IsPlan}
-use Rattle.unit_core.proofs.Jobs.{IsNexus}
-use Rattle.unit_core.proofs.Planned.{IsKnown, refused-plan, populate-plan, start-plan, open-plan}
+use Rattle.unit_core.proofs.Jobs.{IsNexus, busy-is, crowded-is}
+use Rattle.unit_core.proofs.Planned.{IsKnown, own-of, refused-plan, populate-plan, start-plan, open-plan}
 
 -- ---- Populate
 
@@ -58,6 +59,7 @@ pub populate-made : (config : Configuration) (unit : ℕ) (past : List Deed) (ac
 populate-made config unit past actor at id timeout ranges known nexus idle inside few =
     let test : nat_le (2 ^ 48) (length (tokens past)) ≡ false = grind (arith, nat_tests) in
     populate-plan config unit past actor at id timeout ranges known nexus (rw (idle, inside, test) refl) few
+    (busy-is config unit past actor OfToken id known.is (own-of config unit past known) nexus ∙ idle)
 
 -- ---- Start
 
@@ -100,18 +102,23 @@ open-many config unit past actor at id idle many = refused-plan config unit past
 
 pub open-made : (config : Configuration) (unit : ℕ) (past : List Deed) (actor : Actor) (at id : ℕ) → IsKnown config unit past → IsNexus actor → is_busy past actor OfCopy id ≡ false → is_crowded past ≡ false
     → IsPlan config unit past actor at (Act.Open id) (record (quiet Answer.Done) { jobs = JobChange.Open (key_of actor OfCopy id) })
-open-made config unit past actor at id known nexus idle few = open-plan config unit past actor at id known nexus (rw (idle, few) refl)
+open-made config unit past actor at id known nexus idle few =
+    open-plan config unit past actor at id known nexus (rw (idle, few) refl)
+    (busy-is config unit past actor OfCopy id known.is (own-of config unit past known) nexus ∙ idle)
+    (crowded-is config unit past known.is ∙ few)
 
--- a Start that may be asked, and lies in the unit, may be kept
+-- a Start that may be asked, lies in the unit, and for which there is room, may be kept
 pub start-may : (config : Configuration) (unit : ℕ) (past : List Deed) (actor : Actor) (id : ℕ) (background : Bool) (ranges : List Range) (rod : HeldBlocks) → within_limits config unit (Act.Start id background ranges rod) ≡ true
-    → (unit_of config unit).blocks ≤ 2 ^ 64 → is_within (unit_of config unit).blocks ranges ≡ true → MayJob (JobChange.Start (key_of actor OfToken id) background ranges rod) (jobs_of past)
-start-may config unit past actor id background ranges rod limits few inside =
+    → (unit_of config unit).blocks ≤ 2 ^ 64 → is_within (unit_of config unit).blocks ranges ≡ true
+    → jobs.is_busy (key_of actor OfToken id) (jobs_of past) ≡ false → jobs.is_crowded (jobs_of past) ≡ false
+    → MayJob (JobChange.Start (key_of actor OfToken id) background ranges rod) (jobs_of past)
+start-may config unit past actor id background ranges rod limits few inside idle room =
     go (is_overlapping ranges) (total ranges == length rod.items) (nat_le (length rod.items) 1_048_576) (fits_unit config unit rod) refl refl refl limits
   where
     go : (a b c d : Bool) → is_overlapping ranges ≡ a → (total ranges == length rod.items) ≡ b → nat_le (length rod.items) 1_048_576 ≡ c → (not a && b && c && d) ≡ true
         → MayJob (JobChange.Start (key_of actor OfToken id) background ranges rod) (jobs_of past)
     go false true true d apart same short e =
-        (refl, apart, within-more (unit_of config unit).blocks (2 ^ 64) ranges few inside, (let t : total ranges ≡ length rod.items = grind (arith, nat_tests) in t), (let t : length rod.items ≤ 1_048_576 = grind (arith, nat_tests) in t))
+        (refl, idle, room, apart, within-more (unit_of config unit).blocks (2 ^ 64) ranges few inside, (let t : total ranges ≡ length rod.items = grind (arith, nat_tests) in t), (let t : length rod.items ≤ 1_048_576 = grind (arith, nat_tests) in t))
     go false true false d apart same short e = cc
     go false false c d apart same short e = cc
     go true b c d apart same short e = cc

@@ -1,7 +1,7 @@
 -- Plans that bring the tables to what the past then says
 use Rattle.std.proofs.Common.{◌≡◌, ℕ, ◌<◌, ◌^◌, List, [], ◌∷◌, length, refl, ap, sym, ◌∙◌, subst, arith, true, false, Bool}
 use Rattle.std.specs.Option.{option_map}
-use Rattle.std.specs.Prelude.{None, ◌&&◌, not, max, is_some}
+use Rattle.std.specs.Prelude.{None, ◌&&◌, not, max, is_some, IsSome}
 use Rattle.std.proofs.lemmas.List.{length-map}
 use Rattle.cm_base.specs.Configuration.{Configuration}
 use Rattle.cm_base.specs.declared.config.UnitConfig.{UnitConfig}
@@ -23,9 +23,10 @@ use Rattle.cm_history.specs.Operations.{Operation, OfToken, OfCopy, is_making, m
 use Rattle.cm_history.specs.Answers.{answer_after, writings, wrote_of}
 use Rattle.cm_history.proofs.PublicLaws.{Each, find-none, IsPast}
 use Rattle.copy_jobs.specs.declared.job.Job.{Job}
+use Rattle.copy_jobs.specs.Jobs as jobs
 use Rattle.copy_jobs.specs.Jobs.{started, opened, made}
 use Rattle.copy_jobs.specs.Keeping.{keep}
-use Rattle.rod_store.specs.Kept.{expired, populated, used, deleted}
+use Rattle.rod_store.specs.Kept.{value_at, expired, populated, used, deleted}
 use Rattle.unit_core.specs.declared.block_change.BlockChange.{BlockChange}
 use Rattle.unit_core.specs.declared.job_change.JobChange.{JobChange}
 use Rattle.unit_core.specs.declared.token_change.TokenChange.{TokenChange}
@@ -33,7 +34,6 @@ use Rattle.cm_history.specs.Ends.{ends_operation}
 use Rattle.cm_history.specs.Asked.{AllAsked}
 use Rattle.unit_core.specs.inner.BlockChanges.{writings_of, MayChange}
 use Rattle.unit_core.specs.inner.JobChanges.{MayJob}
-use Rattle.unit_core.specs.inner.TokenChanges.{Redeems}
 use Rattle.unit_core.specs.inner.Tables.{key_of, kept_of, tokens_of, job_of, jobs_of}
 use Rattle.unit_core.specs.inner.Planning.{quiet, IsDeed, IsPlan}
 use Rattle.unit_core.proofs.Jobs.{IsNexus, IsOwn, all-own}
@@ -166,9 +166,9 @@ delete-plan config unit past actor at serial = record {
 
 pub redeem-plan : (config : Configuration) (unit : ℕ) (past : List Deed) (actor : Actor) (at : ℕ) (text : List ℕ) (target : ℕ) (list : HeldBlocks)
     → Answer.Rod list ≡ answer_after config unit past actor at (Act.Redeem text target)
-    → ((spare : ℕ) → Redeems config (record { unit = unit; tokens = tokens_of (unit_of config unit) past; spare = spare }) (max at (moment past)) text target)
-    → IsPlan config unit past actor at (Act.Redeem text target) (record (quiet (Answer.Rod list)) { tokens = TokenChange.Use text target })
-redeem-plan config unit past actor at text target list told redeems = record {
+    → IsSome (value_at (serial_of text) (expired (max at (moment past)) (tokens_of (unit_of config unit) past)))
+    → IsPlan config unit past actor at (Act.Redeem text target) (record (quiet (Answer.Rod list)) { tokens = TokenChange.Use (serial_of text) })
+redeem-plan config unit past actor at text target list told lives = record {
   answer = told;
   wrote = refl;
   jobs = λ d is. same-step config unit past actor at (Act.Redeem text target) (Answer.Rod list) told refl (find-none (running past)) d is;
@@ -178,7 +178,7 @@ redeem-plan config unit past actor at text target list told redeems = record {
       ∙ ap (λ m. used (serial_of text) m (expired m (tokens_of (unit_of config unit) past))) (deed-moment config unit past actor at (Act.Redeem text target) d is);
   may_blocks = tt;
   may_jobs = tt;
-  may_tokens = λ spare h. redeems spare;
+  may_tokens = λ spare h. lives;
   apart = λ e. cc;
   ends = λ e. cc;
 }
@@ -194,13 +194,14 @@ new-step config unit past actor at act answer job known nexus told making d is s
 
 pub populate-plan : (config : Configuration) (unit : ℕ) (past : List Deed) (actor : Actor) (at id timeout : ℕ) (ranges : List Range) → IsKnown config unit past → IsNexus actor
     → Answer.Made (length (tokens past)) ≡ answer_after config unit past actor at (Act.Populate id timeout ranges) → length (tokens past) < 2 ^ 48
+    → jobs.is_busy (key_of actor OfToken id) (jobs_of past) ≡ false
     → IsPlan config unit past actor at (Act.Populate id timeout ranges) (record {
       answer = Answer.Made (length (tokens past));
       blocks = BlockChange.Nothing;
       jobs = JobChange.Make (key_of actor OfToken id) (length (tokens past)) (total ranges);
       tokens = TokenChange.Make timeout (total ranges) (cut (unit_of config unit) (held past) (blocks_of ranges));
     })
-populate-plan config unit past actor at id timeout ranges known nexus told few = record {
+populate-plan config unit past actor at id timeout ranges known nexus told few idle = record {
   answer = told;
   wrote = refl;
   jobs = λ d is.
@@ -212,7 +213,7 @@ populate-plan config unit past actor at id timeout ranges known nexus told few =
       made-tokens u d past id timeout ranges is.act says
       ∙ ap (λ m. populated (expired m (tokens_of u past)) m timeout (total ranges) (cut u (held past) (blocks_of ranges))) (deed-moment config unit past actor at act d is);
   may_blocks = tt;
-  may_jobs = refl;
+  may_jobs = (refl, idle);
   may_tokens = λ spare h. (h refl, (let e = length-map (tokens past) (kept_of u) in omega (arith, few, e)));
   apart = λ e. refl;
   ends = λ e. cc;
@@ -259,8 +260,9 @@ start-plan config unit past actor at id background ranges rod state known nexus 
 
 pub open-plan : (config : Configuration) (unit : ℕ) (past : List Deed) (actor : Actor) (at id : ℕ) → IsKnown config unit past → IsNexus actor
     → Answer.Done ≡ answer_after config unit past actor at (Act.Open id)
+    → jobs.is_busy (key_of actor OfCopy id) (jobs_of past) ≡ false → jobs.is_crowded (jobs_of past) ≡ false
     → IsPlan config unit past actor at (Act.Open id) (record (quiet Answer.Done) { jobs = JobChange.Open (key_of actor OfCopy id) })
-open-plan config unit past actor at id known nexus told = record {
+open-plan config unit past actor at id known nexus told idle few = record {
   answer = told;
   wrote = refl;
   jobs = λ d is.
@@ -273,7 +275,7 @@ open-plan config unit past actor at id known nexus told = record {
       (λ s. ap (λ a. is_redeem_of s a && is_answered d) is.act)
       ∙ ap (λ m. expired m (tokens_of (unit_of config unit) past)) (deed-moment config unit past actor at (Act.Open id) d is);
   may_blocks = tt;
-  may_jobs = refl;
+  may_jobs = (refl, idle, few);
   may_tokens = λ spare h. tt;
   apart = λ e. refl;
   ends = λ e. cc;

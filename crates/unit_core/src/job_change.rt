@@ -59,7 +59,7 @@ impl JobChange {
                 serial,
                 blocks,
             } => {
-                return jobs.made(key, serial, blocks).map_err(|_| OutOfMemory);
+                return jobs.made(key, serial, blocks);
             }
             JobChange::Start {
                 key,
@@ -67,11 +67,9 @@ impl JobChange {
                 ranges,
                 rod,
             } => {
-                return jobs
-                    .start(key, background, ranges, rod)
-                    .map_err(|_| OutOfMemory);
+                return jobs.start(key, background, ranges, rod);
             }
-            JobChange::Open { key } => return jobs.open(key).map_err(|_| OutOfMemory),
+            JobChange::Open { key } => return jobs.open(key),
             JobChange::Move { key, blocks } => jobs.moved(key, blocks),
             JobChange::Stop { key } => jobs.fail(key, Sense::space_allocation_failed()),
             JobChange::End { key } => jobs.terminate(key),

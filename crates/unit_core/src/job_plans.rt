@@ -24,9 +24,6 @@ use lba_ranges::{BlockList, Blocks, RangeList};
 use scsi_sense::Sense;
 use unmap_thin::mapped_after;
 
-/// Operations that run at most.
-const RUNNING: u32 = 64;
-
 /// How an operation stands behind a piece.
 fn state_after(is_last: bool) -> OpState
     ensures { result ≡ (if is_last then OpState.Done else OpState.Running) }
@@ -60,7 +57,7 @@ impl<B: Blocks + Drop> UnitOver<B> {
         if !ranges.within(self.config.unit(self.unit).blocks) {
             return Ok(Plan::answered(refusals::lba_out_of_range()));
         }
-        if self.tables.jobs.running() >= RUNNING {
+        if self.tables.jobs.is_crowded() {
             return Ok(Plan::answered(refusals::insufficient_resources()));
         }
         let answer = Answer::Progress {
@@ -184,7 +181,7 @@ impl<B: Blocks + Drop> UnitOver<B> {
         if self.tables.jobs.runs(key) {
             return Plan::answered(refusals::operation_in_progress());
         }
-        if self.tables.jobs.running() >= RUNNING {
+        if self.tables.jobs.is_crowded() {
             return Plan::answered(refusals::insufficient_resources());
         }
         Plan::of_jobs(Answer::Done, JobChange::Open { key })

@@ -46,11 +46,11 @@ impl<B: Blocks + Drop> Tables<B> {
     }
 
     /// Does what is planned, at a moment, and gives the planned answer. At `OutOfMemory` all stands as before.
-    pub fn change(&mut self, config: &Config, now: u64, plan: Plan) -> Result<Answer, OutOfMemory>
+    pub fn change(&mut self, now: u64, plan: Plan) -> Result<Answer, OutOfMemory>
         requires blocks { MayChange (B.blocks self.old.blocks) (B.block_length self.old.blocks) plan.blocks }
         requires jobs { MayJob plan.jobs self.old.jobs }
         requires tokens { (spare : ℕ) → (is_make plan.tokens ≡ true → 1 ≤ spare)
-            → MayToken config.now (record self.old.tokens { spare = spare }) now plan.tokens }
+            → MayToken (record self.old.tokens { spare = spare }) now plan.tokens }
         requires apart { grows plan.jobs ≡ true → is_nothing plan.blocks ≡ true }
         ensures answer { IfOk result (λ a. a ≡ plan.answer) }
         ensures wrote { OnOk result ((block : ℕ) → B.holds self.new.blocks block
@@ -74,7 +74,7 @@ impl<B: Blocks + Drop> Tables<B> {
         tokens.reserve(&mut self.tokens)?;
         blocks.apply(&mut self.blocks)?;
         jobs.apply(&mut self.jobs)?;
-        tokens.apply(config, now, &mut self.tokens);
+        tokens.apply(now, &mut self.tokens);
         Ok(answer)
     }
 }

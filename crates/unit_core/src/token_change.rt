@@ -2,8 +2,7 @@ ghost use Rattle.std.specs.Prelude.{◌≡◌, ◌≤◌, ◌<◌, length, OnOk,
 ghost use Rattle.rod_store.specs.Kept.{expired, live};
 ghost use Rattle.unit_core.specs.inner.TokenChanges.{tokens_after, MayToken, is_make};
 
-use cm_base::{Config, OutOfMemory};
-use cm_history::TokenText;
+use cm_base::OutOfMemory;
 use lba_ranges::BlockList;
 use rod_store::RodStore;
 
@@ -17,10 +16,9 @@ pub(crate) enum TokenChange {
         blocks: u32,
         list: BlockList,
     },
-    /// The token of the text is used.
+    /// The token, which lives on at the moment, is used.
     Use {
-        text: TokenText,
-        target: u16,
+        serial: u64,
     },
     Delete {
         serial: u64,
@@ -54,8 +52,8 @@ impl TokenChange {
     }
 
     /// Changes the tokens at a moment, at which some may expire. It takes no memory.
-    pub(crate) fn apply(self, config: &Config, moment: u64, tokens: &mut RodStore<BlockList>)
-        requires { MayToken config.now tokens.old moment self }
+    pub(crate) fn apply(self, moment: u64, tokens: &mut RodStore<BlockList>)
+        requires { MayToken tokens.old moment self }
         ensures tokens { tokens.new.tokens ≡ tokens_after self moment tokens.old.tokens }
         ensures unit { tokens.new.unit ≡ tokens.old.unit }
     {
@@ -69,9 +67,7 @@ impl TokenChange {
             } => {
                 let _ = tokens.populate(moment, timeout, blocks, list);
             }
-            TokenChange::Use { text, target } => {
-                let _ = tokens.redeem(config, moment, text.bytes(), target);
-            }
+            TokenChange::Use { serial } => tokens.note_use(serial, moment),
             TokenChange::Delete { serial } => {
                 let _ = tokens.delete(serial);
             }

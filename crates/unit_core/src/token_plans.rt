@@ -15,7 +15,7 @@ use crate::room::token_key;
 use crate::token_change::TokenChange;
 use crate::unit::UnitOver;
 use cm_base::OutOfMemory;
-use cm_history::{Actor, Answer, TokenText};
+use cm_history::{Actor, Answer};
 use lba_ranges::{Blocks, RangeList};
 
 /// Serials that a unit makes.
@@ -77,15 +77,9 @@ impl<B: Blocks + Drop> UnitOver<B> {
     {
         let now = moment.max(self.moment);
         match self.tables.tokens.peek(&self.config, now, text, target) {
-            Ok(list) => {
+            Ok((serial, list)) => {
                 let list = list.copy(self.alloc)?;
-                Ok(Plan::of_tokens(
-                    Answer::Rod(list),
-                    TokenChange::Use {
-                        text: TokenText::new(self.alloc, text)?,
-                        target,
-                    },
-                ))
+                Ok(Plan::of_tokens(Answer::Rod(list), TokenChange::Use { serial }))
             }
             Err(sense) => Ok(Plan::answered(Answer::Refused(sense))),
         }

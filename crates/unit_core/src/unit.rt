@@ -103,7 +103,7 @@ impl<B: Blocks + Drop> UnitOver<B> {
         let room = self.tables.jobs.reserved() + self.need(actor, &act);
         self.history.reserve(room)?;
         let now = moment.max(self.moment);
-        let answer = self.tables.change(&self.config, now, plan)?;
+        let answer = self.tables.change(now, plan)?;
         self.last_stamp = stamp.max(self.last_stamp) + 1;
         self.moment = now;
         self.payload += bytes_in(&act);

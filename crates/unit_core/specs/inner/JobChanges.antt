@@ -4,7 +4,7 @@ use Rattle.lba_ranges.specs.Denoted.{total, is_within, is_overlapping}
 use Rattle.scsi_sense.specs.Codes.{space_allocation_failed}
 use Rattle.cm_history.specs.Operations.{is_running_copy}
 use Rattle.copy_jobs.specs.declared.job.Job.{Job}
-use Rattle.copy_jobs.specs.Jobs.{runs_as, is_busy, started, opened, made}
+use Rattle.copy_jobs.specs.Jobs.{runs_as, is_busy, is_crowded, started, opened, made}
 use Rattle.copy_jobs.specs.Keeping.{keep}
 use Rattle.copy_jobs.specs.Changes.{change, with_work, moved_by, stopped_by, terminated, closed_by}
 use Rattle.copy_jobs.specs.Pieces.{next_length}
@@ -31,10 +31,10 @@ grows _ = false
 -- the change may be made
 abbrev pub MayJob : JobChange → List Job → Type 0
 MayJob Nothing jobs = ⊤
-MayJob (Make key serial blocks) jobs = key.copy ≡ false
+MayJob (Make key serial blocks) jobs = (key.copy ≡ false) × (is_busy key jobs ≡ false)
 MayJob (Start key background ranges rod) jobs =
-    (key.copy ≡ false) × (is_overlapping ranges ≡ false) × (is_within (2 ^ 64) ranges ≡ true) × (total ranges ≡ length rod.items) × (length rod.items ≤ 1_048_576)
-MayJob (Open key) jobs = key.copy ≡ true
+    (key.copy ≡ false) × (is_busy key jobs ≡ false) × (is_crowded jobs ≡ false) × (is_overlapping ranges ≡ false) × (is_within (2 ^ 64) ranges ≡ true) × (total ranges ≡ length rod.items) × (length rod.items ≤ 1_048_576)
+MayJob (Open key) jobs = (key.copy ≡ true) × (is_busy key jobs ≡ false) × (is_crowded jobs ≡ false)
 MayJob (Move key blocks) jobs = (key.copy ≡ false) × (next_length key jobs ≡ Some blocks)
 MayJob (Stop key) jobs = (key.copy ≡ false) × (is_busy key jobs ≡ true)
 MayJob (End key) jobs = (key.copy ≡ false) × (is_busy key jobs ≡ true)

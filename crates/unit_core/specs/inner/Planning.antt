@@ -58,7 +58,7 @@ pub record IsPlan (config : Configuration) (unit : ℕ) (past : List Deed) (acto
   pub may_blocks : MayChange (unit_of config unit).blocks (unit_of config unit).block_length plan.blocks
   pub may_jobs : MayJob plan.jobs (jobs_of past)
   pub may_tokens : (spare : ℕ) → (is_make plan.tokens ≡ true → 1 ≤ spare)
-      → MayToken config (record { unit = unit; tokens = tokens_of (unit_of config unit) past; spare = spare }) (max at (moment past)) plan.tokens
+      → MayToken (record { unit = unit; tokens = tokens_of (unit_of config unit) past; spare = spare }) (max at (moment past)) plan.tokens
   -- what may fail in one table leaves the others
   pub apart : grows plan.jobs ≡ true → is_nothing plan.blocks ≡ true
   pub ends : ends_operation past actor act ≡ true → takes_none plan ≡ true

@@ -9,5 +9,5 @@ apply-requires-3 g c =
     let was = c.args.self.now.tokens in
     let new = c.reserve.new.tokens in
     let may = c.requires.tokens new.spare c.in_ok-reserve.ensures.room in
-    let unit = subst (λ (n : ℕ). MayToken c.args.config.now (record { unit = n; tokens = was.tokens; spare = new.spare }) c.args.now c.args.plan.tokens) (sym c.in_ok-reserve.ensures.unit) may in
-    subst (λ (l : List (Kept HeldBlocks)). MayToken c.args.config.now (record { unit = new.unit; tokens = l; spare = new.spare }) c.args.now c.args.plan.tokens) (sym c.in_ok-reserve.ensures.same) unit
+    let unit = subst (λ (n : ℕ). MayToken (record { unit = n; tokens = was.tokens; spare = new.spare }) c.args.now c.args.plan.tokens) (sym c.in_ok-reserve.ensures.unit) may in
+    subst (λ (l : List (Kept HeldBlocks)). MayToken (record { unit = new.unit; tokens = l; spare = new.spare }) c.args.now c.args.plan.tokens) (sym c.in_ok-reserve.ensures.same) unit

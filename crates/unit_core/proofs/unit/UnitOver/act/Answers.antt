@@ -78,9 +78,9 @@ change-requires-clause-tokens g c =
     let now : c.max-now.result ≡ max c.args.moment (moment past) = c.max-now.ensures ∙ ap (max c.args.moment) c.self.invariant.counters.moment in
     let p = c.in_ok-plan.plan.tokens in
     λ spare h. (let may = planned.may_tokens spare h in
-    let moved = subst (λ (n : ℕ). MayToken u.config (record { unit = u.unit; tokens = tokens_of limit past; spare = spare }) n p) (sym now) may in
-    let owned = subst (λ (n : ℕ). MayToken u.config (record { unit = n; tokens = tokens_of limit past; spare = spare }) c.max-now.result p) (sym c.self.invariant.tokens.unit) moved in
-    subst (λ (l : List (Kept HeldBlocks)). MayToken u.config (record { unit = u.tables.tokens.unit; tokens = l; spare = spare }) c.max-now.result p) (sym c.self.invariant.tokens.tokens) owned)
+    let moved = subst (λ (n : ℕ). MayToken (record { unit = u.unit; tokens = tokens_of limit past; spare = spare }) n p) (sym now) may in
+    let owned = subst (λ (n : ℕ). MayToken (record { unit = n; tokens = tokens_of limit past; spare = spare }) c.max-now.result p) (sym c.self.invariant.tokens.unit) moved in
+    subst (λ (l : List (Kept HeldBlocks)). MayToken (record { unit = u.tables.tokens.unit; tokens = l; spare = spare }) c.max-now.result p) (sym c.self.invariant.tokens.tokens) owned)
 
 pub append-requires : goal.append-requires
 append-requires g c =

@@ -1,8 +1,6 @@
-use Rattle.std.proofs.Common.{◌≡◌, ◌≤◌, ◌<◌, length, true, false, ◌∙◌, ap, refl, sym, arith}
-use Rattle.std.proofs.lemmas.Bool.Decides.{nat_tests}
+use Rattle.std.proofs.Common.{◌≡◌, true, false, ◌∙◌, ap, refl, sym}
 use Rattle.cm_history.specs.declared.act.Act.{Act}
 use Rattle.cm_history.specs.Operations.{OfCopy}
-use Rattle.cm_history.specs.Bounds.{running_operations}
 use Rattle.cm_history.specs.History.{past_of}
 use Rattle.copy_jobs.specs.Jobs as jobs
 use Rattle.unit_core.specs.inner.Tables.{key_of, jobs_of}
@@ -23,17 +21,16 @@ returns-then-runs g c =
     ∙ busy-is u.config u.unit past c.args.actor OfCopy c.args.id known.is (own-of u.config u.unit past known) mine in
     rw (c.answered.ensures, c.operation_in_progress.ensures, ← c.self.view_is) (λ at. open-busy u.config u.unit past c.args.actor at c.args.id (sym told ∙ c.if-runs.true))
 
-pub returns-then-running-ge-RUNNING : goal.returns-then-running-ge-RUNNING
-returns-then-running-ge-RUNNING g c =
+pub returns-then-is_crowded : goal.returns-then-is_crowded
+returns-then-is_crowded g c =
     let u = c.self.inside in
     let past = past_of u.config u.unit u.history.entries in
     let known = known-of u.config u.unit u.history.entries c.self.invariant.record_is in
     let mine = asker c.args.self.now.unit c.args.actor (Act.Open c.args.id) c.requires refl in
     let told = c.runs.ensures.busy ∙ ap (λ k. jobs.is_busy k u.tables.jobs) c.copy_key-key.ensures ∙ ap (jobs.is_busy (key_of c.args.actor OfCopy c.args.id)) c.self.invariant.jobs.jobs
     ∙ busy-is u.config u.unit past c.args.actor OfCopy c.args.id known.is (own-of u.config u.unit past known) mine in
-    let count : c.running.result ≡ length (jobs.running (jobs_of past)) = c.running.ensures.running ∙ ap (λ js. length (jobs.running js)) c.self.invariant.jobs.jobs in
-    let many : jobs.is_crowded (jobs_of past) ≡ true = (let high : running_operations ≤ length (jobs.running (jobs_of past)) = omega (arith, count) in grind (arith, nat_tests)) in
-    rw (c.answered-then-running-ge-RUNNING.ensures, c.insufficient_resources.ensures, ← c.self.view_is)
+    let many : jobs.is_crowded (jobs_of past) ≡ true = sym (c.is_crowded.ensures ∙ ap jobs.is_crowded c.self.invariant.jobs.jobs) ∙ c.if-is_crowded.true in
+    rw (c.answered-then-is_crowded.ensures, c.insufficient_resources.ensures, ← c.self.view_is)
     (λ at. open-many u.config u.unit past c.args.actor at c.args.id (sym told ∙ c.if-runs.false) (sym (crowded-is u.config u.unit past known.is) ∙ many))
 
 pub returns : goal.returns
@@ -44,7 +41,6 @@ returns g c =
     let mine = asker c.args.self.now.unit c.args.actor (Act.Open c.args.id) c.requires refl in
     let told = c.runs.ensures.busy ∙ ap (λ k. jobs.is_busy k u.tables.jobs) c.copy_key-key.ensures ∙ ap (jobs.is_busy (key_of c.args.actor OfCopy c.args.id)) c.self.invariant.jobs.jobs
     ∙ busy-is u.config u.unit past c.args.actor OfCopy c.args.id known.is (own-of u.config u.unit past known) mine in
-    let count : c.running.result ≡ length (jobs.running (jobs_of past)) = c.running.ensures.running ∙ ap (λ js. length (jobs.running js)) c.self.invariant.jobs.jobs in
-    let few : jobs.is_crowded (jobs_of past) ≡ false = (let low : length (jobs.running (jobs_of past)) < running_operations = omega (arith, count) in grind (arith, nat_tests)) in
+    let few : jobs.is_crowded (jobs_of past) ≡ false = sym (c.is_crowded.ensures ∙ ap jobs.is_crowded c.self.invariant.jobs.jobs) ∙ c.if-is_crowded.false in
     rw (c.of_jobs.ensures, c.copy_key-key.ensures, ← c.self.view_is)
     (λ at. open-made u.config u.unit past c.args.actor at c.args.id known mine (sym told ∙ c.if-runs.false) (sym (crowded-is u.config u.unit past known.is) ∙ few))

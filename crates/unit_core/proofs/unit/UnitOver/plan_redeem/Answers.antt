@@ -1,22 +1,21 @@
-use Rattle.std.proofs.Common.{◌≡◌, ◌<◌, length, ◌∙◌, ap, refl, sym, arith}
-use Rattle.std.specs.Prelude.{nat_lt, Ok, Err, max}
-use Rattle.std.proofs.lemmas.Bool.Decides.{nat_tests}
+use Rattle.std.proofs.Common.{◌≡◌, ◌∙◌, ap, refl, sym}
+use Rattle.std.specs.Prelude.{Ok, Err, IsSome, max}
 use Rattle.cm_base.specs.Units.{unit_of}
 use Rattle.cm_history.specs.declared.act.Act.{Act}
 use Rattle.cm_history.specs.History.{past_of}
 use Rattle.unit_core.specs.inner.Tables.{tokens_of}
 use Rattle.unit_core.proofs.TableAnswers.{redeem-is, answer_of}
 use Rattle.unit_core.proofs.Planned.{redeem-plan, refused-plan}
-use Rattle.rod_token.specs.TokenText.{is_named}
+use Rattle.rod_token.specs.TokenText.{serial_of}
+use Rattle.rod_store.specs.Kept.{value_at, expired}
 use Rattle.rod_store.specs.Judging.{judged}
 use Rattle.cm_history.specs.Deeds.{moment}
 use Rattle.cm_history.specs.Operations.{running}
 use Rattle.cm_history.proofs.PublicLaws.{find-none}
-use Rattle.std.proofs.lemmas.Bool.{and_parts}
 use Rattle.unit_core.proofs.unit.UnitOver.plan_redeem.Goals as goal
 
-pub returns-in_ok-new-in-Ok : goal.returns-in_ok-new-in-Ok
-returns-in_ok-new-in-Ok g c =
+pub returns-in_ok-list-in-Ok : goal.returns-in_ok-list-in-Ok
+returns-in_ok-list-in-Ok g c =
     let u = c.self.inside in
     let past = past_of u.config u.unit u.history.entries in
     let text = c.args.text.now in
@@ -27,11 +26,10 @@ returns-in_ok-new-in-Ok g c =
     ∙ ap (λ n. judged u.config u.unit n text c.args.target u.tables.tokens.tokens) now
     ∙ ap (judged u.config u.unit (max c.args.moment (moment past)) text c.args.target) c.self.invariant.tokens.tokens in
     let told : judged u.config u.unit (max c.args.moment (moment past)) text c.args.target (tokens_of (unit_of u.config u.unit) past) ≡ Ok c.in-Ok.list.now = sym same ∙ c.in-Ok.ensures.ok in
-    let limits = and_parts (is_named u.unit text) (nat_lt c.args.target (length u.config.units)) (rw (← c.self.view_is) at c.requires) in
-    let few : c.args.target < length u.config.units = (let e = limits.1 in grind (arith, nat_tests)) in
-    rw (c.of_tokens.ensures, c.in_ok-new-in-Ok.ensures, c.in_ok-list-in-Ok.ensures, ← c.self.view_is)
-    (λ actor. redeem-plan u.config u.unit past actor c.args.moment text c.args.target c.in-Ok.list.now (sym (redeem-is u.config u.unit past actor c.args.moment text c.args.target ∙ ap answer_of told))
-    (λ spare. record { configured = c.self.invariant.record_is.configured; named = limits.0; known = few; list = c.in-Ok.list.now; answer = told }))
+    let lives : IsSome (value_at (serial_of text) (expired (max c.args.moment (moment past)) (tokens_of (unit_of u.config u.unit) past))) =
+    rw (← now, ← c.self.invariant.tokens.tokens) c.in-Ok.ensures.lives in
+    rw (c.of_tokens.ensures, c.in_ok-list-in-Ok.ensures, c.in-Ok.ensures.serial, ← c.self.view_is)
+    (λ actor. redeem-plan u.config u.unit past actor c.args.moment text c.args.target c.in-Ok.list.now (sym (redeem-is u.config u.unit past actor c.args.moment text c.args.target ∙ ap answer_of told)) lives)
 
 pub returns-in-Err : goal.returns-in-Err
 returns-in-Err g c =

@@ -1,12 +1,10 @@
-use Rattle.std.proofs.Common.{◌≡◌, ◌≤◌, ◌<◌, length, true, false, ◌∙◌, ap, refl, sym, arith}
+use Rattle.std.proofs.Common.{◌≡◌, ◌≤◌, length, true, false, ◌∙◌, ap, refl, sym, arith}
 use Rattle.std.specs.Prelude.{◌==◌, ◌^◌}
-use Rattle.std.proofs.lemmas.Bool.Decides.{nat_tests}
 use Rattle.cm_base.specs.declared.config.UnitConfig.{UnitConfig}
 use Rattle.cm_base.specs.Units.{unit_of}
 use Rattle.lba_ranges.specs.Denoted.{is_within}
 use Rattle.cm_history.specs.declared.act.Act.{Act}
 use Rattle.cm_history.specs.Operations.{OfToken}
-use Rattle.cm_history.specs.Bounds.{running_operations}
 use Rattle.cm_history.specs.History.{past_of}
 use Rattle.copy_jobs.specs.Jobs as jobs
 use Rattle.unit_core.specs.inner.Tables.{key_of, jobs_of}
@@ -39,8 +37,8 @@ returns-then-not-within g c =
     rw (c.answered-then-not-within.ensures, c.address_out_of_range.ensures, ← c.self.view_is)
     (λ at. start-out u.config u.unit past c.args.actor at c.args.id c.args.background c.args.ranges.now c.args.rod.now (sym told ∙ c.if-runs.false) (sym inside ∙ c.if-not-within.true))
 
-pub returns-then-running-ge-RUNNING : goal.returns-then-running-ge-RUNNING
-returns-then-running-ge-RUNNING g c =
+pub returns-then-is_crowded : goal.returns-then-is_crowded
+returns-then-is_crowded g c =
     let u = c.self.inside in
     let past = past_of u.config u.unit u.history.entries in
     let known = known-of u.config u.unit u.history.entries c.self.invariant.record_is in
@@ -48,9 +46,8 @@ returns-then-running-ge-RUNNING g c =
     let told = c.runs.ensures.busy ∙ ap (λ k. jobs.is_busy k u.tables.jobs) c.token_key-key.ensures ∙ ap (jobs.is_busy (key_of c.args.actor OfToken c.args.id)) c.self.invariant.jobs.jobs
     ∙ busy-is u.config u.unit past c.args.actor OfToken c.args.id known.is (own-of u.config u.unit past known) mine in
     let inside : c.within.result ≡ is_within (unit_of u.config u.unit).blocks c.args.ranges.now = c.within.ensures ∙ ap (λ (t : UnitConfig). is_within t.blocks c.args.ranges.now) c.unit.ensures.told in
-    let count : c.running.result ≡ length (jobs.running (jobs_of past)) = c.running.ensures.running ∙ ap (λ js. length (jobs.running js)) c.self.invariant.jobs.jobs in
-    let many : jobs.is_crowded (jobs_of past) ≡ true = (let high : running_operations ≤ length (jobs.running (jobs_of past)) = omega (arith, count) in grind (arith, nat_tests)) in
-    rw (c.answered-then-running-ge-RUNNING.ensures, c.insufficient_resources.ensures, ← c.self.view_is)
+    let many : jobs.is_crowded (jobs_of past) ≡ true = sym (c.is_crowded.ensures ∙ ap jobs.is_crowded c.self.invariant.jobs.jobs) ∙ c.if-is_crowded.true in
+    rw (c.answered-then-is_crowded.ensures, c.insufficient_resources.ensures, ← c.self.view_is)
     (λ at. start-many u.config u.unit past c.args.actor at c.args.id c.args.background c.args.ranges.now c.args.rod.now (sym told ∙ c.if-runs.false) (sym inside ∙ c.if-not-within.false) (sym (crowded-is u.config u.unit past known.is) ∙ many))
 
 pub returns : goal.returns
@@ -63,11 +60,11 @@ returns g c =
     ∙ busy-is u.config u.unit past c.args.actor OfToken c.args.id known.is (own-of u.config u.unit past known) mine in
     let inside : c.within.result ≡ is_within (unit_of u.config u.unit).blocks c.args.ranges.now = c.within.ensures ∙ ap (λ (t : UnitConfig). is_within t.blocks c.args.ranges.now) c.unit.ensures.told in
     let within : is_within (unit_of u.config u.unit).blocks c.args.ranges.now ≡ true = sym inside ∙ c.if-not-within.false in
-    let count : c.running.result ≡ length (jobs.running (jobs_of past)) = c.running.ensures.running ∙ ap (λ js. length (jobs.running js)) c.self.invariant.jobs.jobs in
-    let few : jobs.is_crowded (jobs_of past) ≡ false = (let low : length (jobs.running (jobs_of past)) < running_operations = omega (arith, count) in grind (arith, nat_tests)) in
+    let few : jobs.is_crowded (jobs_of past) ≡ false = sym (c.is_crowded.ensures ∙ ap jobs.is_crowded c.self.invariant.jobs.jobs) ∙ c.if-is_crowded.false in
     let limits = rw (← c.self.view_is) at c.requires.limits in
     let blocks : (unit_of u.config u.unit).blocks ≤ 2 ^ 64 = omega (arith, c.self.invariant.record_is.limits.blocks.1) in
-    let may = start-may u.config u.unit past c.args.actor c.args.id c.args.background c.args.ranges.now c.args.rod.now limits blocks within in
+    let idle = busy-is u.config u.unit past c.args.actor OfToken c.args.id known.is (own-of u.config u.unit past known) mine ∙ sym told ∙ c.if-runs.false in
+    let may = start-may u.config u.unit past c.args.actor c.args.id c.args.background c.args.ranges.now c.args.rod.now limits blocks within idle few in
     rw (c.of_jobs.ensures, c.state_after.ensures, c.blocks-2.ensures.count, c.in_ok-ranges.ensures, c.in_ok-rod.ensures, c.token_key-key.ensures, ← c.self.view_is)
     (λ at. start-made u.config u.unit past c.args.actor at c.args.id c.args.background c.args.ranges.now c.args.rod.now (length c.args.rod.now.items == 0) known mine limits
     (sym told ∙ c.if-runs.false) within (sym (crowded-is u.config u.unit past known.is) ∙ few) refl may)
