@@ -14,12 +14,11 @@ ghost use Rattle.copy_jobs.specs.inner.Steps.{stepped, MayStep};
 ghost use Rattle.copy_jobs.specs.Tables.{KeysApart};
 ghost use Rattle.copy_jobs.specs.inner.Tables.{IsJob};
 
-use crate::change::Change;
+use crate::change::{Change, Change};
 use crate::job::{Job, Work, WriteJob};
 use crate::key::Key;
 use crate::piece::NextPiece;
 use crate::records;
-use crate::change::Change;
 use cm_base::OutOfMemory;
 use cm_history::{CopyEnd, CopyState, OpReport, OpState};
 use lba_ranges::{BlockList, RangeList};

@@ -10,33 +10,33 @@ use Rattle.rod_token.specs.TokenText.{token_text, serial_of}
 use Rattle.cm_history.specs.Senses as senses
 use Rattle.cm_history.specs.Redeeming.{are_alike}
 use Rattle.rod_store.specs.declared.kept.Kept.{Kept}
-use Rattle.rod_store.specs.declared.kept.Standing.{Standing}
-use Rattle.rod_store.specs.declared.kept.Standing.TheVariants.{Live, Expired, Evicted, Deleted}
+use Rattle.rod_store.specs.declared.kept.TokenState.{TokenState}
+use Rattle.rod_store.specs.declared.kept.TokenState.TheVariants.{Live, Expired, Evicted, Deleted}
 use Rattle.rod_store.specs.Kept.{value_in, value_of, value_at, expire_at, expired}
-use Rattle.rod_store.specs.Judging.{judged_standing, judged_token, judged}
+use Rattle.rod_store.specs.Judging.{judged_state, judged_token, judged}
 
 module _ {T : Type 0} where
   -- one that stands for a value is not over
-  stands : (now : ℕ) (value : T) (serial blocks : ℕ) (s : Standing T) → judged_standing now s ≡ Ok value
-      → IsSome (value_of (expire_at now (record { serial = serial; blocks = blocks; standing = s })).standing)
+  stands : (now : ℕ) (value : T) (serial blocks : ℕ) (s : TokenState T) → judged_state now s ≡ Ok value
+      → IsSome (value_of (expire_at now (record { serial = serial; blocks = blocks; state = s })).state)
   stands now value serial blocks Deleted e = cc
   stands now value serial blocks Evicted e = cc
   stands now value serial blocks Expired e = cc
   stands now value serial blocks (Live timeout last_use v) e = go (nat_lt (last_use + timeout) now) e
     where
       kept : Kept T
-      kept = record { serial = serial; blocks = blocks; standing = Live timeout last_use v }
+      kept = record { serial = serial; blocks = blocks; state = Live timeout last_use v }
 
-      go : (o : Bool) → (if o then Err senses.expired else Ok v) ≡ Ok value → IsSome (value_of (if o then record kept { standing = Expired } else kept).standing)
+      go : (o : Bool) → (if o then Err senses.expired else Ok v) ≡ Ok value → IsSome (value_of (if o then record kept { state = Expired } else kept).state)
       go true e = cc
       go false e = refl
 
   -- where the unit and the text are right, the answer is by where the token stands
-  by-standing : (a b : Bool) (r : Result T SenseCode) (value : T)
+  by-state : (a b : Bool) (r : Result T SenseCode) (value : T)
       → (if not a then Err senses.wrong_unit else if not b then Err senses.altered else r) ≡ Ok value → r ≡ Ok value
-  by-standing false b r value e = cc
-  by-standing true false r value e = cc
-  by-standing true true r value e = e
+  by-state false b r value e = cc
+  by-state true false r value e = cc
+  by-state true true r value e = e
 
   pub lives-on : (config : Configuration) (unit now : ℕ) (text : List ℕ) (target : ℕ) (tokens : List (Kept T)) (value : T)
       → judged config unit now text target tokens ≡ Ok value → IsSome (value_at (serial_of text) (expired now tokens))
@@ -46,5 +46,5 @@ module _ {T : Type 0} where
       go : (o : Option (Kept T)) → judged_token config unit now text target o ≡ Ok value → IsSome (value_in (option_map (expire_at now) o))
       go None e = cc
       go (Some t) e =
-          stands now value t.serial t.blocks t.standing
-          (by-standing (are_alike (unit_of config unit) (unit_of config target)) (bytes_eq text (token_text config unit t.serial t.blocks)) (judged_standing now t.standing) value e)
+          stands now value t.serial t.blocks t.state
+          (by-state (are_alike (unit_of config unit) (unit_of config target)) (bytes_eq text (token_text config unit t.serial t.blocks)) (judged_state now t.state) value e)

@@ -206,8 +206,8 @@ impl<K: Drop> RodStore<K> {
         ensures spare { self.new.spare ≡ self.old.spare }
     {
         let token = &mut self.tokens[serial as usize];
-        token.standing.note_use(moment);
-        self.soonest = token.standing.end_until(self.soonest);
+        token.state.note_use(moment);
+        self.next_expiry = token.state.end_until(self.next_expiry);
     }
 
     /// Ends the token of the serial and hands its value back; `None` where no live one has it, and
