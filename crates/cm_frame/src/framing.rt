@@ -7,6 +7,7 @@ ghost use Rattle.cm_frame.specs.Laws.{IsJudged};
 ghost use Rattle.cm_frame.specs.Taking.{Takes};
 
 use crate::frame::Request;
+use crate::long_request::{LongRequest, long_data};
 use crate::request::read_request;
 use cm_base::{FillFailed, InputBuffer, OutOfMemory, Parsed, Source};
 use std::alloc::Global;
@@ -23,19 +24,41 @@ pub enum Framed {
     Bad,
 }
 
+/// Takes the request at the front of some bytes, if it is whole.
+fn take_short(alloc: Global, bytes: &mut InputBuffer) -> Result<Framed, OutOfMemory>
+    ensures taken { IfOk result (Takes bytes.old bytes.new) }
+    ensures err { OnErr result (bytes.new ≡ bytes.old) }
+{
+    match read_request(alloc, bytes.as_slice())? {
+        Parsed::Whole { value, used } => {
+            bytes.consume(used);
+            Ok(Framed::Request(value))
+        }
+        Parsed::Short => Ok(Framed::NotYet),
+        Parsed::Bad { place: _ } => Ok(Framed::Bad),
+    }
+}
+
 /// Takes requests out of bytes that come in pieces. Contracts see the list of the bytes that are left.
+///
+/// A long data-out is copied into its payload as it comes. So a sender takes no more memory than what
+/// it has sent, but for a factor.
 #[derive(Drop)]
 pub struct Framer {
-    bytes: InputBuffer,
+    /// The request at the front, if it is long.
+    long: Option<LongRequest>,
+    /// The bytes behind it.
+    rest: InputBuffer,
     alloc: Global,
 }
 
 impl Model for Framer {
-    ghost use Rattle.std.specs.Prelude.{List, ℕ};
+    ghost use Rattle.std.specs.Prelude.{List, ℕ, ◌++◌};
+    ghost use Rattle.cm_frame.specs.Gathering.{begun};
 
     ghost Value = { List ℕ };
 
-    ghost view = { λ f. f.bytes };
+    ghost view = { λ f. begun f.long ++ f.rest };
 }
 
 impl Framer {
@@ -44,7 +67,8 @@ impl Framer {
         ensures { result ≡ [] }
     {
         Framer {
-            bytes: InputBuffer::new(alloc),
+            long: None,
+            rest: InputBuffer::new(alloc),
             alloc,
         }
     }
@@ -53,7 +77,7 @@ impl Framer {
     pub fn is_empty(&self) -> bool
         ensures { result ≡ (length self.now == 0) }
     {
-        self.bytes.as_slice().is_empty()
+        self.long.is_none() && self.rest.as_slice().is_empty()
     }
 
     /// Adds the bytes that came next. At `OutOfMemory` the framer is as before.
@@ -62,7 +86,8 @@ impl Framer {
         ensures err { OnErr result (self.new ≡ self.old) }
         ensures stays { IsJudged (read_request self.old) → read_request self.new ≡ read_request self.old }
     {
-        self.bytes.feed(piece)
+        self.make_room()?;
+        self.rest.feed(piece)
     }
 
     /// Takes the request at the front, if it is whole. After `Bad` it finds `Bad` always. At
@@ -71,14 +96,15 @@ impl Framer {
         ensures taken { IfOk result (Takes self.old self.new) }
         ensures err { OnErr result (self.new ≡ self.old) }
     {
-        match read_request(self.alloc, self.bytes.as_slice())? {
-            Parsed::Whole { value, used } => {
-                self.bytes.consume(used);
-                Ok(Framed::Request(value))
-            }
-            Parsed::Short => Ok(Framed::NotYet),
-            Parsed::Bad { place: _ } => Ok(Framed::Bad),
-        }
+        let Some(long) = &mut self.long else {
+            return take_short(self.alloc, &mut self.rest);
+        };
+        long.gather(&mut self.rest)?;
+        let Some(request) = long.request()? else {
+            return Ok(Framed::NotYet);
+        };
+        self.long = None;
+        Ok(Framed::Request(request))
     }
 
     /// Pulls once, and adds what came; 0 bytes come only at the end of the input.
@@ -98,6 +124,31 @@ impl Framer {
         ensures apart { S.unpulled source.new ≡ S.unpulled source.old }
         ensures stays { IsJudged (read_request self.old) → read_request self.new ≡ read_request self.old }
     {
-        self.bytes.fill(source)
+        self.make_room()?;
+        Ok(self.rest.fill(source)?)
+    }
+
+    /// Moves the bytes that wait into a long data-out, if one waits for them.
+    fn make_room(&mut self) -> Result<(), OutOfMemory>
+        ensures { self.new ≡ self.old }
+    {
+        self.begin_long();
+        match &mut self.long {
+            Some(long) => long.gather(&mut self.rest),
+            None => Ok(()),
+        }
+    }
+
+    /// Begins the request at the front, if its data-out is long and it was not begun.
+    fn begin_long(&mut self)
+        ensures { self.new ≡ self.old }
+    {
+        if self.long.is_some() {
+            return;
+        }
+        if let Some(wanted) = long_data(self.rest.as_slice()) {
+            let room = Vec::new(self.alloc);
+            self.long = Some(LongRequest::begin(&mut self.rest, wanted, room));
+        }
     }
 }

@@ -24,11 +24,11 @@ pub struct ItemBuffer {
 
 impl Model for ItemBuffer {
     ghost use Rattle.std.specs.Prelude.{List, ℕ, ◌++◌};
-    ghost use Rattle.cm_frame.specs.Gathering.{begun};
+    ghost use Rattle.cm_frame.specs.Gathering.{begun_item};
 
     ghost Value = { List ℕ };
 
-    ghost view = { λ b. begun b.long ++ b.rest };
+    ghost view = { λ b. begun_item b.long ++ b.rest };
 }
 
 impl ItemBuffer {
@@ -105,12 +105,20 @@ impl ItemBuffer {
     fn make_room<M: Memory>(&mut self, memory: &mut M) -> Result<(), OutOfMemory>
         ensures { self.new ≡ self.old }
     {
+        self.begin_long(memory)?;
         match &mut self.long {
             Some(long) => long.gather(&mut self.rest),
-            None => {
-                self.long = LongItem::begin(memory, &mut self.rest)?;
-                Ok(())
-            }
+            None => Ok(()),
         }
+    }
+
+    /// Begins the item at the front, if its data-out is long and it was not begun.
+    fn begin_long<M: Memory>(&mut self, memory: &mut M) -> Result<(), OutOfMemory>
+        ensures { self.new ≡ self.old }
+    {
+        if self.long.is_none() {
+            self.long = LongItem::begin(memory, &mut self.rest)?;
+        }
+        Ok(())
     }
 }

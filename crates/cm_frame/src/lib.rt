@@ -8,6 +8,7 @@ mod item;
 mod item_buffer;
 mod laws;
 mod long_item;
+mod long_request;
 mod memory;
 mod reply;
 mod request;

@@ -11,7 +11,7 @@ use std::alloc::Global;
 pub const DATA_LIMIT: u32 = 8_388_608;
 
 /// Bytes of a request before its data.
-const FRONT: usize = 22;
+pub(crate) const FRONT: usize = 22;
 
 /// Reads the request at the front of some bytes (own profile): the length of the data-out, the
 /// unit, 16 bytes of CDB, and the data.

@@ -1,6 +1,6 @@
 use Rattle.std.proofs.Common.{◌≡◌, ◌++◌, ◌∙◌, ap, sym}
 use Rattle.cm_frame.specs.DataOut.{so_far}
-use Rattle.cm_frame.specs.Gathering.{gathered, begun}
+use Rattle.cm_frame.specs.Gathering.{gathered_item, begun_item}
 use Rattle.cm_frame.proofs.LongItems.{Leaves, leaves-long, leaves-whole}
 use Rattle.cm_frame.proofs.item_buffer.ItemBuffer.pass.Goals.{in-Some, in-None}
 use Rattle.cm_frame.proofs.item_buffer.ItemBuffer.pass.Goals as goal
@@ -9,12 +9,13 @@ leaves : (c : goal.After-consume-arg-1) → Leaves c.match-self.left c.args.used
 leaves c = elim c.match-self.branch [
   | in-Some w ↦
       let l = w.in-Some.long in
+      let r = l.request in
       let rest = c.self.inside.rest in
-      let view : gathered l ++ rest ≡ c.args.self.now = ap (λ x. begun x ++ rest) (sym w.in-Some.is) ∙ c.self.view_is in
+      let view : gathered_item l ++ rest ≡ c.args.self.now = ap (λ x. begun_item x ++ rest) (sym w.in-Some.is) ∙ c.self.view_is in
       rw (w.left-is, w.self-inside-is)
-      (leaves-long l.front (so_far l.whole l.come.items) rest c.args.self.now l.wanted w.missing-left.result c.args.used l.is_front l.few w.missing-left.ensures view c.requires)
+      (leaves-long l.start r.front (so_far r.whole r.come.items) rest c.args.self.now r.wanted w.missing-left.result c.args.used l.is_start r.is_front r.few w.missing-left.ensures view c.requires)
   | in-None w ↦
-      let view : c.self.inside.rest ≡ c.args.self.now = ap (λ x. begun x ++ c.self.inside.rest) (sym w.in-None.is) ∙ c.self.view_is in
+      let view : c.self.inside.rest ≡ c.args.self.now = ap (λ x. begun_item x ++ c.self.inside.rest) (sym w.in-None.is) ∙ c.self.view_is in
       rw (w.left-is, w.self-inside-is) (leaves-whole c.self.inside.rest c.args.self.now c.args.used view c.requires)
 ]
 
