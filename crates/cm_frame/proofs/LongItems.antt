@@ -9,8 +9,8 @@ use Rattle.cm_base.specs.declared.parsed.Parsed.{Parsed}
 use Rattle.cm_base.specs.declared.parsed.Parsed.TheVariants.{Whole, Short, Bad}
 use Rattle.cm_frame.specs.declared.frame.Request.{Request}
 use Rattle.cm_base.specs.Fields.{byte, field}
-use Rattle.cm_base.proofs.FieldLaws.{field-stays, byte-stays}
-use Rattle.cm_frame.specs.DataOut.{IsFront, IsStart}
+use Rattle.cm_base.proofs.PublicLaws.{field-stays, byte-stays}
+use Rattle.cm_frame.specs.inner.DataOut.{IsFront, IsStart}
 use Rattle.cm_frame.specs.Reading.{read_request, begin_in, read_item, HasItem}
 use Rattle.cm_frame.proofs.LongRequests.{request_of, long-whole, long-short}
 use Rattle.cm_frame.proofs.Within.{UsesWithin, item-within}

@@ -6,9 +6,9 @@ use Rattle.std.proofs.lemmas.List.{length-append, length-take-le, take-append-dr
 use Rattle.cm_frame.specs.declared.frame.Request.{Request}
 use Rattle.cm_base.specs.declared.parsed.Parsed.TheVariants.{Whole, Short}
 use Rattle.cm_base.specs.Fields.{field, part}
-use Rattle.cm_base.proofs.FieldLaws.{part-stays, field-stays}
+use Rattle.cm_base.proofs.PublicLaws.{part-stays, field-stays}
 use Rattle.cm_frame.specs.Grammar.{data_limit}
-use Rattle.cm_frame.specs.DataOut.{IsFront}
+use Rattle.cm_frame.specs.inner.DataOut.{IsFront}
 use Rattle.cm_frame.specs.Reading.{read_request}
 
 -- the request with this data-out

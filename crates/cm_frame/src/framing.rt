@@ -54,7 +54,7 @@ pub struct Framer {
 
 impl Model for Framer {
     ghost use Rattle.std.specs.Prelude.{List, ℕ, ◌++◌};
-    ghost use Rattle.cm_frame.specs.Gathering.{begun};
+    ghost use Rattle.cm_frame.specs.inner.Gathering.{begun};
 
     ghost Value = { List ℕ };
 

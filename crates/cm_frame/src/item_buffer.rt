@@ -24,7 +24,7 @@ pub struct ItemBuffer {
 
 impl Model for ItemBuffer {
     ghost use Rattle.std.specs.Prelude.{List, ℕ, ◌++◌};
-    ghost use Rattle.cm_frame.specs.Gathering.{begun_item};
+    ghost use Rattle.cm_frame.specs.inner.Gathering.{begun_item};
 
     ghost Value = { List ℕ };
 

@@ -1,5 +1,5 @@
 ghost use Rattle.std.specs.Prelude.{◌≡◌, ◌+◌, ◌≤◌, ◌++◌, ℕ, List, length, take, drop, IfOk, IfSome, OnOk, OnErr};
-ghost use Rattle.cm_frame.specs.DataOut.{IsFront, IsStart, so_far};
+ghost use Rattle.cm_frame.specs.inner.DataOut.{IsFront, IsStart, so_far};
 ghost use Rattle.cm_frame.specs.Reading.{read_item};
 
 use crate::item::{START, TraceItem};
@@ -29,7 +29,7 @@ pub(crate) struct LongItem {
 }
 
 impl LongItem {
-    ghost use Rattle.cm_frame.specs.Gathering.{gathered, gathered_item, begun_item, HasTaken};
+    ghost use Rattle.cm_frame.specs.inner.Gathering.{gathered, gathered_item, begun_item, HasTaken};
 
     /// Begins the item at the front, if its data-out is long.
     pub(crate) fn begin<M: Memory>(

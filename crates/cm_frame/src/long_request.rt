@@ -1,7 +1,7 @@
 ghost use Rattle.std.specs.Prelude.{◌≡◌, ◌+◌, ◌≤◌, ◌<◌, ◌++◌, [], ℕ, List, length, take, Some, None, IfOk, IfSome, IfNone, OnOk, OnErr};
 ghost use Rattle.std.specs.Option.{ForSome};
 ghost use Rattle.cm_frame.specs.Grammar.{data_limit};
-ghost use Rattle.cm_frame.specs.DataOut.{IsFront, so_far, read_as};
+ghost use Rattle.cm_frame.specs.inner.DataOut.{IsFront, so_far, read_as};
 ghost use Rattle.cm_frame.specs.Reading.{read_request};
 
 use crate::frame::Request;
@@ -61,7 +61,7 @@ pub(crate) struct LongRequest {
 }
 
 impl LongRequest {
-    ghost use Rattle.cm_frame.specs.Gathering.{gathered, HasTaken};
+    ghost use Rattle.cm_frame.specs.inner.Gathering.{gathered, HasTaken};
 
     /// Begins the request at the front, whose data-out is long. The data goes into `room`, which is
     /// empty and grows where it must.

@@ -1,5 +1,5 @@
 use Rattle.std.proofs.Common.{◌∙◌}
-use Rattle.cm_frame.specs.Gathering.{begun}
+use Rattle.cm_frame.specs.inner.Gathering.{begun}
 use Rattle.cm_frame.proofs.FedStays.{joined-stays}
 use Rattle.cm_frame.proofs.framing.Framer.fill.Goals as goal
 

@@ -1,8 +1,8 @@
 use Rattle.std.proofs.Common.{◌≡◌, ◌+◌, ◌++◌, ◌∙◌, length, drop, ap, sym, subst, arith, Some, List, ℕ, drop_at}
 use Rattle.std.specs.Prelude.{IfSome}
 use Rattle.std.proofs.lemmas.List.{length-append}
-use Rattle.cm_frame.specs.DataOut.{read_as}
-use Rattle.cm_frame.specs.Gathering.{gathered, begun}
+use Rattle.cm_frame.specs.inner.DataOut.{read_as}
+use Rattle.cm_frame.specs.inner.Gathering.{gathered, begun}
 use Rattle.cm_frame.specs.Reading.{read_request}
 use Rattle.cm_frame.proofs.framing.Framer.take.Goals as goal
 

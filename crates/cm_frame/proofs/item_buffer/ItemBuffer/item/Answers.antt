@@ -1,7 +1,7 @@
 use Rattle.std.proofs.Common.{◌≡◌, ◌++◌, ◌∙◌, ap, sym, subst}
 use Rattle.std.specs.Prelude.{IfOk}
 use Rattle.cm_frame.specs.Reading.{read_item}
-use Rattle.cm_frame.specs.Gathering.{gathered_item, begun_item}
+use Rattle.cm_frame.specs.inner.Gathering.{gathered_item, begun_item}
 use Rattle.cm_frame.proofs.item_buffer.ItemBuffer.item.Goals as goal
 
 pub returns-in_ok-gather-in-Some-clause-value : goal.returns-in_ok-gather-in-Some-clause-value

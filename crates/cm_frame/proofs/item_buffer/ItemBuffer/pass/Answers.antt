@@ -1,6 +1,6 @@
 use Rattle.std.proofs.Common.{◌≡◌, ◌++◌, ◌∙◌, ap, sym}
-use Rattle.cm_frame.specs.DataOut.{so_far}
-use Rattle.cm_frame.specs.Gathering.{gathered_item, begun_item}
+use Rattle.cm_frame.specs.inner.DataOut.{so_far}
+use Rattle.cm_frame.specs.inner.Gathering.{gathered_item, begun_item}
 use Rattle.cm_frame.proofs.LongItems.{Leaves, leaves-long, leaves-whole}
 use Rattle.cm_frame.proofs.item_buffer.ItemBuffer.pass.Goals.{in-Some, in-None}
 use Rattle.cm_frame.proofs.item_buffer.ItemBuffer.pass.Goals as goal

@@ -1,7 +1,7 @@
 use Rattle.std.proofs.Common.{◌≡◌, ◌+◌, ◌++◌, ◌∙◌, ap, sym, subst, arith, Some, None}
 use Rattle.cm_base.specs.Fields.{field}
-use Rattle.cm_frame.specs.DataOut.{read_as}
-use Rattle.cm_frame.specs.Gathering.{gathered}
+use Rattle.cm_frame.specs.inner.DataOut.{read_as}
+use Rattle.cm_frame.specs.inner.Gathering.{gathered}
 use Rattle.cm_frame.specs.Reading.{read_request, begin_in}
 use Rattle.cm_frame.proofs.LongItems.{item-of-request}
 use Rattle.cm_frame.proofs.long_item.LongItem.item.Goals as goal

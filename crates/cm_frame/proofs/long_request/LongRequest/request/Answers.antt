@@ -1,7 +1,7 @@
 use Rattle.std.proofs.Common.{◌≡◌, ◌∙◌, length, ap, sym, subst, arith}
 use Rattle.std.specs.Prelude.{IfSome}
 use Rattle.cm_base.specs.Fields.{field, part}
-use Rattle.cm_frame.specs.DataOut.{so_far}
+use Rattle.cm_frame.specs.inner.DataOut.{so_far}
 use Rattle.cm_frame.proofs.LongRequests.{long-whole}
 use Rattle.cm_frame.proofs.long_request.LongRequest.request.Goals as goal
 

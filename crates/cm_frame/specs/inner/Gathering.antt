@@ -2,7 +2,7 @@
 use Rattle.std.specs.Prelude.{◌≡◌, ℕ, ◌<◌, List, [], ◌++◌, length, Option, Some, None}
 use Rattle.cm_frame.specs.declared.long_request.LongRequest.{LongRequest}
 use Rattle.cm_frame.specs.declared.long_item.LongItem.{LongItem}
-use Rattle.cm_frame.specs.DataOut.{so_far}
+use Rattle.cm_frame.specs.inner.DataOut.{so_far}
 
 -- the bytes of the request so far
 abbrev pub gathered : LongRequest → List ℕ
