@@ -14,7 +14,7 @@ ghost use Rattle.copy_jobs.specs.inner.Steps.{stepped, MayStep};
 ghost use Rattle.copy_jobs.specs.Tables.{KeysApart};
 ghost use Rattle.copy_jobs.specs.inner.Tables.{IsJob};
 
-use crate::change::{Change, Change};
+use crate::change::Change;
 use crate::job::{Job, Work, WriteJob};
 use crate::key::Key;
 use crate::piece::NextPiece;

@@ -48,7 +48,7 @@ pub enum PlainPhase {
         runs: StatusList,
     },
     /// The command ends GOOD with this data.
-    Told {
+    Ready {
         bytes: Payload,
     },
 }
