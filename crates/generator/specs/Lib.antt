@@ -1,3 +1,4 @@
 pub mod Settings
 pub mod Rounds
 pub mod Generated
+pub mod WellFormed

@@ -3,6 +3,7 @@ use std::test::Fail;
 
 /// Bytes of the header of two units, and of a round.
 const HEADER: usize = 106;
+
 const ROUND: usize = 4944;
 
 /// How long traces are, and that each begins as the longer ones do.
