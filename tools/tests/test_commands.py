@@ -9,8 +9,8 @@ import unittest
 from . import support
 from replay import senses
 
-STDIN = (support.TOP / "crates/copymgr/stdin").read_bytes()
-STDOUT = (support.TOP / "crates/copymgr/stdout").read_bytes()
+STDIN, _, _ = support.run("row", "trace", "write then read")
+STDOUT, _, _ = support.run("row", "replies", "write then read")
 TEXT = b"unit 0 blocks=100\ni1 lun=0 write-16 lba=0 data=11*512,22*512 go\ni1 lun=0 read-16 lba=0 count=3 go\n"
 TOOLS = [
     "tools/trace", "tools/plain-replay", "tools/row", "tools/random-traces", "tools/run-tests", "tools/fail-allocations",
@@ -19,7 +19,7 @@ TOOLS = [
 
 
 class Trace(unittest.TestCase):
-    def test_the_stored_trace_as_text_and_back(self):
+    def test_a_trace_as_text_and_back(self):
         self.assertEqual(support.run("trace", "text", data=STDIN), (TEXT, "", 0))
         self.assertEqual(support.run("trace", "bytes", data=TEXT), (STDIN, "", 0))
 
@@ -62,17 +62,24 @@ class Trace(unittest.TestCase):
             (["play"], b"\xff\xfe\0", "no text"),
             (["play", "/nowhere/at/all"], TEXT, "No such file"),
             (["replies", "/nowhere/at/all"], b"", "No such file"),
-            (["replies", "crates/copymgr/stdin"], STDOUT[:-1], "end inside the reply at byte 10"),
-            (["replies", "crates/copymgr/stdout"], b"", "bad header at byte 0"),
+            (["replies", "README.md"], b"", "bad header at byte 0"),
         ]:
             with self.subTest(words=words):
                 output, said, status = support.run("trace", *words, data=data)
                 self.assertEqual((output, status, said.count("\n")), (b"", 2, 1), said)
                 self.assertIn(why, said)
 
+    def test_replies_that_are_cut(self):
+        with tempfile.TemporaryDirectory() as folder:
+            trace = pathlib.Path(folder) / "trace"
+            trace.write_bytes(STDIN)
+            output, said, status = support.run("trace", "replies", str(trace), data=STDOUT[:-1])
+        self.assertEqual((output, status, said.count("\n")), (b"", 2, 1), said)
+        self.assertIn("end inside the reply at byte 10", said)
+
 
 class PlainReplay(unittest.TestCase):
-    def test_the_stored_trace(self):
+    def test_a_trace(self):
         self.assertEqual(support.run("plain-replay", "replay", data=STDIN), (STDOUT, "", 0))
 
     def test_endings(self):

@@ -1,1 +1,3 @@
-mod OnlyWord
+mod Spelled
+mod EndsWell
+mod Telling

@@ -1,2 +1,6 @@
 pub mod Statuses
+pub mod Orders
 pub mod Ran
+pub mod Told
+pub mod AtHand
+pub mod Generating

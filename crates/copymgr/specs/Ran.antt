@@ -1,15 +1,11 @@
 -- What the program did by its words
-use Rattle.std.specs.Prelude.{◌≡◌, ℕ, List, [], ◌∷◌, Option, Result, codes}
+use Rattle.std.specs.Prelude.{◌≡◌, ℕ, List, Option, Result}
 use Rattle.cmd_program.specs.Judging.{step}
 use Rattle.trace_replay.specs.declared.summary.Summary.{Summary}
 use Rattle.trace_replay.specs.declared.fault.ReplayFault.{ReplayFault}
 use Rattle.trace_replay.specs.Replayed.{Replayed, IsCounted}
 use Rattle.copymgr.specs.declared.status.Status.{Status}
 use Rattle.copymgr.specs.Statuses.{status_of}
-
--- the one word `replay`
-abbrev pub replay_words : List (List ℕ)
-replay_words = codes "replay" ∷ []
 
 -- The trace was replayed, and the status is that of the replay's answer. First what the source has left and what the
 -- sink took, each before and after; then their counts of faults, each before and after.

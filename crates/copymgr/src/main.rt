@@ -1,6 +1,9 @@
-// The program: replays a recorded trace from standard input to standard output.
+// The program: replays a recorded trace from standard input to standard output, or a generated one.
 #![tactic(auto)]
 
+mod ends;
+mod generating;
+mod order;
 #[cfg(test)]
 mod random;
 mod ready;

@@ -68,7 +68,7 @@ impl fmt::Display for Status {
             Status::OutOfMemory => write!(f, "out of memory"),
             Status::Torn(place) => write!(f, "input ends inside the part at byte {place}"),
             Status::BadHeader(place) => write!(f, "bad header at byte {place}"),
-            Status::Usage => write!(f, "use replay"),
+            Status::Usage => write!(f, "use replay or gen N"),
             Status::BadRecord(place) => write!(f, "bad record at byte {place}"),
             Status::Records => write!(f, "too many records"),
         }

@@ -2,11 +2,13 @@ ghost use Rattle.std.specs.Prelude.{◌<◌};
 
 use crate::ready::{Empty, ReadyMemory, make_ready};
 use crate::rows::first_path::{HEADER, ROWS, RUN};
+use crate::rows::words::{GENERATED, OTHER};
 use crate::rows::{Row, copies, evictions, generated, long_data, operations, tokens, usual_copy};
 use crate::status::Status;
 use crate::top::{top, top_with};
 use cm_base::{Bytes, CallList, MemorySink, MemorySource, Word};
 use cm_frame::Memory;
+use generator::generate;
 use rtrb::RingBuffer;
 use std::alloc::Global;
 use std::sync::Wait;
@@ -210,13 +212,14 @@ fn generated_replies(alloc: Global) -> Result<Bytes, Fail> {
     bytes_of(alloc, &generated::REPLIES)
 }
 
-/// The replies of a generated trace of 20 rounds, which is put together of its parts.
+/// The generated trace of 20 rounds, which is put together of its parts, and the replies to it.
 #[test]
 fn worked_generated_trace(rt: HostRuntime) -> Result<(), Fail> {
     let alloc = rt.alloc();
     let mut trace = first_rounds(alloc)?;
     trace.extend(middle_rounds(alloc)?.as_slice())?;
     trace.extend(last_rounds(alloc)?.as_slice())?;
+    assert!(rt; generate(alloc, 20)?.as_slice() == trace.as_slice());
     let replies = generated_replies(alloc)?;
     assert!(rt; replies_are(alloc, trace, &replies)?);
     Ok(())
@@ -363,28 +366,49 @@ fn worked_traces_over_ready_memory(rt: HostRuntime) -> Result<(), Fail> {
     Ok(())
 }
 
+/// What the program does by its words, over a trace that it could read and an output that fails at the listed
+/// pushes.
+fn said(alloc: Global, line: &[&str], pushes: CallList) -> Result<(Status, MemorySink), Fail> {
+    let mut words = Vec::new(alloc);
+    for word in line {
+        words.push(Word::from_text(alloc, word)?)?;
+    }
+    let trace = bytes_of(alloc, ROWS[3].trace)?;
+    let mut input = MemorySource::new(trace, 4096, CallList::empty(alloc));
+    let mut output = MemorySink::new(alloc, 7, pushes);
+    let status = top(alloc, &words, &mut input, &mut output);
+    Ok((status, output))
+}
+
+/// Generated traces are played, and what they did is told.
+#[test]
+fn generated_rounds(rt: HostRuntime) -> Result<(), Fail> {
+    let alloc = rt.alloc();
+    for (rounds, lines) in GENERATED {
+        let (status, output) = said(alloc, &["gen", rounds], CallList::empty(alloc))?;
+        assert!(rt; status == Status::Done, "{rounds}: {status}");
+        assert!(rt; output.as_slice() == lines.as_bytes(), "{rounds}");
+    }
+    Ok(())
+}
+
+/// The third push of what is told fails: what was taken is a beginning of it.
+#[test]
+fn generated_rounds_that_are_not_told(rt: HostRuntime) -> Result<(), Fail> {
+    let alloc = rt.alloc();
+    let (status, output) = said(alloc, &["gen", "1"], only(alloc, 3)?)?;
+    assert!(rt; status == Status::WriteFault);
+    assert!(rt; output.as_slice() == b"records 12\nrep".as_slice());
+    Ok(())
+}
+
 /// Other words are Usage, and nothing is taken.
 #[test]
 fn other_words(rt: HostRuntime) -> Result<(), Fail> {
     let alloc = rt.alloc();
-    let lines: [&[&str]; 7] = [
-        &[],
-        &["Replay"],
-        &["replay", "replay"],
-        &["--help"],
-        &["--version"],
-        &["gen", "1"],
-        &["serve", "127.0.0.1:3260", "1"],
-    ];
-    for line in lines {
-        let mut words = Vec::new(alloc);
-        for word in line {
-            words.push(Word::from_text(alloc, word)?)?;
-        }
-        let trace = bytes_of(alloc, ROWS[3].trace)?;
-        let mut input = MemorySource::new(trace, 4096, CallList::empty(alloc));
-        let mut output = MemorySink::new(alloc, 4096, CallList::empty(alloc));
-        assert!(rt; top(alloc, &words, &mut input, &mut output) == Status::Usage);
+    for line in OTHER {
+        let (status, output) = said(alloc, line, CallList::empty(alloc))?;
+        assert!(rt; status == Status::Usage, "{}", line.len());
         assert!(rt; output.as_slice().is_empty());
     }
     Ok(())
@@ -400,7 +424,7 @@ fn statuses(rt: HostRuntime) -> Result<(), Fail> {
         (Status::OutOfMemory, 3, "out of memory"),
         (Status::Torn(74), 4, "input ends inside the part at byte 74"),
         (Status::BadHeader(8), 5, "bad header at byte 8"),
-        (Status::Usage, 6, "use replay"),
+        (Status::Usage, 6, "use replay or gen N"),
         (Status::BadRecord(109), 7, "bad record at byte 109"),
         (Status::Records, 8, "too many records"),
     ];

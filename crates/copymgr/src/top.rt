@@ -1,37 +1,36 @@
-ghost use Rattle.std.specs.Prelude.{◌≡◌, ◌≢◌, ◌↔◌, IsTrue};
+ghost use Rattle.std.specs.Prelude.{◌≡◌, ◌↔◌, ℕ};
 ghost use Rattle.copymgr.specs.declared.status.Status.{Status};
-ghost use Rattle.copymgr.specs.Ran.{replay_words, HasReplayed};
+ghost use Rattle.copymgr.specs.Orders.{replay_words, gen_words, AreRounds, AreUnknown};
+ghost use Rattle.copymgr.specs.Ran.{HasReplayed};
+ghost use Rattle.copymgr.specs.Generating.{HasGenerated};
 
+use crate::generating::tell_rounds;
+use crate::order::{Order, order_of};
 use crate::status::Status;
 use cm_base::{Sink, Source, Word};
 use cm_frame::Memory;
 use std::alloc::Global;
 use trace_replay::replay_with;
 
-/// The words are the one word `replay`.
-fn is_replay(words: &[Word]) -> bool
-    ensures { IsTrue result ↔ (words.now ≡ replay_words) }
-{
-    match words {
-        [word] => word.as_slice() == b"replay".as_slice(),
-        _ => false,
-    }
-}
-
-/// Does what the words say: `replay` plays a trace from the input and writes its reply records to
-/// the output. Other words are Usage, and nothing is read or written. It waits where the input or the
-/// output does, and nowhere else.
+/// Does what the words say. `replay` plays a trace from the input and writes its reply records to the output.
+/// `gen N` plays the generated trace of N rounds, 1 to 4096, and writes what it did in eight lines; it reads
+/// nothing. Other words are Usage, and nothing is read or written. It waits where the input or the output
+/// does, and nowhere else.
 pub fn top<I: Source, O: Sink>(
     alloc: Global,
     words: &[Word],
     input: &mut I,
     output: &mut O,
 ) -> Status
-    ensures usage { (result ≡ Status.Usage) ↔ (words.now ≢ replay_words) }
-    ensures untouched { words.now ≢ replay_words → (input.new ≡ input.old) × (output.new ≡ output.old) }
+    ensures usage { (result ≡ Status.Usage) ↔ AreUnknown words.now }
+    ensures untouched { AreUnknown words.now → (input.new ≡ input.old) × (output.new ≡ output.old) }
     ensures replayed { words.now ≡ replay_words
         → HasReplayed (I.left input.old) (I.left input.new) (O.taken output.old) (O.taken output.new)
         (I.read_faults input.old) (I.read_faults input.new)
+        (O.write_faults output.old) (O.write_faults output.new) result }
+    ensures generated { (rounds : ℕ) → AreRounds rounds → words.now ≡ gen_words rounds
+        → (input.new ≡ input.old)
+        × HasGenerated rounds (O.taken output.old) (O.taken output.new)
         (O.write_faults output.old) (O.write_faults output.new) result }
 {
     let mut memory = alloc;
@@ -46,15 +45,20 @@ pub fn top_with<M: Memory, I: Source, O: Sink>(
     input: &mut I,
     output: &mut O,
 ) -> Status
-    ensures usage { (result ≡ Status.Usage) ↔ (words.now ≢ replay_words) }
-    ensures untouched { words.now ≢ replay_words → (input.new ≡ input.old) × (output.new ≡ output.old) }
+    ensures usage { (result ≡ Status.Usage) ↔ AreUnknown words.now }
+    ensures untouched { AreUnknown words.now → (input.new ≡ input.old) × (output.new ≡ output.old) }
     ensures replayed { words.now ≡ replay_words
         → HasReplayed (I.left input.old) (I.left input.new) (O.taken output.old) (O.taken output.new)
         (I.read_faults input.old) (I.read_faults input.new)
         (O.write_faults output.old) (O.write_faults output.new) result }
+    ensures generated { (rounds : ℕ) → AreRounds rounds → words.now ≡ gen_words rounds
+        → (input.new ≡ input.old)
+        × HasGenerated rounds (O.taken output.old) (O.taken output.new)
+        (O.write_faults output.old) (O.write_faults output.new) result }
 {
-    if !is_replay(words) {
-        return Status::Usage;
+    match order_of(words) {
+        None => Status::Usage,
+        Some(Order::Replay) => Status::from(replay_with(alloc, memory, input, output)),
+        Some(Order::Generate(rounds)) => tell_rounds(alloc, memory, rounds, output),
     }
-    Status::from(replay_with(alloc, memory, input, output))
 }

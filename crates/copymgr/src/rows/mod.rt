@@ -8,6 +8,7 @@ pub mod long_data;
 pub mod operations;
 pub mod tokens;
 pub mod usual_copy;
+pub mod words;
 
 use crate::status::Status;
 
