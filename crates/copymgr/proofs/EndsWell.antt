@@ -11,8 +11,8 @@ use Rattle.generator.specs.Settings.{settings}
 use Rattle.generator.specs.Generated.{items, generated}
 use Rattle.generator.specs.WellFormed.{HeaderIsRead, ItemsFit, TwelveEach, header_length}
 use Rattle.trace_replay.specs.Items.{Ending, Done, Torn, BadHeader, BadRecord, Records, Placed, led_by, with_item, trace_of, items_limit}
-use Rattle.trace_replay.specs.Standing.{Standing, Mark, at_first, next, fits}
-use Rattle.trace_replay.specs.Played.{Played, play, played, played_after, mark_for, marks_behind}
+use Rattle.trace_replay.specs.ReplayState.{ReplayState, Shortage, at_first, next, fits}
+use Rattle.trace_replay.specs.Played.{Played, play, played, played_after, shortage_for, shortages_behind}
 
 -- between two items, or at one that does not fit
 abbrev pub EndsWell : Ending → Type 0
@@ -26,14 +26,14 @@ either : {A : Type 0} (P : A → Type 0) (b : Bool) (x y : A) → P x → P y �
 either {A} P true x y p q = p
 either {A} P false x y p q = q
 
-play-ends : (step : Stepping) (config : Configuration) (s : Standing) (xs : List Placed) (ending : Ending) (marks : List Mark)
-    → EndsWell ending → EndsWell (play step config s xs ending marks).ending
-play-ends step config s [] ending marks well = well
-play-ends step config s (x ∷ xs) ending marks well =
+play-ends : (step : Stepping) (config : Configuration) (s : ReplayState) (xs : List Placed) (ending : Ending) (shortages : List Shortage)
+    → EndsWell ending → EndsWell (play step config s xs ending shortages).ending
+play-ends step config s [] ending shortages well = well
+play-ends step config s (x ∷ xs) ending shortages well =
     either (λ (p : Played). EndsWell p.ending) (fits config s x.item)
-    (play step config (next step config s x.item (mark_for x.item marks)) xs ending (marks_behind x.item marks))
-    (record { standing = s; ending = BadRecord x.place })
-    (play-ends step config (next step config s x.item (mark_for x.item marks)) xs ending (marks_behind x.item marks) well) tt
+    (play step config (next step config s x.item (shortage_for x.item shortages)) xs ending (shortages_behind x.item shortages))
+    (record { state = s; ending = BadRecord x.place })
+    (play-ends step config (next step config s x.item (shortage_for x.item shortages)) xs ending (shortages_behind x.item shortages) well) tt
 
 -- the item in front, and the trace behind it
 in-front : (bytes : List ℕ) (item : TraceItem) (used n place : ℕ) → read_item bytes ≡ Whole item used
@@ -56,14 +56,14 @@ items-end back (x ∷ xs) (suc n) place fit few =
     ∙ items-end back xs n (place + used) (λ k d h. fit (suc k) d (omega (arith, h))) (omega (arith, few))
 
 pub generated-ends : (step : Stepping) → IsReadBack IsItem item_bytes read_item → HeaderIsRead → ItemsFit → TwelveEach
-    → (rounds : ℕ) → rounds ≤ 4096 → (marks : List Mark) → EndsWell (played step (generated rounds) marks).ending
-generated-ends step back header fit twelve rounds few marks =
+    → (rounds : ℕ) → rounds ≤ 4096 → (shortages : List Shortage) → EndsWell (played step (generated rounds) shortages).ending
+generated-ends step back header fit twelve rounds few shortages =
     let body = flat_map item_bytes (items rounds) in
     let bytes = generated rounds in
     let behind : drop header_length bytes ≡ body = drop_at (header_bytes settings) body header_length refl in
     let done : (trace_of items_limit header_length (drop header_length bytes)).ending ≡ Done =
     ap (λ l. (trace_of items_limit header_length l).ending) behind
     ∙ items-end back (items rounds) items_limit header_length (fit rounds (omega (arith, few))) (omega (arith, twelve rounds, few)) in
-    subst (λ p. EndsWell (played_after step p bytes marks).ending) (sym (header body))
+    subst (λ p. EndsWell (played_after step p bytes shortages).ending) (sym (header body))
     (play-ends step settings at_first (trace_of items_limit header_length (drop header_length bytes)).items
-    (trace_of items_limit header_length (drop header_length bytes)).ending marks (subst EndsWell (sym done) tt))
+    (trace_of items_limit header_length (drop header_length bytes)).ending shortages (subst EndsWell (sym done) tt))

@@ -1,3 +1,3 @@
 mod Spelled
 mod EndsWell
-mod Telling
+mod ToldCounts

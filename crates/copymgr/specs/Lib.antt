@@ -4,3 +4,4 @@ pub mod Ran
 pub mod Told
 pub mod AtHand
 pub mod Generating
+pub mod inner

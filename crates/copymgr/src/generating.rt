@@ -1,7 +1,8 @@
 ghost use Rattle.std.specs.Prelude.{◌≡◌, ◌++◌, IfOk, OnOk};
 ghost use Rattle.copymgr.specs.Told.{line, summary_text};
 ghost use Rattle.copymgr.specs.Orders.{AreRounds};
-ghost use Rattle.copymgr.specs.Generating.{IsAnswerOf, IsPushedSo, HasGenerated};
+ghost use Rattle.copymgr.specs.inner.Generating.{IsAnswerOf, IsPushedSo};
+ghost use Rattle.copymgr.specs.Generating.{HasGenerated};
 
 use crate::ends::{AtHand, Dropped};
 use crate::status::Status;

@@ -1,6 +1,6 @@
 use Rattle.std.proofs.Common.{sym, subst}
 use Rattle.copymgr.specs.Generating.{HasGenerated}
-use Rattle.copymgr.proofs.Telling.{told-fault, told-counts}
+use Rattle.copymgr.proofs.ToldCounts.{told-fault, told-counts}
 use Rattle.copymgr.proofs.generating.tell_rounds.Goals as goal
 
 pub returns-in-Err : goal.returns-in-Err

@@ -2,7 +2,7 @@ use Rattle.std.proofs.Common.{◌≡◌, refl, subst}
 use Rattle.copymgr.specs.Orders.{IsOrder, words_of}
 use Rattle.copymgr.specs.declared.order.Order.{Order}
 use Rattle.copymgr.specs.Generating.{HasGenerated}
-use Rattle.copymgr.proofs.Telling.{same-rounds}
+use Rattle.copymgr.proofs.ToldCounts.{same-rounds}
 use Rattle.copymgr.proofs.top.top_with.Goals as goal
 
 pub returns-in-None-clause-usage : goal.returns-in-None-clause-usage

@@ -6,9 +6,9 @@ use Rattle.cmd_program.specs.Judging.{step}
 use Rattle.generator.specs.Generated.{generated}
 use Rattle.trace_replay.specs.declared.summary.Summary.{Summary}
 use Rattle.trace_replay.specs.declared.fault.ReplayFault.{ReplayFault}
-use Rattle.trace_replay.specs.Standing.{Mark}
+use Rattle.trace_replay.specs.ReplayState.{Shortage}
 use Rattle.trace_replay.specs.Played.{played}
-use Rattle.trace_replay.specs.Marks.{may_mark}
+use Rattle.trace_replay.specs.Shortages.{may_lack}
 use Rattle.trace_replay.specs.Replayed.{Replayed, IsCounted, IsAnswer, IsCompleteBy}
 use Rattle.copymgr.specs.declared.status.Status.{Status}
 use Rattle.copymgr.specs.Statuses.{status_of}
@@ -16,27 +16,28 @@ use Rattle.copymgr.specs.Orders.{AreRounds, gen_words}
 use Rattle.std.specs.Prelude.{slice_index_or}
 use Rattle.std.proofs.lemmas.Fmt.{decimal_injective}
 use Rattle.copymgr.specs.Told.{summary_text}
-use Rattle.copymgr.specs.Generating.{IsAnswerOf, IsTold, IsPushed, IsPushedSo, IsWriteCounted, HasGenerated}
+use Rattle.copymgr.specs.inner.Generating.{IsAnswerOf, IsPushed, IsPushedSo}
+use Rattle.copymgr.specs.Generating.{IsTold, IsWriteCounted, HasGenerated}
 use Rattle.copymgr.proofs.EndsWell.{EndsWell}
 
 -- what a replay says of the bytes that it played
-record Says (bytes : List ℕ) (marks : List Mark) (pushed : List ℕ) (answer : Result Summary ReplayFault) : Type 0 where
-  allowed : IsTrue (may_mark step bytes marks)
-  ending : IsAnswer (played step bytes marks) pushed answer
-  complete : IsCompleteBy (played step bytes []) (played step bytes marks) pushed answer
+record Says (bytes : List ℕ) (shortages : List Shortage) (pushed : List ℕ) (answer : Result Summary ReplayFault) : Type 0 where
+  allowed : IsTrue (may_lack step bytes shortages)
+  ending : IsAnswer (played step bytes shortages) pushed answer
+  complete : IsCompleteBy (played step bytes []) (played step bytes shortages) pushed answer
 
 -- every generated trace ends well
 abbrev pub AllEndWell : ℕ → Type 0
-AllEndWell rounds = (marks : List Mark) → EndsWell (played step (generated rounds) marks).ending
+AllEndWell rounds = (shortages : List Shortage) → EndsWell (played step (generated rounds) shortages).ending
 
 no-fault : Faulted 0 0 → ⊥
 no-fault (inl more) = omega (arith, more)
 no-fault (inr full) = omega (arith, full.0)
 
-says : (rounds : ℕ) (marks : List Mark) (pushed : List ℕ) (answer : Result Summary ReplayFault)
-    → AllEndWell rounds → Says (generated rounds) marks pushed answer → IsCounted 0 0 0 0 answer → IsAnswerOf rounds answer
-says rounds marks pushed (Ok summary) well s counted = (
-  marks,
+says : (rounds : ℕ) (shortages : List Shortage) (pushed : List ℕ) (answer : Result Summary ReplayFault)
+    → AllEndWell rounds → Says (generated rounds) shortages pushed answer → IsCounted 0 0 0 0 answer → IsAnswerOf rounds answer
+says rounds shortages pushed (Ok summary) well s counted = (
+  shortages,
   record {
     allowed = s.allowed;
     ends = s.ending.0.0;
@@ -44,44 +45,44 @@ says rounds marks pushed (Ok summary) well s counted = (
   },
   s.ending.1,
 )
-says rounds marks pushed (Err ReplayFault.ReadFault) well s counted = no-fault counted.0
-says rounds marks pushed (Err ReplayFault.WriteFault) well s counted = no-fault counted.1
-says rounds marks pushed (Err ReplayFault.OutOfMemory) well s counted = tt
-says rounds marks pushed (Err (ReplayFault.Torn place)) well s counted = subst EndsWell s.ending.0 (well marks)
-says rounds marks pushed (Err (ReplayFault.BadHeader place)) well s counted = subst EndsWell s.ending.0 (well marks)
-says rounds marks pushed (Err (ReplayFault.BadRecord place)) well s counted = (
-  marks,
+says rounds shortages pushed (Err ReplayFault.ReadFault) well s counted = no-fault counted.0
+says rounds shortages pushed (Err ReplayFault.WriteFault) well s counted = no-fault counted.1
+says rounds shortages pushed (Err ReplayFault.OutOfMemory) well s counted = tt
+says rounds shortages pushed (Err (ReplayFault.Torn place)) well s counted = subst EndsWell s.ending.0 (well shortages)
+says rounds shortages pushed (Err (ReplayFault.BadHeader place)) well s counted = subst EndsWell s.ending.0 (well shortages)
+says rounds shortages pushed (Err (ReplayFault.BadRecord place)) well s counted = (
+  shortages,
   record {
     allowed = s.allowed;
     ends = s.ending.0;
     shown = elim s.complete [ inl a ↦ inl (a.0, tt) | inr w ↦ inr w ];
   },
 )
-says rounds marks pushed (Err ReplayFault.Records) well s counted = subst EndsWell s.ending.0 (well marks)
+says rounds shortages pushed (Err ReplayFault.Records) well s counted = subst EndsWell s.ending.0 (well shortages)
 
 -- the bytes that were played are those that the source had
 of-all : (left rest taken given : Option (List ℕ)) (rounds : ℕ) (answer : Result Summary ReplayFault) (r : Replayed step left rest taken given answer)
-    → left ≡ Some (generated rounds) → IfSome left (λ all. r.bytes ≡ all) → Says (generated rounds) r.marks r.pushed answer
+    → left ≡ Some (generated rounds) → IfSome left (λ all. r.bytes ≡ all) → Says (generated rounds) r.shortages r.pushed answer
 of-all left rest taken given rounds answer r is same =
     let bytes : r.bytes ≡ generated rounds = subst (λ l. IfSome l (λ all. r.bytes ≡ all)) is same in
-    subst (λ l. Says l r.marks r.pushed answer) bytes (record { allowed = r.allowed; ending = r.ending; complete = r.complete })
+    subst (λ l. Says l r.shortages r.pushed answer) bytes (record { allowed = r.allowed; ending = r.ending; complete = r.complete })
 
 pub answered : (left rest taken given : Option (List ℕ)) (rounds : ℕ) (answer : Result Summary ReplayFault)
     → AllEndWell rounds → left ≡ Some (generated rounds) → Replayed step left rest taken given answer → IsCounted 0 0 0 0 answer
     → IsAnswerOf rounds answer
 answered left rest taken given rounds (Ok summary) well is r counted =
-    says rounds r.marks r.pushed (Ok summary) well (of-all left rest taken given rounds (Ok summary) r is r.input) counted
+    says rounds r.shortages r.pushed (Ok summary) well (of-all left rest taken given rounds (Ok summary) r is r.input) counted
 answered left rest taken given rounds (Err ReplayFault.ReadFault) well is r counted = no-fault counted.0
 answered left rest taken given rounds (Err ReplayFault.WriteFault) well is r counted = no-fault counted.1
 answered left rest taken given rounds (Err ReplayFault.OutOfMemory) well is r counted = tt
 answered left rest taken given rounds (Err (ReplayFault.Torn place)) well is r counted =
-    says rounds r.marks r.pushed (Err (ReplayFault.Torn place)) well (of-all left rest taken given rounds (Err (ReplayFault.Torn place)) r is r.input) counted
+    says rounds r.shortages r.pushed (Err (ReplayFault.Torn place)) well (of-all left rest taken given rounds (Err (ReplayFault.Torn place)) r is r.input) counted
 answered left rest taken given rounds (Err (ReplayFault.BadHeader place)) well is r counted =
-    says rounds r.marks r.pushed (Err (ReplayFault.BadHeader place)) well (of-all left rest taken given rounds (Err (ReplayFault.BadHeader place)) r is r.input) counted
+    says rounds r.shortages r.pushed (Err (ReplayFault.BadHeader place)) well (of-all left rest taken given rounds (Err (ReplayFault.BadHeader place)) r is r.input) counted
 answered left rest taken given rounds (Err (ReplayFault.BadRecord place)) well is r counted =
-    says rounds r.marks r.pushed (Err (ReplayFault.BadRecord place)) well (of-all left rest taken given rounds (Err (ReplayFault.BadRecord place)) r is r.input) counted
+    says rounds r.shortages r.pushed (Err (ReplayFault.BadRecord place)) well (of-all left rest taken given rounds (Err (ReplayFault.BadRecord place)) r is r.input) counted
 answered left rest taken given rounds (Err ReplayFault.Records) well is r counted =
-    says rounds r.marks r.pushed (Err ReplayFault.Records) well (of-all left rest taken given rounds (Err ReplayFault.Records) r is r.input) counted
+    says rounds r.shortages r.pushed (Err ReplayFault.Records) well (of-all left rest taken given rounds (Err ReplayFault.Records) r is r.input) counted
 
 -- ---- what is told
 
