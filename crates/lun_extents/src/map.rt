@@ -98,12 +98,7 @@ fn rest_at(map: &Stored, blocks: u64, size: u32, block: u64) -> Result<Piece, Ou
 }
 
 /// Lets an extent begin at a block. Each block holds what it held, at `OutOfMemory` too.
-pub(crate) fn split(
-    map: &mut Stored,
-    blocks: u64,
-    size: u32,
-    block: u64,
-) -> Result<(), OutOfMemory>
+pub(crate) fn split(map: &mut Stored, blocks: u64, size: u32, block: u64) -> Result<(), OutOfMemory>
     requires extents { AreExtents blocks size map.old.entries }
     requires within { block ≤ blocks }
     ensures begins { OnOk result (IsSome (stored map.new.entries block)) }

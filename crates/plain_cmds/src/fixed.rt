@@ -74,7 +74,11 @@ pub(crate) fn read_capacity10(
 }
 
 /// A REPORT LUNS; SELECT REPORT is ignored.
-pub(crate) fn report_luns(alloc: Global, config: &Config, allocation: u32) -> Result<Command, OutOfMemory>
+pub(crate) fn report_luns(
+    alloc: Global,
+    config: &Config,
+    allocation: u32,
+) -> Result<Command, OutOfMemory>
     ensures program { IfOk result (λ c. rest_of by_phase config.now c ≡ good (take allocation (report_luns config.now))) }
     ensures sound { IfOk result (λ c. IsSoundAt IsSoundPhase config.now c) }
 {

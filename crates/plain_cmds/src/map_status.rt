@@ -45,7 +45,11 @@ fn status_data(alloc: Global, runs: &StatusList) -> Result<Bytes, OutOfMemory>
 }
 
 /// GOOD with the first `allocation` bytes of what is told of the runs.
-pub(crate) fn runs_told(alloc: Global, allocation: u32, runs: &StatusList) -> Result<Step, OutOfMemory>
+pub(crate) fn runs_told(
+    alloc: Global,
+    allocation: u32,
+    runs: &StatusList,
+) -> Result<Step, OutOfMemory>
     requires { AreTold runs.now }
     ensures told { IfOk result (λ s. s ≡ Step.Done (Reply.Good (take allocation (map_bytes runs.now)))) }
     ensures fits { IfOk result IsWritable }

@@ -109,7 +109,11 @@ impl Phase for PlainPhase {
             PlainPhase::Read { list } => blocks_told(alloc, list),
             PlainPhase::Writing { unit, lba, list } => write_asked(alloc, *unit, *lba, list),
             PlainPhase::Unmapping { unit, ranges } => unmap_asked(alloc, *unit, ranges),
-            PlainPhase::Mapping { unit, lba, allocation: _ } => Ok(Step::Do {
+            PlainPhase::Mapping {
+                unit,
+                lba,
+                allocation: _,
+            } => Ok(Step::Do {
                 unit: *unit,
                 act: Act::MapStatus { lba: *lba },
             }),
