@@ -5,7 +5,8 @@ use Rattle.byteorder.specs.Endian.{big_bytes}
 use Rattle.cm_base.specs.Configuration.{Configuration, IsUnit}
 use Rattle.cm_base.specs.Fields.{AreBytes, zeros}
 use Rattle.cm_base.specs.Units.{unit_name, unit_descriptor, unit_of}
-use Rattle.cm_base.proofs.PublicLaws.{spelled-below, bytes-from_places}
+use Rattle.cm_base.proofs.PublicLaws.{bytes-from_places}
+use Rattle.cm_base.proofs.FieldLaws.{spelled-below}
 use Rattle.cm_frame.specs.declared.item.TraceItem.{TraceItem}
 use Rattle.cm_frame.specs.Grammar.{data_limit, IsConfig, IsItem}
 use Rattle.lba_ranges.specs.declared.ranges.Range.{Range}

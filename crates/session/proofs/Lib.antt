@@ -1,0 +1,5 @@
+pub mod Events
+pub mod Going
+pub mod Hearing
+pub mod Turning
+pub mod Running
