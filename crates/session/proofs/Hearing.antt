@@ -12,7 +12,8 @@ use Rattle.session.specs.declared.end.SessionFault.{SessionFault}
 use Rattle.cm_base.specs.declared.input_buffer.FillFailed.{FillFailed}
 use Rattle.cm_frame.specs.Framing.{Framed, Ending, ends, led_by, framed, framed_from, frames_limit, with_request}
 use Rattle.session.specs.Spoken.{IsFront, EndsSo}
-use Rattle.session.specs.Talking.{with_all, IsHeard, IsHeardTo, IsWriteEnd, Hears, end_of, fault_from}
+use Rattle.session.specs.inner.Talking.{with_all, IsHeard, IsHeardTo, IsWriteEnd, Hears, end_of}
+use Rattle.session.specs.Talking.{fault_from}
 
 module _ (left : Option (List ℕ)) where
   -- nothing was pulled yet

@@ -1,5 +1,6 @@
 pub mod Events
-pub mod Going
+pub mod CommandSteps
 pub mod Hearing
 pub mod Turning
 pub mod Running
+pub mod Talking

@@ -16,13 +16,14 @@ use Rattle.cmd_program.specs.Running.{Call, outcome_of, called}
 use Rattle.cmd_program.specs.Judging.{step, program_after}
 use Rattle.cmd_machine.specs.declared.command.CommandOf.{CommandOf}
 use Rattle.any_cmds.specs.declared.phase.AnyPhase.{AnyPhase}
-use Rattle.cmd_machine.specs.Standing.{StandsFor}
+use Rattle.cmd_machine.specs.Rest.{StandsFor}
 use Rattle.any_cmds.specs.Meaning.{by_any}
 use Rattle.cmd_program.specs.Exchanges.{Event, Asked, outcomes_of, calls_in}
 use Rattle.cmd_program.specs.Short.{IsShort}
-use Rattle.session.specs.Talking.{IsGoing, Goes, HasNext, HasAsked, HasReplied}
+use Rattle.session.specs.inner.Talking.{IsGoing, Goes, HasNext, HasReplied}
+use Rattle.session.proofs.Talking.{HasAsked}
 use Rattle.session.proofs.Events.{outcomes-more, calls-more, caused-more, program-more}
-use Rattle.cmd_program.proofs.ShortSteps.{OneLess, short-act}
+use Rattle.cmd_program.proofs.PublicLaws.{OneLess, short-act}
 
 -- nothing was asked yet
 pub goes-first : (config : Configuration) (nexus : ℕ) (request : Request) (command : CommandOf AnyPhase) → StandsFor by_any config command nexus request []

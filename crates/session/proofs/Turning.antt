@@ -23,7 +23,7 @@ use Rattle.cm_frame.specs.Framing.{frames_limit}
 use Rattle.cmd_program.specs.Exchanges.{Exchange, IsExchange, requests_of, calls_in, calls_of, replies_of}
 use Rattle.session.specs.Spoken.{ArePushed, whole_in, Spoken, IsCounted}
 use Rattle.session.proofs.Hearing.{heard-first}
-use Rattle.session.specs.Talking.{IsHeard, IsHeardTo, HasReplied, IsAt, IsWriteEnd, ended, fault_of}
+use Rattle.session.specs.inner.Talking.{IsHeard, IsHeardTo, HasReplied, IsAt, IsWriteEnd, ended, fault_of}
 
 -- ---- replies that are whole
 

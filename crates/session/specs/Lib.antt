@@ -1,2 +1,3 @@
 pub mod Spoken
 pub mod Talking
+pub mod inner

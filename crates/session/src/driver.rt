@@ -5,9 +5,9 @@ ghost use Rattle.cmd_program.specs.Judging.{program, program_after};
 ghost use Rattle.cmd_program.specs.Running.{Call, outcome_of};
 ghost use Rattle.cmd_program.specs.Exchanges.{Event, outcomes_of};
 ghost use Rattle.cmd_program.specs.Short.{IsShort, acts_limit};
-ghost use Rattle.cmd_machine.specs.Standing.{StandsFor, IsSoundAt};
+ghost use Rattle.cmd_machine.specs.Rest.{StandsFor, IsSoundAt};
 ghost use Rattle.any_cmds.specs.Meaning.{by_any, IsSoundAny};
-ghost use Rattle.session.specs.Talking.{IsGoing, Goes, HasNext, HasReplied};
+ghost use Rattle.session.specs.inner.Talking.{IsGoing, Goes, HasNext, HasReplied};
 
 use any_cmds::{AnyCommand, begin_any};
 use cm_base::{Clock, Config, OutOfMemory};

@@ -10,7 +10,7 @@ ghost use Rattle.cm_base.specs.Sides.{IsCut};
 ghost use Rattle.cm_frame.specs.Framing.{frames_limit};
 ghost use Rattle.session.specs.Spoken.{Spoken};
 ghost use Rattle.cmd_program.specs.Short.{AreShort};
-ghost use Rattle.session.specs.Talking.{IsHeard, IsHeardTo, Hears, IsAt, HasTurned, IsCountedBy, ended, fault_of, IsWriteEnd, end_of};
+ghost use Rattle.session.specs.inner.Talking.{IsHeard, IsHeardTo, Hears, IsAt, HasTurned, IsCountedBy, ended, fault_of, IsWriteEnd, end_of};
 
 use crate::driver::answer;
 use crate::end::SessionFault;

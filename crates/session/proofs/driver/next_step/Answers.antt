@@ -2,7 +2,7 @@ use Rattle.std.proofs.Common.{◌++◌, ◌∷◌, []}
 use Rattle.cmd_program.specs.declared.step.Outcome.{Outcome}
 use Rattle.cmd_program.specs.Judging.{step}
 use Rattle.cmd_program.specs.Exchanges.{outcomes_of}
-use Rattle.session.proofs.Going.{none-follows, gave-up-none, not-true, next-there, next-wanted}
+use Rattle.session.proofs.CommandSteps.{none-follows, gave-up-none, not-true, next-there, next-wanted}
 use Rattle.session.proofs.driver.next_step.Goals as goal
 
 pub note-requires-clause-notable : goal.note-requires-clause-notable

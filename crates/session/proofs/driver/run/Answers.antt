@@ -6,9 +6,9 @@ use Rattle.cmd_program.specs.Running.{Call, outcome_of}
 use Rattle.cmd_program.specs.Meaning.{MayFollow}
 use Rattle.cmd_program.specs.Judging.{step}
 use Rattle.cmd_program.specs.Exchanges.{outcomes_of, calls_in}
-use Rattle.cmd_machine.specs.Standing.{StandsFor}
+use Rattle.cmd_machine.specs.Rest.{StandsFor}
 use Rattle.any_cmds.specs.Meaning.{by_any}
-use Rattle.session.specs.Talking.{HasNext}
+use Rattle.session.specs.inner.Talking.{HasNext}
 use Rattle.session.proofs.Running.{goes-first, has-replied, some-left, follows-found, goes-on, asks-on}
 use Rattle.session.proofs.driver.run.Goals as goal
 

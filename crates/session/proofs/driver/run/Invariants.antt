@@ -2,10 +2,11 @@ use Rattle.std.proofs.Common.{◌≡◌, List, []}
 use Rattle.cm_frame.specs.declared.frame.Request.{Request}
 use Rattle.cmd_program.specs.Running.{Call}
 use Rattle.cmd_program.specs.Judging.{program}
-use Rattle.cmd_machine.specs.Standing.{StandsFor, IsSoundAt}
+use Rattle.cmd_machine.specs.Rest.{StandsFor, IsSoundAt}
 use Rattle.any_cmds.specs.Meaning.{by_any, IsSoundAny}
 use Rattle.cmd_program.specs.Short.{IsShort, acts_limit}
-use Rattle.session.specs.Talking.{Goes, HasAsked}
+use Rattle.session.specs.inner.Talking.{Goes}
+use Rattle.session.proofs.Talking.{HasAsked}
 use Rattle.session.proofs.driver.run.Given as goal
 
 abbrev pub invariant-acts : goal.invariant-acts

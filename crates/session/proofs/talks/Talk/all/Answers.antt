@@ -5,7 +5,7 @@ use Rattle.cm_base.specs.Sides.{Side}
 use Rattle.cm_frame.specs.Framing.{frames_limit}
 use Rattle.cmd_program.specs.Exchanges.{requests_of}
 use Rattle.session.specs.Spoken.{Spoken}
-use Rattle.session.specs.Talking.{IsAt, IsHeard, HasTurned, IsCountedBy, ended}
+use Rattle.session.specs.inner.Talking.{IsAt, IsHeard, HasTurned, IsCountedBy, ended}
 use Rattle.session.proofs.Turning.{ends-here, same-spoken}
 use Rattle.session.proofs.talks.Talk.all.Goals as goal
 

@@ -2,7 +2,7 @@ use Rattle.std.proofs.Common.{◌≡◌, ◌≤◌, ◌-◌, List}
 use Rattle.std.specs.Prelude.{ℕ, Option}
 use Rattle.cmd_program.specs.Running.{Call}
 use Rattle.cm_frame.specs.Framing.{frames_limit}
-use Rattle.session.specs.Talking.{IsAt}
+use Rattle.session.specs.inner.Talking.{IsAt}
 use Rattle.session.proofs.talks.Talk.all.Given as goal
 
 abbrev pub invariant-turns : goal.invariant-turns

@@ -4,7 +4,7 @@ use Rattle.cm_frame.specs.Reading.{read_request}
 use Rattle.session.specs.declared.end.SessionFault.{SessionFault}
 use Rattle.cm_frame.specs.Framing.{frames_limit}
 use Rattle.cm_frame.specs.Taking.{Takes}
-use Rattle.session.specs.Talking.{IsHeard, Hears}
+use Rattle.session.specs.inner.Talking.{IsHeard, Hears}
 use Rattle.session.proofs.Hearing.{heard-front, heard-one, heard-bad, heard-more, hears-filling, hears-ended, none-came}
 use Rattle.session.proofs.talks.Talk.next.Goals as goal
 

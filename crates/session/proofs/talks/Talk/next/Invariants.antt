@@ -2,7 +2,7 @@ use Rattle.std.proofs.Common.{◌≡◌, ◌-◌, List, length}
 use Rattle.std.specs.Prelude.{ℕ, Option}
 use Rattle.cm_frame.specs.declared.frame.Request.{Request}
 use Rattle.cm_frame.specs.Framing.{frames_limit}
-use Rattle.session.specs.Talking.{IsHeard}
+use Rattle.session.specs.inner.Talking.{IsHeard}
 use Rattle.session.proofs.talks.Talk.next.Given as goal
 
 abbrev pub invariant-pulls : goal.invariant-pulls

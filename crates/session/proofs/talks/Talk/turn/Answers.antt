@@ -7,7 +7,7 @@ use Rattle.cm_frame.specs.Framing.{frames_limit}
 use Rattle.cm_frame.specs.Grammar.{reply_bytes}
 use Rattle.session.specs.Spoken.{IsCounted}
 use Rattle.cmd_program.specs.Exchanges.{requests_of, calls_of}
-use Rattle.session.specs.Talking.{IsHeard, Hears, IsAt}
+use Rattle.session.specs.inner.Talking.{IsHeard, Hears, IsAt}
 use Rattle.session.proofs.Hearing.{heard-front}
 use Rattle.session.proofs.Turning.{ends-here, same-spoken, at-more, ends-cut, same-writes, same-reads}
 use Rattle.session.proofs.talks.Talk.turn.Goals as goal

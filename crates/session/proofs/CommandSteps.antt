@@ -10,13 +10,13 @@ use Rattle.cmd_program.specs.Meaning.{MayFollow}
 use Rattle.cmd_program.specs.Judging.{step, program_after}
 use Rattle.cmd_machine.specs.declared.command.CommandOf.{CommandOf}
 use Rattle.any_cmds.specs.declared.phase.AnyPhase.{AnyPhase}
-use Rattle.cmd_machine.specs.Standing.{StandsFor}
+use Rattle.cmd_machine.specs.Rest.{StandsFor}
 use Rattle.any_cmds.specs.Meaning.{by_any}
 use Rattle.cmd_program.specs.Exchanges.{Event, Wanted, outcomes_of, calls_in}
 use Rattle.cmd_program.specs.Short.{IsShort}
-use Rattle.session.specs.Talking.{IsGoing, HasNext}
+use Rattle.session.specs.inner.Talking.{IsGoing, HasNext}
 use Rattle.session.proofs.Events.{outcomes-more, calls-more, caused-more, program-more}
-use Rattle.cmd_program.proofs.ShortSteps.{short-want}
+use Rattle.cmd_program.proofs.PublicLaws.{short-want}
 
 pub none-follows : (config : Configuration) (s : Step) → MayFollow config s Outcome.NoMemory
 none-follows config (Step.Do unit act) = tt
