@@ -7,7 +7,7 @@ use Rattle.scsi_sense.specs.SenseCode.{SenseCode}
 use Rattle.cm_base.specs.Configuration.{Configuration}
 use Rattle.cm_base.specs.Units.{unit_of}
 use Rattle.rod_token.specs.TokenText.{token_text, serial_of}
-use Rattle.cm_history.specs.Senses as senses
+use Rattle.scsi_sense.specs.Codes as senses
 use Rattle.cm_history.specs.Redeeming.{are_alike}
 use Rattle.rod_store.specs.declared.kept.Kept.{Kept}
 use Rattle.rod_store.specs.declared.kept.TokenState.{TokenState}
@@ -27,13 +27,13 @@ module _ {T : Type 0} where
       kept : Kept T
       kept = record { serial = serial; blocks = blocks; state = Live timeout last_use v }
 
-      go : (o : Bool) → (if o then Err senses.expired else Ok v) ≡ Ok value → IsSome (value_of (if o then record kept { state = Expired } else kept).state)
+      go : (o : Bool) → (if o then Err senses.token_expired else Ok v) ≡ Ok value → IsSome (value_of (if o then record kept { state = Expired } else kept).state)
       go true e = cc
       go false e = refl
 
   -- where the unit and the text are right, the answer is by where the token stands
   by-state : (a b : Bool) (r : Result T SenseCode) (value : T)
-      → (if not a then Err senses.wrong_unit else if not b then Err senses.altered else r) ≡ Ok value → r ≡ Ok value
+      → (if not a then Err senses.remote_token_usage_not_supported else if not b then Err senses.token_corrupt else r) ≡ Ok value → r ≡ Ok value
   by-state false b r value e = cc
   by-state true false r value e = cc
   by-state true true r value e = e

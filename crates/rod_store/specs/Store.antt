@@ -8,5 +8,3 @@ pub record Store (T : Type 0) : Type 0 where
   pub tokens : List (Kept T)
   -- so many more find room
   pub spare : ℕ
-
-module _ {T : Type 0} where
