@@ -106,7 +106,7 @@ older-kept unit a b x y =
 
 -- a live token makes room in the store exactly where it does in the past
 room-kept : (unit : UnitConfig) (now : ℕ) (ts : List Token) (t : Token) → is_live_at now t ≡ true
-    → store.makes_room (store.expired now (map (kept_of unit) ts)) (kept_of unit t) ≡ gives_way now ts t
+    → store.gives_way (store.expired now (map (kept_of unit) ts)) (kept_of unit t) ≡ gives_way now ts t
 room-kept unit now ts t e =
     let lives : is_live t.fate ≡ true = and_first (is_live t.fate) (not (is_over now t)) e in
     let all = live-kept unit now ts in
