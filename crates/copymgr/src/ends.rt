@@ -1,4 +1,5 @@
 ghost use Rattle.std.specs.Prelude.{◌≡◌, ◌≤◌, length, drop, Some, None};
+ghost use Rattle.cm_base.specs.Sides.{no_side};
 
 use cm_base::{Bytes, ReadFailed, Sink, Source, WriteFailed};
 use std::marker::Model;
@@ -34,6 +35,8 @@ impl Source for AtHand {
 
     ghost read_faults = { λ _. 0 };
 
+    ghost unpulled = { λ _. no_side };
+
     fn pull(&mut self, into: &mut [u8]) -> Result<usize, ReadFailed> {
         let count = into.len().min(self.bytes.len() - self.at);
         let next = &self.bytes.as_slice()[self.at..self.at + count];
@@ -51,6 +54,8 @@ impl Sink for Dropped {
     ghost taken = { λ _. None };
 
     ghost write_faults = { λ _. 0 };
+
+    ghost unpushed = { λ _. no_side };
 
     fn push(&mut self, from: &[u8]) -> Result<usize, WriteFailed> {
         Ok(from.len())
