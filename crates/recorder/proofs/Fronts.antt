@@ -1,6 +1,7 @@
 -- The group at the front of a list
-use Rattle.std.proofs.Common.{◌≡◌, ◌≢◌, ℕ, zero, suc, ◌+◌, ◌*◌, ◌-◌, ◌<◌, ◌≤◌, List, [], ◌∷◌, ◌++◌, length, take, drop, refl, ap, sym, ◌∙◌, subst, arith, true, false, Bool, append_assoc, append-nil, length-drop}
-use Rattle.std.specs.Prelude.{Some, None, is_some, replicate}
+use Rattle.std.proofs.Common.{◌≡◌, ◌≢◌, ℕ, zero, suc, ◌+◌, ◌*◌, ◌-◌, ◌<◌, ◌≤◌, List, [], ◌∷◌, ◌++◌, length, take, drop, refl, ap, sym, ◌∙◌, subst, arith, true, false, Bool, append_assoc, append-nil, length-drop, inl, inr}
+use Rattle.std.specs.Prelude.{◌⊎◌, Some, None, is_some, replicate}
+use Rattle.std.proofs.lemmas.Bool.{cases_lt}
 use Rattle.std.specs.List.{slice_range}
 use Rattle.std.proofs.Math.Seq.{take-add}
 use Rattle.std.proofs.lemmas.List.{drop-drop, take-append-drop, nil_from_length}
@@ -8,7 +9,7 @@ use Rattle.lba_ranges.specs.declared.fill.Fill.{Fill}
 use Rattle.lba_ranges.specs.HeldBlocks.{held_at, filled, cut, IsFull}
 use Rattle.lba_ranges.specs.Writings.{Held}
 use Rattle.recorder.specs.Text.{Group, with_hole, with_data, groups_of}
-use Rattle.recorder.specs.Grouping.{held_bytes, fill_bytes, group_in}
+use Rattle.recorder.specs.Grouping.{held_bytes, fill_bytes, group_in, is_held}
 
 -- so many blocks of one kind
 abbrev pub kind_group : Bool → ℕ → List ℕ → Group
@@ -109,6 +110,43 @@ group-here items from end some within alike stop =
     let told : groups_of (drop from items) ≡ kind_group m (end - from) (held_bytes (take (end - from) (drop from items))) ∷ groups_of (drop (end - from) (drop from items)) =
     subst (λ j. groups_of (drop from items) ≡ kind_group m j (held_bytes (take j (drop from items))) ∷ groups_of (drop j (drop from items))) count is in
     told ∙ ap (λ l. group_in items from end ∷ groups_of l) (drop-drop (end - from) from items ∙ ap (λ k. drop k items) last)
+
+-- ---- the blocks of a run are of one kind
+
+filled-kind : (size n : ℕ) (f : Fill) (j : ℕ) → j < n → is_some (held_at (filled size n f) j) ≡ is_held f
+filled-kind size zero f j low = absurd (omega (arith, low))
+filled-kind size (suc n) Fill.Hole zero low = refl
+filled-kind size (suc n) Fill.Hole (suc j) low = filled-kind size n Fill.Hole j (omega (arith, low))
+filled-kind size (suc n) (Fill.Bytes bytes) zero low = refl
+filled-kind size (suc n) (Fill.Bytes bytes) (suc j) low = filled-kind size n (Fill.Bytes (drop size bytes)) j (omega (arith, low))
+
+held_at-take : (n : ℕ) (xs : List Held) (j : ℕ) → j < n → held_at (take n xs) j ≡ held_at xs j
+held_at-take zero xs j low = absurd (omega (arith, low))
+held_at-take (suc n) [] j low = refl
+held_at-take (suc n) (x ∷ xs) zero low = refl
+held_at-take (suc n) (x ∷ xs) (suc j) low = held_at-take n xs j (omega (arith, low))
+
+run-kind : (items : List Held) (from size n : ℕ) (f : Fill) (k : ℕ) → filled size n f ≡ slice_range items from (from + n) → from ≤ k → k < from + n → is_some (held_at items k) ≡ is_held f
+run-kind items from size n f k is low high =
+    let count : from + n - from ≡ n = omega arith in
+    let place : from + (k - from) ≡ k = omega (arith, low) in
+    let near : k - from < n = omega (arith, low, high) in
+    let cut_is : filled size n f ≡ take n (drop from items) = is ∙ ap (λ m. take m (drop from items)) count in
+    ap is_some
+    (ap (held_at items) (sym place) ∙ sym (held_at-drop from items (k - from)) ∙ sym (held_at-take n (drop from items) (k - from) near) ∙ ap (λ l. held_at l (k - from)) (sym cut_is))
+    ∙ filled-kind size n f (k - from) near
+
+pub run-alike : (items : List Held) (from size n : ℕ) (f : Fill) (k : ℕ) → filled size n f ≡ slice_range items from (from + n) → 0 < n → from ≤ k → k < from + n
+    → is_some (held_at items k) ≡ is_some (held_at items from)
+run-alike items from size n f k is some low high =
+    run-kind items from size n f k is low high ∙ sym (run-kind items from size n f from is (omega arith) (omega (arith, some)))
+
+pub apart : (from end : ℕ) (f : ℕ → Bool) → from ≤ end → f end ≢ f from → from < end
+apart from end f order other = go (cases_lt from end)
+  where
+    go : (from < end) ⊎ (end ≤ from) → from < end
+    go (inl low) = low
+    go (inr high) = absurd (other (ap f (omega (arith, order, high))))
 
 -- ---- the bytes of mapped blocks
 

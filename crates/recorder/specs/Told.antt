@@ -1,9 +1,9 @@
 -- What a recorder over a sink has recorded: the entries that the sink's bytes spell
-use Rattle.std.specs.Prelude.{◌≡◌, ℕ, zero, suc, ◌-◌, List, [], ◌∷◌, length, take, drop, Option, Some, None, option_map}
+use Rattle.std.specs.Prelude.{◌≡◌, ℕ, zero, suc, ◌-◌, List, [], ◌∷◌, ◌++◌, length, take, drop, flat_map, All, Option, Some, None, option_map}
 use Rattle.cm_base.specs.declared.parsed.Parsed.{Parsed}
-use Rattle.cm_base.specs.declared.parsed.Parsed.TheVariants.{Whole}
+use Rattle.cm_base.specs.declared.parsed.Parsed.TheVariants.{Whole, Short}
 use Rattle.cm_history.specs.declared.act.Entry.{Entry}
-use Rattle.recorder.specs.Text.{entry_bytes}
+use Rattle.recorder.specs.Text.{entry_bytes, IsEntry}
 use Rattle.recorder.specs.Reading.{read_entry}
 
 abbrev pub entries_from : Parsed Entry → (ℕ → List Entry) → List Entry
@@ -27,3 +27,21 @@ recorded_in taken = option_map entries_in taken
 abbrev pub FitsBehind : Option (List ℕ) → ℕ → Entry → Type 0
 FitsBehind None done e = Unit {0}
 FitsBehind (Some taken) done e = drop (length taken - done) taken ≡ take done (entry_bytes e)
+
+-- a recorder over a sink: the sink, and how many bytes it took of an entry that it did not take whole
+pub record Sinking (S : Type 0) : Type 0 where
+  pub sink : S
+  pub done : ℕ
+
+-- the texts of some entries, and the first `done` bytes of one more
+pub record IsSpelled (taken : List ℕ) (done : ℕ) : Type 0 where
+  pub entries : List Entry
+  pub front : List ℕ
+  pub fit : All IsEntry entries
+  pub parts : flat_map entry_bytes entries ++ front ≡ taken
+  pub count : length front ≡ done
+  pub short : read_entry front ≡ Short
+
+abbrev pub HasSpelled : Option (List ℕ) → ℕ → Type 0
+HasSpelled None done = Unit {0}
+HasSpelled (Some taken) done = IsSpelled taken done

@@ -2,7 +2,7 @@ ghost use Rattle.std.specs.Prelude.{◌≡◌, [], true, Some};
 ghost use Rattle.cm_history.specs.declared.act.Entry.{Entry};
 
 use crate::recording::{RecordRefused, Recorder};
-use cm_base::CallList;
+use cm_base::{CallList, Sequence};
 use cm_history::Entry;
 use std::alloc::Global;
 use std::marker::Model;
@@ -12,7 +12,7 @@ use std::marker::Model;
 #[derive(Drop)]
 pub struct MemoryRecorder {
     alloc: Global,
-    entries: Vec<Entry>,
+    entries: Sequence<Entry>,
     failing: CallList,
     calls: u64,
     faults: u64,
@@ -23,7 +23,7 @@ impl Model for MemoryRecorder {
 
     ghost Value = { Recorded };
 
-    ghost view = { λ r. record { entries = r.entries.items; failing = r.failing; calls = r.calls; faults = r.faults } };
+    ghost view = { λ r. record { entries = r.entries; failing = r.failing; calls = r.calls; faults = r.faults } };
 }
 
 impl MemoryRecorder {
@@ -35,7 +35,7 @@ impl MemoryRecorder {
     {
         MemoryRecorder {
             alloc,
-            entries: Vec::new(alloc),
+            entries: Sequence::empty(alloc),
             failing,
             calls: 0,
             faults: 0,
@@ -46,7 +46,7 @@ impl MemoryRecorder {
     pub fn entries(&self) -> &[Entry]
         ensures { result.now ≡ self.now.entries }
     {
-        &self.entries
+        self.entries.as_slice()
     }
 }
 
@@ -69,13 +69,7 @@ impl Recorder for MemoryRecorder {
             self.faults = self.faults.saturating_add(1);
             return Err(RecordRefused::Failed);
         }
-        let copy = match entry.copy(self.alloc) {
-            Ok(copy) => copy,
-            Err(_) => return Err(RecordRefused::OutOfMemory),
-        };
-        match self.entries.push(copy) {
-            Ok(()) => Ok(()),
-            Err(_) => Err(RecordRefused::OutOfMemory),
-        }
+        let copy = entry.copy(self.alloc)?;
+        Ok(self.entries.push(copy)?)
     }
 }

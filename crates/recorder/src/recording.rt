@@ -3,6 +3,7 @@ ghost use Rattle.recorder.specs.declared.recording.RecordRefused.{RecordRefused}
 ghost use Rattle.recorder.specs.Recording.{with_more, Rose};
 ghost use Rattle.recorder.specs.Text.{HasShortLists};
 
+use cm_base::{OutOfMemory, WriteFailed};
 use cm_history::Entry;
 
 /// Why an entry was not recorded.
@@ -14,6 +15,26 @@ pub enum RecordRefused {
     Failed,
     /// There is no recorder: it is refused each time.
     Absent,
+}
+
+impl From<OutOfMemory> for RecordRefused {
+    ghost use Rattle.recorder.specs.declared.recording.RecordRefused.{RecordRefused};
+
+    ghost from_gives = { λ _ e. e ≡ RecordRefused.OutOfMemory };
+
+    fn from(_: OutOfMemory) -> RecordRefused {
+        RecordRefused::OutOfMemory
+    }
+}
+
+impl From<WriteFailed> for RecordRefused {
+    ghost use Rattle.recorder.specs.declared.recording.RecordRefused.{RecordRefused};
+
+    ghost from_gives = { λ _ e. e ≡ RecordRefused.Failed };
+
+    fn from(_: WriteFailed) -> RecordRefused {
+        RecordRefused::Failed
+    }
 }
 
 /// Where the first entries of a record go.

@@ -7,23 +7,19 @@ ghost use Rattle.cm_history.specs.declared.act.Act.{Act};
 ghost use Rattle.cm_base.specs.declared.parsed.Parsed.TheVariants.{Whole};
 
 use crate::groups::write_blocks;
+use crate::text::Text;
 use cm_base::{Bytes, OutOfMemory, set_u16, set_u32, set_u64};
 use cm_history::{Act, Actor, CopyEnd, CopyState, Entry, TokenText};
 use lba_ranges::{BlockList, Range, RangeList};
 use std::alloc::Global;
 
-/// Each is the number of a byte.
-fn bytes_law(_bytes: &[u8])
-    ensures { AreBytes _bytes.now }
-{}
-
-fn write_u8(into: &mut Bytes, number: u8) -> Result<(), OutOfMemory>
+fn write_u8(into: &mut Text, number: u8) -> Result<(), OutOfMemory>
     ensures { OnOk result (into.new ≡ into.old ++ number ∷ []) }
 {
-    into.push(number)
+    into.extend(&[number])
 }
 
-fn write_u16(into: &mut Bytes, number: u16) -> Result<(), OutOfMemory>
+fn write_u16(into: &mut Text, number: u16) -> Result<(), OutOfMemory>
     ensures { OnOk result (into.new ≡ into.old ++ big_bytes 2 number) }
 {
     let mut bytes = [0; 2];
@@ -31,7 +27,7 @@ fn write_u16(into: &mut Bytes, number: u16) -> Result<(), OutOfMemory>
     into.extend(&bytes)
 }
 
-fn write_u32(into: &mut Bytes, number: u32) -> Result<(), OutOfMemory>
+fn write_u32(into: &mut Text, number: u32) -> Result<(), OutOfMemory>
     ensures { OnOk result (into.new ≡ into.old ++ big_bytes 4 number) }
 {
     let mut bytes = [0; 4];
@@ -39,7 +35,7 @@ fn write_u32(into: &mut Bytes, number: u32) -> Result<(), OutOfMemory>
     into.extend(&bytes)
 }
 
-fn write_u64(into: &mut Bytes, number: u64) -> Result<(), OutOfMemory>
+fn write_u64(into: &mut Text, number: u64) -> Result<(), OutOfMemory>
     ensures { OnOk result (into.new ≡ into.old ++ big_bytes 8 number) }
 {
     let mut bytes = [0; 8];
@@ -59,7 +55,7 @@ fn range_text(range: Range) -> [u8; 12]
 }
 
 /// Adds the number of ranges, and the ranges.
-fn write_ranges(into: &mut Bytes, ranges: &RangeList) -> Result<(), OutOfMemory>
+fn write_ranges(into: &mut Text, ranges: &RangeList) -> Result<(), OutOfMemory>
     ensures written { OnOk result (into.new ≡ into.old ++ ranges_bytes ranges.now) }
     ensures fits { OnOk result (FitRanges ranges.now) }
 {
@@ -71,14 +67,14 @@ fn write_ranges(into: &mut Bytes, ranges: &RangeList) -> Result<(), OutOfMemory>
 }
 
 /// Adds a LBA and a number of blocks.
-fn write_extent(into: &mut Bytes, lba: u64, count: u32) -> Result<(), OutOfMemory>
+fn write_extent(into: &mut Text, lba: u64, count: u32) -> Result<(), OutOfMemory>
     ensures { OnOk result (into.new ≡ into.old ++ (big_bytes 8 lba ++ big_bytes 4 count)) }
 {
     into.extend(&range_text(Range { lba, count }))
 }
 
 /// Adds a LBA and the blocks from it on.
-fn write_list(into: &mut Bytes, lba: u64, list: &BlockList) -> Result<(), OutOfMemory>
+fn write_list(into: &mut Text, lba: u64, list: &BlockList) -> Result<(), OutOfMemory>
     requires { length list.now.items ≤ block_limit }
     ensures written { OnOk result (into.new ≡ into.old ++ (big_bytes 8 lba ++ blocks_text list.now)) }
     ensures fits { OnOk result (AreBytes (blocks_text list.now) → FitBlocks list.now) }
@@ -88,7 +84,7 @@ fn write_list(into: &mut Bytes, lba: u64, list: &BlockList) -> Result<(), OutOfM
 }
 
 fn write_populate(
-    into: &mut Bytes,
+    into: &mut Text,
     id: u32,
     timeout: u32,
     ranges: &RangeList,
@@ -102,7 +98,7 @@ fn write_populate(
     write_ranges(into, ranges)
 }
 
-fn write_redeem(into: &mut Bytes, text: &TokenText, target: u16) -> Result<(), OutOfMemory>
+fn write_redeem(into: &mut Text, text: &TokenText, target: u16) -> Result<(), OutOfMemory>
     ensures written { OnOk result (into.new ≡ into.old ++ (text.now ++ big_bytes 2 target)) }
     ensures fits { (length text.now ≡ 512) × (target < 2 ^ 16) }
 {
@@ -111,7 +107,7 @@ fn write_redeem(into: &mut Bytes, text: &TokenText, target: u16) -> Result<(), O
 }
 
 fn write_start(
-    into: &mut Bytes,
+    into: &mut Text,
     id: u32,
     background: bool,
     ranges: &RangeList,
@@ -142,7 +138,7 @@ fn state_code(state: CopyState) -> u8
     }
 }
 
-fn write_close(into: &mut Bytes, id: u8, end: CopyEnd) -> Result<(), OutOfMemory>
+fn write_close(into: &mut Text, id: u8, end: CopyEnd) -> Result<(), OutOfMemory>
     ensures written { OnOk result (into.new ≡ into.old ++ id ∷ end_bytes end) }
     ensures fits { FitsAct (Act.Close id end) }
 {
@@ -181,7 +177,7 @@ fn act_code(act: &Act) -> u8
 }
 
 /// Adds the fields of an act, in their order and width.
-fn write_fields(into: &mut Bytes, act: &Act) -> Result<(), OutOfMemory>
+fn write_fields(into: &mut Text, act: &Act) -> Result<(), OutOfMemory>
     requires { HasShortLists act.now }
     ensures written { OnOk result (into.new ≡ into.old ++ act_fields act.now) }
     ensures fits { OnOk result (AreBytes (act_fields act.now) → FitsAct act.now) }
@@ -218,7 +214,7 @@ fn write_fields(into: &mut Bytes, act: &Act) -> Result<(), OutOfMemory>
 }
 
 /// Adds the kind of an actor, and its number in four bytes.
-fn write_actor(into: &mut Bytes, actor: Actor) -> Result<(), OutOfMemory>
+fn write_actor(into: &mut Text, actor: Actor) -> Result<(), OutOfMemory>
     ensures written { OnOk result (into.new ≡ into.old ++ actor_bytes actor) }
     ensures fits { FitsActor actor }
 {
@@ -243,7 +239,7 @@ fn act_head(seq: u64, moment: u64, code: u8) -> [u8; 17]
 }
 
 /// Adds the number of the actor's act, the moment, and the act.
-fn write_behind(into: &mut Bytes, entry: &Entry) -> Result<(), OutOfMemory>
+fn write_behind(into: &mut Text, entry: &Entry) -> Result<(), OutOfMemory>
     requires { HasShortLists entry.now.act }
     ensures written { OnOk result (into.new ≡ into.old ++ behind_actor entry.now) }
     ensures numbers { (entry.now.seq < 2 ^ 64) × (entry.now.moment < 2 ^ 64) }
@@ -252,6 +248,21 @@ fn write_behind(into: &mut Bytes, entry: &Entry) -> Result<(), OutOfMemory>
     let code = act_code(&entry.act);
     into.extend(&act_head(entry.seq, entry.moment, code))?;
     write_fields(into, &entry.act)
+}
+
+/// The text of an entry, in parts.
+pub(crate) fn entry_text(alloc: Global, entry: &Entry) -> Result<Text, OutOfMemory>
+    requires { HasShortLists entry.now.act }
+    ensures written { IfOk result (λ text. text ≡ entry_bytes entry.now) }
+    ensures fits { OnOk result (IsEntry entry.now) }
+{
+    let mut text = Text::empty(alloc);
+    write_u64(&mut text, entry.stamp)?;
+    write_u16(&mut text, entry.unit)?;
+    write_actor(&mut text, entry.actor)?;
+    write_behind(&mut text, entry)?;
+    text.sound();
+    Ok(text)
 }
 
 /// The text of an entry (own profile): stamp 8 bytes, unit 2, kind of the actor 1, its number 4, seq 8,
@@ -263,11 +274,7 @@ pub fn write_entry(alloc: Global, entry: &Entry) -> Result<Bytes, OutOfMemory>
     ensures fits { IfOk result (λ text. IsEntry entry.now) }
     ensures read_back { IfOk result (λ text. read_entry text ≡ Whole entry.now (length text)) }
 {
-    let mut text = Bytes::empty(alloc);
-    write_u64(&mut text, entry.stamp)?;
-    write_u16(&mut text, entry.unit)?;
-    write_actor(&mut text, entry.actor)?;
-    write_behind(&mut text, entry)?;
-    bytes_law(text.as_slice());
-    Ok(text)
+    let text = entry_text(alloc, entry)?;
+    let bytes = text.gathered(alloc)?;
+    Ok(bytes)
 }

@@ -6,7 +6,10 @@ use Rattle.recorder.proofs.groups.write_run.Goals as goal
 
 pub returns-clause-written : goal.returns-clause-written
 returns-clause-written c =
-    let run = c.in_ok-run.run' in
-    let held : fill_bytes run.fill ≡ held_bytes (slice_range c.args.list.now.items c.args.from (c.args.from + run.count)) =
-    sym (fill-held c.args.list.now.block_length run.count run.fill c.in_ok-run.ensures.full) ∙ ap held_bytes c.in_ok-run.ensures.items in
-    c.in_ok-write_fill.ensures ∙ ap (λ l. c.args.into.now ++ l) held
+    let items = c.args.list.now.items in
+    let from = c.args.from in
+    let run = c.in_ok-count.field-0 in
+    let held : fill_bytes run.fill ≡ held_bytes (slice_range items from (from + run.count)) =
+    sym (fill-held c.args.list.now.block_length run.count run.fill c.in_ok-count.ensures.full) ∙ ap held_bytes c.in_ok-count.ensures.items in
+    c.in_ok-write_fill.ensures
+    ∙ ap (λ l. c.args.into.now ++ l) held
