@@ -1,11 +1,10 @@
 -- A reader of ranges or of groups goes from one to the next
-use Rattle.std.proofs.Common.{◌≡◌, ℕ, zero, suc, List, [], ◌∷◌, ◌++◌, refl, ap, sym, ◌∙◌, subst, true, false, Bool, append_assoc, append-nil}
-use Rattle.std.specs.Prelude.{Option, Some, None}
+use Rattle.std.proofs.Common.{◌≡◌, ℕ, suc, List, [], ◌∷◌, ◌++◌, refl, ap, sym, ◌∙◌, subst, Bool, append_assoc, append-nil}
+use Rattle.std.specs.Prelude.{Option, Some}
 use Rattle.lba_ranges.specs.declared.ranges.Range.{Range}
 use Rattle.lba_ranges.specs.declared.fill.Fill.{Fill}
 use Rattle.lba_ranges.specs.HeldBlocks.{HeldBlocks, filled}
 use Rattle.lba_ranges.specs.Writings.{Held}
-use Rattle.cm_base.specs.declared.parsed.Parsed.{Parsed}
 use Rattle.recorder.specs.declared.fields.Stop.{Stop}
 use Rattle.recorder.specs.Text.{Group}
 use Rattle.recorder.specs.Cursor.{after, done, repeated}

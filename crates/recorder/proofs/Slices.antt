@@ -1,5 +1,5 @@
 -- Parts of a text that are gathered and pushed one behind the other
-use Rattle.std.proofs.Common.{◌≡◌, ℕ, ◌+◌, ◌-◌, ◌<◌, ◌≤◌, List, [], ◌++◌, length, take, drop, max, refl, ap, sym, ◌∙◌, arith, length-append, length-drop, inl, inr, ◌∷◌, zero, suc, ◌^◌, append_assoc, append-nil, get_or, subst, drop_at}
+use Rattle.std.proofs.Common.{◌≡◌, ℕ, ◌+◌, ◌-◌, ◌<◌, ◌≤◌, List, [], ◌++◌, length, take, drop, max, refl, ap, sym, ◌∙◌, arith, length-append, length-drop, inl, inr, ◌∷◌, zero, suc, append_assoc, append-nil, get_or, subst, drop_at}
 use Rattle.std.specs.Prelude.{◌⊎◌, flat_map, Option}
 use Rattle.std.specs.Io.KnownBytes.{Appends}
 use Rattle.std.proofs.KnownBytes.{Appends-trans}

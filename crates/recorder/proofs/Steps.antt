@@ -1,5 +1,5 @@
 -- A reader goes from field to field
-use Rattle.std.proofs.Common.{◌≡◌, ℕ, zero, suc, ◌+◌, ◌-◌, ◌<◌, ◌≤◌, List, [], ◌∷◌, ◌++◌, length, take, drop, refl, ap, sym, ◌∙◌, subst, arith, true, false, Bool, length-drop}
+use Rattle.std.proofs.Common.{◌≡◌, ℕ, suc, ◌+◌, ◌-◌, ◌<◌, ◌≤◌, List, ◌∷◌, length, drop, refl, ap, sym, ◌∙◌, subst, arith, true, false, Bool, length-drop}
 use Rattle.std.specs.Prelude.{nat_lt, if◌then◌else◌}
 use Rattle.std.proofs.lemmas.Bool.{le-ltb, lt-ltb}
 use Rattle.std.proofs.lemmas.List.{drop-drop}
@@ -8,7 +8,7 @@ use Rattle.cm_base.specs.Fields.{field}
 use Rattle.cm_base.specs.declared.parsed.Parsed.{Parsed}
 use Rattle.cm_base.specs.declared.parsed.Parsed.TheVariants.{Whole, Short, Bad}
 use Rattle.recorder.specs.declared.fields.Stop.{Stop}
-use Rattle.recorder.specs.Cursor.{moved, after, done, tested, number, some_bytes}
+use Rattle.recorder.specs.Cursor.{moved, after, done, tested, number}
 use Rattle.recorder.specs.Consuming.{IsRead, StopsAt}
 
 pub read_end : {A : Type 0} (x : A) (bytes : List ℕ) → IsRead (done x) bytes x bytes

@@ -1,4 +1,4 @@
-use Rattle.std.proofs.Common.{◌≡◌, ◌<◌, ◌≤◌, ◌∷◌, [], length, ap, sym, ◌∙◌, subst, Ok, Err}
+use Rattle.std.proofs.Common.{◌<◌, ◌≤◌, ◌∷◌, [], length, ap, sym, ◌∙◌, subst, Ok, Err}
 use Rattle.std.specs.Prelude.{Result, OnErr}
 use Rattle.recorder.specs.Text.{entry_bytes}
 use Rattle.recorder.specs.Parts.{Pushed}

@@ -1,5 +1,5 @@
 use Rattle.cm_base.specs.Fields.{AreBytes}
-use Rattle.std.proofs.Common.{◌+◌, ◌≤◌, length, ◌≡◌, ◌∷◌, [], ◌++◌, ap, sym, ◌∙◌, subst, arith}
+use Rattle.std.proofs.Common.{◌+◌, ◌≤◌, length, ◌≡◌, ◌∷◌, [], ◌++◌, ap, sym, ◌∙◌, subst}
 use Rattle.std.specs.Prelude.{flat_map}
 use Rattle.recorder.specs.declared.text.Part.{Part}
 use Rattle.recorder.specs.Parts.{part_bytes}
