@@ -2,9 +2,6 @@ ghost use Rattle.std.specs.Prelude.{◌≡◌};
 ghost use Rattle.cm_history.specs.declared.act.Act.{Act};
 ghost use Rattle.lba_ranges.specs.HeldBlocks.{IsFull};
 
-mod reading;
-mod sinking;
-
 use super::*;
 use cm_base::{CallList, Payload};
 use cm_history::{Act, Actor, Entry};
