@@ -2,7 +2,7 @@ ghost use Rattle.lba_ranges.specs.HeldBlocks.{held_at};
 ghost use Rattle.std.specs.Prelude.{◌≡◌, ℕ, is_some, ◌∷◌, ◌++◌, ◌+◌, ◌<◌, ◌≤◌, length, drop, slice_range, flat_map, OnOk, IfOk};
 ghost use Rattle.recorder.specs.Text.{groups_of, group_bytes, blocks_text, block_limit, FitBlocks};
 ghost use Rattle.cm_base.specs.Fields.{AreBytes};
-ghost use Rattle.recorder.specs.Grouping.{group_in, held_bytes, fill_bytes};
+ghost use Rattle.recorder.specs.inner.Grouping.{group_in, held_bytes, fill_bytes};
 
 use crate::text::Text;
 use cm_base::{OutOfMemory, set_u32};

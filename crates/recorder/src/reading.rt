@@ -4,7 +4,7 @@ ghost use Rattle.lba_ranges.specs.HeldBlocks.{HeldBlocks};
 ghost use Rattle.cm_history.specs.declared.act.Act.{Act};
 ghost use Rattle.recorder.specs.Cursor.{tested};
 ghost use Rattle.recorder.specs.Reading.{read_two, read_list, read_populate, read_start, read_redeem, read_end, read_close, read_fields, read_act, read_number, read_actor, read_behind, read_entry, state_in};
-ghost use Rattle.recorder.specs.Consuming.{IsRead, StopsAt};
+ghost use Rattle.recorder.specs.inner.Consuming.{IsRead, StopsAt};
 
 use crate::fields::{Stop, read_at_most, read_bytes, read_u8, read_u16, read_u32, read_u64};
 use crate::lists::{read_blocks, read_ranges};

@@ -20,7 +20,8 @@ pub struct SinkRecorder<S: Sink + Drop> {
 }
 
 impl<S: Sink + Drop> Model for SinkRecorder<S> {
-    ghost use Rattle.recorder.specs.Told.{Sinking, HasSpelled};
+    ghost use Rattle.recorder.specs.Told.{Sinking};
+    ghost use Rattle.recorder.specs.inner.Told.{HasSpelled};
 
     ghost Value = { Sinking S };
 

@@ -2,7 +2,7 @@
 ghost use Rattle.std.specs.Prelude.{◌≡◌, ◌≤◌, ◌<◌, ◌+◌, ◌-◌, ◌^◌, ◌++◌, [], length, max, IfOk, OnOk, OnErr};
 ghost use Rattle.cm_base.specs.Fields.{AreBytes};
 ghost use Rattle.cm_base.specs.Outside.{Faulted, StaysTold};
-ghost use Rattle.recorder.specs.Parts.{part_bytes, Pushed};
+ghost use Rattle.recorder.specs.inner.Parts.{part_bytes, Pushed};
 
 use cm_base::{Bytes, OutOfMemory, Payload, SequenceRoom, Sink, WriteFailed};
 use std::alloc::Global;
@@ -44,7 +44,7 @@ pub(crate) struct Text {
 impl Model for Text {
     ghost use Rattle.std.specs.Prelude.{List, ℕ, ◌≤◌, ◌++◌, flat_map, length};
     ghost use Rattle.cm_base.specs.Fields.{AreBytes};
-    ghost use Rattle.recorder.specs.Parts.{part_bytes};
+    ghost use Rattle.recorder.specs.inner.Parts.{part_bytes};
 
     ghost Value = { List ℕ };
 
