@@ -97,7 +97,7 @@ impl Write {
         requires named { (serial : ℕ) × (classify self.list.token ≡ TokenKind.Names creator serial) }
         ensures program { rest_of by_phase config.now result
             ≡ (if is_configured config.now creator then ask_then creator (Act.Redeem self.list.token self.unit) (redeemed (given self))
-            else refused unknown_token) }
+            else refused token_unknown) }
         ensures sound { IsSoundAt IsSoundPhase config.now result }
     {
         if config.is_configured(creator) {

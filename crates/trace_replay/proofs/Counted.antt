@@ -20,7 +20,7 @@ use Rattle.trace_replay.specs.Items.{items_limit}
 use Rattle.trace_replay.specs.ReplayState.{Pending, AddressedReply, ReplayState, Shortage, NoShortage, AtBegin, AtAct, AtStep, waiting, goes_on, did, ran, begun, next, next_step, acted, noted_act}
 use Rattle.trace_replay.specs.Played.{shortage_for, addressed_bytes, output_of, summary_of, is_good, is_check, is_busy, is_task_set_full}
 use Rattle.trace_replay.specs.inner.Laws.{StandsAt}
-use Rattle.trace_replay.proofs.Laws.{shortages_of}
+use Rattle.trace_replay.proofs.LoopLaws.{shortages_of}
 use Rattle.trace_replay.specs.inner.Counting.{HasRoom, with_item, with_reply, one_if}
 use Rattle.trace_replay.specs.inner.Machines.{HasPlayed, IsStanding}
 use Rattle.trace_replay.specs.inner.Players.{IsLoopAt, IsAt, AreFew, left_of}

@@ -28,7 +28,7 @@ use Rattle.trace_replay.specs.Shortages.{allowed_at_act, allowed_at_run, is_allo
 use Rattle.cm_base.specs.Outside.{IsBeginning}
 use Rattle.trace_replay.specs.Replayed.{IsInput, IsReadSo, IsAnswer, HasPlayedFirst, IsCompleteBy, Replayed}
 use Rattle.trace_replay.specs.inner.Laws.{StandsAt, HasHeader}
-use Rattle.trace_replay.proofs.Laws.{LoopStands, ShortagesTell, known}
+use Rattle.trace_replay.proofs.LoopLaws.{LoopStands, ShortagesTell, known}
 use Rattle.trace_replay.proofs.Steps.{play-torn, play-done, play-records}
 use Rattle.trace_replay.proofs.Grows.{output-grows}
 use Rattle.trace_replay.proofs.ShownShortages.{none-behind}

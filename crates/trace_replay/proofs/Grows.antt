@@ -11,7 +11,7 @@ use Rattle.cmd_program.specs.Stepping.{Stepping}
 use Rattle.trace_replay.specs.Items.{Ending, BadRecord, Placed, trace_of}
 use Rattle.trace_replay.specs.ReplayState.{Pending, AddressedReply, ReplayState, Shortage, NoShortage, AtBegin, AtAct, AtStep, waiting, acted, noted_act, goes_on, next_step, begun, did, ran, changed, next, fits}
 use Rattle.trace_replay.specs.Played.{play, shortage_for, shortages_behind, addressed_bytes, output_of}
-use Rattle.trace_replay.proofs.Laws.{OutputGrows}
+use Rattle.trace_replay.proofs.LoopLaws.{OutputGrows}
 use Rattle.cm_base.specs.Outside.{IsBeginning}
 
 -- the replies begin with those of before

@@ -14,4 +14,4 @@ pub mod Counted
 pub mod Machining
 mod Quiet
 mod PlayedWrites
-pub mod Laws
+pub mod LoopLaws

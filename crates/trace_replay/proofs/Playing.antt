@@ -22,7 +22,7 @@ use Rattle.trace_replay.specs.ReplayState.{ReplayState, at_first, fits}
 use Rattle.trace_replay.specs.Played.{played_from, output_of, summary_of}
 use Rattle.trace_replay.specs.Replayed.{Replayed, IsCounted}
 use Rattle.trace_replay.specs.inner.Laws.{StandsAt}
-use Rattle.trace_replay.proofs.Laws.{LoopStands, ShortagesTell, known}
+use Rattle.trace_replay.proofs.LoopLaws.{LoopStands, ShortagesTell, known}
 use Rattle.trace_replay.specs.inner.Players.{IsLoopAt, IsAt, left_of, HasPulled, HasMore, NeedsMore, EndsBad}
 use Rattle.trace_replay.specs.inner.Writing.{IsWritten, IsBegun, IsWriteFault}
 use Rattle.trace_replay.specs.inner.Machines.{IsStanding}

@@ -24,7 +24,7 @@ use Rattle.trace_replay.specs.Items.{Ending, BadRecord, Placed, trace_of, items_
 use Rattle.trace_replay.specs.ReplayState.{Shortage, NoShortage, AtBegin, AtAct, AtStep, acted, noted_act, begun, did, ran, changed, next, fits, outcome_of, outcomes_at, has_no_room, at_first}
 use Rattle.trace_replay.specs.Played.{played_after, play, shortage_for, shortages_behind}
 use Rattle.trace_replay.specs.Shortages.{is_no_shortage, allowed_at_act, allowed_at_run, is_allowed, are_allowed, allowed_after}
-use Rattle.trace_replay.proofs.Laws.{ShortagesTell}
+use Rattle.trace_replay.proofs.LoopLaws.{ShortagesTell}
 use Rattle.trace_replay.proofs.Grows.{Follows, next-follows}
 use Rattle.cm_history.proofs.PublicLaws.{both as both-true}
 
