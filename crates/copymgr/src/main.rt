@@ -9,6 +9,8 @@ mod random;
 mod ready;
 #[cfg(test)]
 mod rows;
+#[cfg(test)]
+mod sessions;
 mod status;
 #[cfg(test)]
 mod tests;

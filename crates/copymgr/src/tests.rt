@@ -17,7 +17,7 @@ use std::thread::{self, Parker, Threads};
 use trace_replay::replay;
 
 /// The bytes of pieces of hex text.
-fn bytes_of(alloc: Global, pieces: &[&str]) -> Result<Bytes, Fail> {
+pub(crate) fn bytes_of(alloc: Global, pieces: &[&str]) -> Result<Bytes, Fail> {
     let mut bytes = Bytes::empty(alloc);
     for piece in pieces {
         match piece.split_once('*') {
@@ -52,7 +52,7 @@ fn played(
 }
 
 /// The list of one number.
-fn only(alloc: Global, call: u64) -> Result<CallList, Fail> {
+pub(crate) fn only(alloc: Global, call: u64) -> Result<CallList, Fail> {
     let mut calls = CallList::empty(alloc);
     calls.push(call)?;
     Ok(calls)
