@@ -13,7 +13,7 @@ use Rattle.cm_history.specs.declared.answer.Answer.{Answer}
 use Rattle.cm_history.specs.declared.refused.ActRefused.{ActRefused}
 use Rattle.cmd_program.specs.declared.step.Outcome.{Outcome}
 use Rattle.cmd_program.specs.Running.{Call, outcome_of}
-use Rattle.unit_core.specs.Standing.{Standing}
+use Rattle.unit_core.specs.UnitState.{UnitState}
 use Rattle.unit_core.specs.Acting.{past, is_full_at}
 use Rattle.unit_runs.specs.Places.{Place, AreUnitsOf, with_entry, after_act, Leads, Led, StandsFor}
 
@@ -30,7 +30,7 @@ set-same [] i v e = refl
 set-same (x ∷ xs) zero v e = let is : x ≡ v = cc in ap (λ y. y ∷ xs) (sym is)
 set-same (x ∷ xs) (suc i) v e = ap (λ l. x ∷ l) (set-same xs i v e)
 
-module _ (p : Place) (unit moment : ℕ) (act : Act) (s : Standing) (at : slice_get p.units unit ≡ Some s) where
+module _ (p : Place) (unit moment : ℕ) (act : Act) (s : UnitState) (at : slice_get p.units unit ≡ Some s) where
   abbrev call : Outcome → Call
   call outcome = record { unit = unit; moment = moment; act = act; outcome = outcome }
 
@@ -54,28 +54,28 @@ module _ (p : Place) (unit moment : ℕ) (act : Act) (s : Standing) (at : slice_
   leads-refused after ActRefused.Full full same = record { s = s; unit = at; does = (full refl, same) }
   leads-refused after ActRefused.OutOfMemory full same = record { s = s; unit = at; does = same }
 
-pub after-is : (p : Place) (unit place moment : ℕ) (act : Act) (s new : Standing) (latest : ℕ) → place ≡ unit → new ≡ with_entry p s moment act
+pub after-is : (p : Place) (unit place moment : ℕ) (act : Act) (s new : UnitState) (latest : ℕ) → place ≡ unit → new ≡ with_entry p s moment act
     → latest ≡ max p.stamp (last_stamp (past s))
     → record p { units = slice_set p.units place new; stamp = latest + 1; seq = p.seq + 1 } ≡ after_act p unit s moment act
 after-is p unit place moment act s new latest here grown late =
     ap (λ i. record p { units = slice_set p.units i new; stamp = latest + 1; seq = p.seq + 1 }) here
-    ∙ ap (λ (n : Standing). record p { units = slice_set p.units unit n; stamp = latest + 1; seq = p.seq + 1 }) grown
+    ∙ ap (λ (n : UnitState). record p { units = slice_set p.units unit n; stamp = latest + 1; seq = p.seq + 1 }) grown
     ∙ ap (λ k. record p { units = slice_set p.units unit (with_entry p s moment act); stamp = k + 1; seq = p.seq + 1 }) late
 
-pub same-units : (p : Place) (unit place : ℕ) (s new : Standing) → place ≡ unit → slice_get p.units unit ≡ Some s → new ≡ s
+pub same-units : (p : Place) (unit place : ℕ) (s new : UnitState) → place ≡ unit → slice_get p.units unit ≡ Some s → new ≡ s
     → record p { units = slice_set p.units place new } ≡ p
 same-units p unit place s new here at same =
-    ap (λ (l : List Standing). record p { units = l })
+    ap (λ (l : List UnitState). record p { units = l })
     (ap (λ i. slice_set p.units i new) here ∙ ap (slice_set p.units unit) same ∙ set-same p.units unit s at)
 
 -- the unit that a look-up by index found
-pub unit-at : (config : Configuration) (units : List Standing) (u place : ℕ) (s : Standing) → AreUnitsOf config units → u < length config.units
+pub unit-at : (config : Configuration) (units : List UnitState) (u place : ℕ) (s : UnitState) → AreUnitsOf config units → u < length config.units
     → place ≡ u → s ≡ slice_index_or units place s → slice_get units u ≡ Some s
 unit-at config units u place s are configured is found =
     slice_get_read units (length units) u s refl (omega (arith, are.count, configured)) (found ∙ ap (λ i. slice_index_or units i s) is)
 
 -- where there is room a stamp is left
-pub stamp-left : (s : Standing) (actor : Actor) (stamp : ℕ) (act : Act) → is_full_at s actor stamp act ≡ false → (max stamp (last_stamp (past s)) ≡ 2 ^ 64 - 1 → ⊥)
+pub stamp-left : (s : UnitState) (actor : Actor) (stamp : ℕ) (act : Act) → is_full_at s actor stamp act ≡ false → (max stamp (last_stamp (past s)) ≡ 2 ^ 64 - 1 → ⊥)
 stamp-left s actor stamp act room last =
     let test : (max stamp (last_stamp (past s)) == 2 ^ 64 - 1) ≡ false = not-first _ _ (not-first _ _ room) in
     let yes = eq-eqb (max stamp (last_stamp (past s))) (2 ^ 64 - 1) last in
@@ -99,20 +99,20 @@ get-set_other (x ∷ xs) zero (suc j) v e = refl
 get-set_other (x ∷ xs) (suc i) zero v e = refl
 get-set_other (x ∷ xs) (suc i) (suc j) v e = get-set_other xs i j v (λ same. e (ap suc same))
 
-pub units-with : (config : Configuration) (units : List Standing) (u : ℕ) (was s : Standing) → AreUnitsOf config units → slice_get units u ≡ Some was
+pub units-with : (config : Configuration) (units : List UnitState) (u : ℕ) (was s : UnitState) → AreUnitsOf config units → slice_get units u ≡ Some was
     → s.config ≡ was.config → s.unit ≡ was.unit → AreUnitsOf config (slice_set units u s)
 units-with config units u was s are at told number = record {
   count = length-set units u s ∙ are.count;
   each = λ v w e. each v w e (cases_eq u v);
 }
   where
-    each : (v : ℕ) (w : Standing) → slice_get (slice_set units u s) v ≡ Some w → ((u ≡ v) ⊎ (u ≡ v → ⊥)) → (w.config ≡ config) × (w.unit ≡ v)
+    each : (v : ℕ) (w : UnitState) → slice_get (slice_set units u s) v ≡ Some w → ((u ≡ v) ⊎ (u ≡ v → ⊥)) → (w.config ≡ config) × (w.unit ≡ v)
     each v w e (inl same) =
         let here : slice_get (slice_set units u s) u ≡ Some w = ap (slice_get (slice_set units u s)) same ∙ e in
         let put = get-set units u s was at in
         let is : w ≡ s = cc in
         let had = are.each u was at in
-        (ap (λ (x : Standing). x.config) is ∙ told ∙ had.0, ap (λ (x : Standing). x.unit) is ∙ number ∙ had.1 ∙ same)
+        (ap (λ (x : UnitState). x.config) is ∙ told ∙ had.0, ap (λ (x : UnitState). x.unit) is ∙ number ∙ had.1 ∙ same)
     each v w e (inr other) = are.each v w (sym (get-set_other units u v s other) ∙ e)
 
 -- ---- one more unit

@@ -5,7 +5,7 @@ use Rattle.cm_base.specs.Configuration.{Configuration}
 use Rattle.cm_history.specs.declared.act.Actor.{Actor}
 use Rattle.cm_history.specs.Forms.{HasForm}
 use Rattle.cm_history.specs.Legal.{may_ask}
-use Rattle.unit_core.specs.Standing.{Standing}
+use Rattle.unit_core.specs.UnitState.{UnitState}
 use Rattle.unit_runs.specs.Places.{Place, AreUnitsOf, StandsFor}
 use Rattle.unit_runs.proofs.Leading.{unit-at, units-with, leads-answered, leads-refused, after-is, same-units, stands-more}
 use Rattle.unit_runs.proofs.runs.UnitRunsRuns.run.Goals as goal
@@ -33,7 +33,7 @@ invariant_of-self-2 c =
     let configured = subst (λ (k : Configuration). c.args.unit < length k.units) (sym (ap (λ (v : Place). v.config) c.self.view_is)) c.requires.configured in
     let at = unit-at c.self.inside.config c.self.inside.units.items c.args.unit c.from.result _ c.self.invariant.0 configured c.from.ensures c.index_mut-asked.ensures.value in
     let added = c.in_ok-answer.ensures.added in
-    let with = units-with c.self.inside.config c.self.inside.units.items c.args.unit _ c.act.new.self c.self.invariant.0 at (ap (λ (s : Standing). s.config) added) (ap (λ (s : Standing). s.unit) added) in (
+    let with = units-with c.self.inside.config c.self.inside.units.items c.args.unit _ c.act.new.self c.self.invariant.0 at (ap (λ (s : UnitState). s.config) added) (ap (λ (s : UnitState). s.unit) added) in (
       subst (λ i. AreUnitsOf c.self.inside.config (slice_set c.self.inside.units.items i c.act.new.self)) (sym c.from.ensures) with,
       omega (arith, c.max-latest.ensures, c.self.invariant.1),
     )
