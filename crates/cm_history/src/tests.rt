@@ -274,13 +274,13 @@ fn a_history_grows_at_its_end(rt: HostRuntime) -> Result<(), Fail> {
 #[test]
 fn the_first_entries_are_dropped(rt: HostRuntime) -> Result<(), Fail> {
     let config = one_unit(&rt)?;
-    let mut history = four_writes(&rt, &config)?;
-    if history.len() != 4 {
-        return Err(Fail::new("not four entries"));
-    }
+    let mut history = one_read(&rt, &config)?;
+    let mut next = history.at(0).copy(rt.alloc())?;
+    next.seq = 1;
+    history.push(next)?;
     history.reserve(2)?;
-    history.drop_first(3);
+    history.drop_first(1);
     assert_eq!(rt; history.len(), 1);
-    assert!(rt; history.at(0).seq == 3 && history.spare() == 2);
+    assert!(rt; history.at(0).seq == 1 && history.spare() == 2);
     Ok(())
 }
