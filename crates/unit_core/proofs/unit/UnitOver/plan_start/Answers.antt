@@ -34,7 +34,7 @@ returns-then-not-within g c =
     let told = c.runs.ensures.busy ∙ ap (λ k. jobs.is_busy k u.tables.jobs) c.token_key-key.ensures ∙ ap (jobs.is_busy (key_of c.args.actor OfToken c.args.id)) c.self.invariant.jobs.jobs
     ∙ busy-is u.config u.unit past c.args.actor OfToken c.args.id known.is (own-of u.config u.unit past known) mine in
     let inside : c.within.result ≡ is_within (unit_of u.config u.unit).blocks c.args.ranges.now = c.within.ensures ∙ ap (λ (t : UnitConfig). is_within t.blocks c.args.ranges.now) c.unit.ensures.told in
-    rw (c.answered-then-not-within.ensures, c.address_out_of_range.ensures, ← c.self.view_is)
+    rw (c.answered-then-not-within.ensures, c.lba_out_of_range.ensures, ← c.self.view_is)
     (λ at. start-out u.config u.unit past c.args.actor at c.args.id c.args.background c.args.ranges.now c.args.rod.now (sym told ∙ c.if-runs.false) (sym inside ∙ c.if-not-within.true))
 
 pub returns-then-is_crowded : goal.returns-then-is_crowded

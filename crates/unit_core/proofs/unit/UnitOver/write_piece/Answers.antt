@@ -23,7 +23,7 @@ returns-then-mapped_after-quota g c =
     ∙ mapped-same limit.blocks (held_with holds ws) (held_with (held past) ws) (λ b h. ap (after ws b) (c.self.invariant.blocks.same b h)) in
     let quota : c.unit-quota.result.quota ≡ limit.quota = ap (λ (v : UnitConfig). v.quota) c.unit-quota.ensures.told in
     let test : nat_lt limit.quota (mapped_with limit (held past) ws) ≡ true = (let high : limit.quota < mapped_with limit (held past) ws = omega (arith, mapped, quota) in grind (arith, nat_tests)) in
-    rw (c.of_jobs.ensures, c.over_quota.ensures, ← c.self.view_is, test) refl
+    rw (c.of_jobs.ensures, c.space_allocation_failed.ensures, ← c.self.view_is, test) refl
 
 pub returns : goal.returns
 returns g c =
