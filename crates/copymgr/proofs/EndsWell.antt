@@ -36,13 +36,13 @@ play-ends step config s (x ∷ xs) ending shortages well =
     (play-ends step config (next step config s x.item (shortage_for x.item shortages)) xs ending (shortages_behind x.item shortages) well) tt
 
 -- the item in front, and the trace behind it
-in-front : (bytes : List ℕ) (item : TraceItem) (used n place : ℕ) → read_item bytes ≡ Whole item used
+pub in-front : (bytes : List ℕ) (item : TraceItem) (used n place : ℕ) → read_item bytes ≡ Whole item used
     → trace_of (suc n) place bytes ≡ with_item place item (trace_of n (place + used) (drop used bytes))
 in-front [] item used n place e = absurd (subst IsJudged (sym e) tt)
 in-front (b ∷ bs) item used n place e = ap (λ p. led_by place p (λ u. trace_of n (place + u) (drop u (b ∷ bs)))) e
 
 -- the bytes of items are a trace that ends between two items
-items-end : IsReadBack IsItem item_bytes read_item → (xs : List TraceItem) (n place : ℕ) → All IsItem xs → length xs ≤ n
+pub items-end : IsReadBack IsItem item_bytes read_item → (xs : List TraceItem) (n place : ℕ) → All IsItem xs → length xs ≤ n
     → (trace_of n place (flat_map item_bytes xs)).ending ≡ Done
 items-end back [] zero place fit few = refl
 items-end back [] (suc n) place fit few = refl

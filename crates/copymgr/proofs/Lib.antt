@@ -1,3 +1,8 @@
 mod Spelled
 mod EndsWell
+mod QuietUnit
+mod PlayedCommands
+mod RoundRequests
+mod RoundsFit
+mod PlaysOut
 mod ToldCounts
