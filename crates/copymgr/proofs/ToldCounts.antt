@@ -6,6 +6,7 @@ use Rattle.cmd_program.specs.Judging.{step}
 use Rattle.generator.specs.Generated.{generated}
 use Rattle.trace_replay.specs.declared.summary.Summary.{Summary}
 use Rattle.trace_replay.specs.declared.fault.ReplayFault.{ReplayFault}
+use Rattle.trace_replay.specs.Items.{Done, BadRecord}
 use Rattle.trace_replay.specs.ReplayState.{Shortage}
 use Rattle.trace_replay.specs.Played.{played}
 use Rattle.trace_replay.specs.Shortages.{may_lack}
@@ -26,13 +27,18 @@ record Says (bytes : List ℕ) (shortages : List Shortage) (pushed : List ℕ) (
   ending : IsAnswer (played step bytes shortages) pushed answer
   complete : IsCompleteBy (played step bytes []) (played step bytes shortages) pushed answer
 
--- every generated trace ends well
-abbrev pub AllEndWell : ℕ → Type 0
-AllEndWell rounds = (shortages : List Shortage) → EndsWell (played step (generated rounds) shortages).ending
+-- the generated trace ends well, whatever memory is refused, and is played to its end where none is
+pub record AllEndWell (rounds : ℕ) : Type 0 where
+  pub well : (shortages : List Shortage) → EndsWell (played step (generated rounds) shortages).ending
+  pub free : (played step (generated rounds) []).ending ≡ Done
 
 no-fault : Faulted 0 0 → ⊥
 no-fault (inl more) = omega (arith, more)
 no-fault (inr full) = omega (arith, full.0)
+
+-- a trace that is played to its end does not end at an item
+other : {place : ℕ} → Done ≡ BadRecord place → ⊥
+other e = cc
 
 says : (rounds : ℕ) (shortages : List Shortage) (pushed : List ℕ) (answer : Result Summary ReplayFault)
     → AllEndWell rounds → Says (generated rounds) shortages pushed answer → IsCounted 0 0 0 0 answer → IsAnswerOf rounds answer
@@ -41,24 +47,26 @@ says rounds shortages pushed (Ok summary) well s counted = (
   record {
     allowed = s.allowed;
     ends = s.ending.0.0;
-    shown = elim s.complete [ inl a ↦ inl (a.0.0, sym a.1 ∙ s.ending.1) | inr w ↦ inr w ];
+    free = well.free;
+    shown = elim s.complete [ inl a ↦ inl (sym a.1 ∙ s.ending.1) | inr w ↦ inr w ];
   },
   s.ending.1,
 )
 says rounds shortages pushed (Err ReplayFault.ReadFault) well s counted = no-fault counted.0
 says rounds shortages pushed (Err ReplayFault.WriteFault) well s counted = no-fault counted.1
 says rounds shortages pushed (Err ReplayFault.OutOfMemory) well s counted = tt
-says rounds shortages pushed (Err (ReplayFault.Torn place)) well s counted = subst EndsWell s.ending.0 (well shortages)
-says rounds shortages pushed (Err (ReplayFault.BadHeader place)) well s counted = subst EndsWell s.ending.0 (well shortages)
+says rounds shortages pushed (Err (ReplayFault.Torn place)) well s counted = subst EndsWell s.ending.0 (well.well shortages)
+says rounds shortages pushed (Err (ReplayFault.BadHeader place)) well s counted = subst EndsWell s.ending.0 (well.well shortages)
 says rounds shortages pushed (Err (ReplayFault.BadRecord place)) well s counted = (
   shortages,
   record {
     allowed = s.allowed;
     ends = s.ending.0;
-    shown = elim s.complete [ inl a ↦ inl (a.0, tt) | inr w ↦ inr w ];
+    free = well.free;
+    shown = elim s.complete [ inl a ↦ absurd (other (sym well.free ∙ a.0)) | inr w ↦ w ];
   },
 )
-says rounds shortages pushed (Err ReplayFault.Records) well s counted = subst EndsWell s.ending.0 (well shortages)
+says rounds shortages pushed (Err ReplayFault.Records) well s counted = subst EndsWell s.ending.0 (well.well shortages)
 
 -- the bytes that were played are those that the source had
 of-all : (left rest taken given : Option (List ℕ)) (rounds : ℕ) (answer : Result Summary ReplayFault) (r : Replayed step left rest taken given answer)

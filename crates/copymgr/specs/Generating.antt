@@ -5,7 +5,7 @@ use Rattle.cm_base.specs.Outside.{Faulted, IsBeginning}
 use Rattle.cmd_program.specs.Judging.{step}
 use Rattle.generator.specs.Generated.{generated}
 use Rattle.trace_replay.specs.declared.summary.Summary.{Summary}
-use Rattle.trace_replay.specs.Items.{Ending, Done, BadRecord}
+use Rattle.trace_replay.specs.Items.{Done, BadRecord}
 use Rattle.trace_replay.specs.ReplayState.{Shortage}
 use Rattle.trace_replay.specs.Played.{Played, played, summary_of}
 use Rattle.trace_replay.specs.Shortages.{may_lack, met_want}
@@ -19,21 +19,27 @@ played_rounds rounds shortages = played step (generated rounds) shortages
 abbrev pub counts : ℕ → List Shortage → Summary
 counts rounds shortages = summary_of (played_rounds rounds shortages).state
 
--- The generated trace ended so. Where that, or what was counted, is another than where memory is never refused, a reply
--- or a waiting command shows it.
-pub record Ended (rounds : ℕ) (shortages : List Shortage) (ending : Ending) (SameCounts : Type 0) : Type 0 where
+-- The generated trace was played to its end, as it is where memory is never refused. Where other counts came of it, a reply
+-- or a waiting command shows want of memory.
+pub record EndedDone (rounds : ℕ) (shortages : List Shortage) : Type 0 where
   pub allowed : IsTrue (may_lack step (generated rounds) shortages)
-  pub ends : (played_rounds rounds shortages).ending ≡ ending
-  pub shown : (((played_rounds rounds []).ending ≡ ending) × SameCounts) ⊎ IsTrue (met_want (played_rounds rounds shortages).state)
+  pub ends : (played_rounds rounds shortages).ending ≡ Done
+  pub free : (played_rounds rounds []).ending ≡ Done
+  pub shown : (counts rounds [] ≡ counts rounds shortages) ⊎ IsTrue (met_want (played_rounds rounds shortages).state)
 
-abbrev pub EndedDone : ℕ → List Shortage → Type 0
-EndedDone rounds shortages = Ended rounds shortages Done (counts rounds [] ≡ counts rounds shortages)
+-- It ended at an item that does not fit. Where memory is never refused it is played to its end; so a reply or a waiting
+-- command shows want of memory.
+pub record EndedBad (rounds : ℕ) (shortages : List Shortage) (place : ℕ) : Type 0 where
+  pub allowed : IsTrue (may_lack step (generated rounds) shortages)
+  pub ends : (played_rounds rounds shortages).ending ≡ BadRecord place
+  pub free : (played_rounds rounds []).ending ≡ Done
+  pub shown : IsTrue (met_want (played_rounds rounds shortages).state)
 
 -- What was pushed, by the status: the counts where the trace was played to its end, and else nothing. No other status comes.
 abbrev pub IsTold : ℕ → List ℕ → Status → Type 0
 IsTold rounds pushed Status.Done = (shortages : List Shortage) × EndedDone rounds shortages × (pushed ≡ summary_text (counts rounds shortages))
 IsTold rounds pushed Status.WriteFault = (shortages : List Shortage) × EndedDone rounds shortages × IsBeginning pushed (summary_text (counts rounds shortages))
-IsTold rounds pushed (Status.BadRecord place) = (shortages : List Shortage) × Ended rounds shortages (BadRecord place) (Unit {0}) × (pushed ≡ [])
+IsTold rounds pushed (Status.BadRecord place) = (shortages : List Shortage) × EndedBad rounds shortages place × (pushed ≡ [])
 IsTold rounds pushed Status.OutOfMemory = pushed ≡ []
 IsTold rounds pushed Status.ReadFault = ⊥
 IsTold rounds pushed (Status.Torn place) = ⊥

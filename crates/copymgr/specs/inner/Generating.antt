@@ -4,16 +4,15 @@ use Rattle.std.specs.Io.KnownBytes.{Appends}
 use Rattle.cm_base.specs.Outside.{IsBeginning}
 use Rattle.trace_replay.specs.declared.summary.Summary.{Summary}
 use Rattle.trace_replay.specs.declared.fault.ReplayFault.{ReplayFault}
-use Rattle.trace_replay.specs.Items.{Done, BadRecord}
 use Rattle.trace_replay.specs.ReplayState.{Shortage}
 use Rattle.copymgr.specs.declared.status.Status.{Status}
 use Rattle.copymgr.specs.Told.{summary_text}
-use Rattle.copymgr.specs.Generating.{Ended, EndedDone, IsWriteCounted, counts}
+use Rattle.copymgr.specs.Generating.{EndedDone, EndedBad, IsWriteCounted, counts}
 
 -- the answer of a replay of the generated trace
 abbrev pub IsAnswerOf : ℕ → Result Summary ReplayFault → Type 0
 IsAnswerOf rounds (Ok summary) = (shortages : List Shortage) × EndedDone rounds shortages × (summary ≡ counts rounds shortages)
-IsAnswerOf rounds (Err (ReplayFault.BadRecord place)) = (shortages : List Shortage) × Ended rounds shortages (BadRecord place) (Unit {0})
+IsAnswerOf rounds (Err (ReplayFault.BadRecord place)) = (shortages : List Shortage) × EndedBad rounds shortages place
 IsAnswerOf rounds (Err ReplayFault.OutOfMemory) = Unit {0}
 IsAnswerOf rounds (Err ReplayFault.ReadFault) = ⊥
 IsAnswerOf rounds (Err ReplayFault.WriteFault) = ⊥
