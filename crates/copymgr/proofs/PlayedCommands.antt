@@ -95,10 +95,10 @@ runs-on step config n entries replies i m r outcomes unit act o other more xs as
     ap (ran step config s m NoShortage) (waits i r outcomes) in
     let done : did step config s m p NoShortage (step config i r outcomes) ≡ did step config s m p NoShortage (Step.Do unit act) = ap (did step config s m p NoShortage) asks in
     let came : did step config s m p NoShortage (Step.Do unit act)
-        ≡ goes_on (waiting_with (n + 1) now p replies) (waits_as i r (outcomes ++ o ∷ [])) (step config i r (outcomes ++ o ∷ [])) =
+    ≡ goes_on (waiting_with (n + 1) now p replies) (waits_as i r (outcomes ++ o ∷ [])) (step config i r (outcomes ++ o ∷ [])) =
     ap (λ x. goes_on (waiting_with (n + 1) now p replies) (waits_as i r (outcomes ++ x ∷ [])) (step config i r (outcomes ++ x ∷ []))) is in
     let waiting_on : goes_on (waiting_with (n + 1) now p replies) (waits_as i r (outcomes ++ o ∷ [])) (step config i r (outcomes ++ o ∷ []))
-        ≡ waiting_with (n + 1) now (waits_as i r (outcomes ++ o ∷ [])) replies =
+    ≡ waiting_with (n + 1) now (waits_as i r (outcomes ++ o ∷ [])) replies =
     ap (goes_on (waiting_with (n + 1) now p replies) (waits_as i r (outcomes ++ o ∷ []))) goes
     ∙ ap (λ l. record { items = n + 1; entries = now; pending = l ++ waits_as i r (outcomes ++ o ∷ []) ∷ []; replies = replies }) (gone i r outcomes) in
     (ap is_some (waits i r outcomes), subst (λ s2. AllFit step config s2 xs) (sym (found ∙ done ∙ came ∙ waiting_on)) later)
@@ -139,7 +139,7 @@ pub two-acts : (step : Stepping) (config : Configuration) (n : ℕ) (entries : L
     → IsRedeeming step config r text → length rod.items ≡ 8
     → outcome_of config entries (Actor.Nexus i) 0 m (Act.Redeem text 1) ≡ Outcome.Answered (Answer.Rod rod)
     → ((n2 : ℕ) (replies2 : List AddressedReply) (act : Act)
-        → AllFit step config (between n2 (entries_after config (entries_after config entries (Actor.Nexus i) 0 m (Act.Redeem text 1)) (Actor.Nexus i) 1 m act) replies2) xs)
+    → AllFit step config (between n2 (entries_after config (entries_after config entries (Actor.Nexus i) 0 m (Act.Redeem text 1)) (Actor.Nexus i) 1 m act) replies2) xs)
     → AllFit step config (between n entries replies) (TraceItem.Begin i m r ∷ TraceItem.Run i m ∷ TraceItem.Run i m ∷ xs)
 two-acts step config n entries replies i m r text rod xs is eight redeemed later =
     let start = is.starts i rod eight in

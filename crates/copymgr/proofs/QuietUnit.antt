@@ -133,7 +133,7 @@ pub record IsMade (serial now few : ℕ) (past : List Deed) (t : Token) : Type 0
 pub after-populate : (serial now few stamp seq at id timeout lba : ℕ) (actor : Actor) (past : List Deed) → Quiet serial now few past
     → at ≤ now → stamp ≤ few + 1 → serial < 2 ^ 48 → lba + 8 ≤ 1_048_576
     → IsMade serial now (few + 1) (deed settings 0 past (populate_entry stamp seq actor at id timeout lba) ∷ past)
-      (new_token past (max at (moment past)) timeout lba)
+    (new_token past (max at (moment past)) timeout lba)
 after-populate serial now few stamp seq at id timeout lba actor past q early low few_made within =
     let e : Entry = populate_entry stamp seq actor at id timeout lba in
     let d : Deed = deed settings 0 past e in

@@ -86,7 +86,7 @@ decoded-information id fits = ap (λ x. Ok (Cdb.TokenInformation x 1024)) (numbe
 
 -- ---- what is written and read
 
-abbrev request : ℕ → Cdb → List ℕ → Request
+abbrev pub request : ℕ → Cdb → List ℕ → Request
 request unit cdb out = record { unit = unit; cdb = encoded cdb; out = out }
 
 pub asks-write : (lba : ℕ) (out : List ℕ) → lba < 2 ^ 64 → length out ≡ 4096
@@ -140,8 +140,9 @@ asks-populate id lba low fits =
 
 -- ---- the token
 
-abbrev write_list : List ℕ → ℕ → WriteList
-write_list token lba = record { immed = true; delete = false; offset = 0; token = token; ranges = eight lba }
+-- the list of a WRITE USING TOKEN in the background, of the blocks from a place on
+abbrev write_of : List ℕ → ℕ → WriteList
+write_of token lba = record { immed = true; delete = false; offset = 0; token = token; ranges = eight lba }
 
 -- a text that names a serial of unit 0
 abbrev named_text : ℕ → List ℕ → List ℕ
@@ -167,13 +168,13 @@ same-text text = (bytes_eq-Decides text text).1 refl
 
 -- the list of a round is read as it was written
 reads-write : (serial lba : ℕ) → lba < 2 ^ 64
-    → write_token_read (write_token_written (write_list (token_text settings 0 serial 8) lba)) ≡ Ok (write_list (token_text settings 0 serial 8) lba)
+    → write_token_read (write_token_written (write_of (token_text settings 0 serial 8) lba)) ≡ Ok (write_of (token_text settings 0 serial 8) lba)
 reads-write serial lba fits =
-    ap (λ x. unless (range_fault (eight x)) (Ok (write_list (token_text settings 0 serial 8) x))) (number-back 8 lba fits)
-    ∙ ap (λ f. unless f (Ok (write_list (token_text settings 0 serial 8) lba))) (no-fault lba)
+    ap (λ x. unless (range_fault (eight x)) (Ok (write_of (token_text settings 0 serial 8) x))) (number-back 8 lba fits)
+    ∙ ap (λ f. unless f (Ok (write_of (token_text settings 0 serial 8) lba))) (no-fault lba)
 
 -- a request whose list was read so redeems its token
-redeems-by : (id lba serial : ℕ) (token out : List ℕ) → id < 2 ^ 32 → length out ≡ 552 → write_token_read out ≡ Ok (write_list token lba)
+redeems-by : (id lba serial : ℕ) (token out : List ℕ) → id < 2 ^ 32 → length out ≡ 552 → write_token_read out ≡ Ok (write_of token lba)
     → classify token ≡ TokenKind.Names 0 serial → IsRedeeming step settings (request 1 (Cdb.WriteUsingToken id 552) out) token
 redeems-by id lba serial token out low whole read kind = record {
   asks = λ nexus. ap next is;
@@ -185,7 +186,7 @@ redeems-by id lba serial token out low whole read kind = record {
     r = request 1 (Cdb.WriteUsingToken id 552) out
 
     w : TokenWrite
-    w = record { unit = 1; id = id; list = write_list token lba }
+    w = record { unit = 1; id = id; list = write_of token lba }
 
     right : out_fault (unit_of settings 1) out (Cdb.WriteUsingToken id 552) ≡ None
     right = let e : (length out == 552) ≡ true = eq-eqb (length out) 552 whole in rw e refl
@@ -208,7 +209,7 @@ redeems-by id lba serial token out low whole read kind = record {
     by rod blocks Outcome.NoMemory = (Reply.Busy, ap (λ p. next (moved p Outcome.NoMemory)) (after rod blocks))
 
 pub asks-redeem : (id lba : ℕ) → id < 2 ^ 32 → lba < 2 ^ 64
-    → IsRedeeming step settings (request 1 (Cdb.WriteUsingToken id 552) (write_token_written (write_list (token_text settings 0 id 8) lba))) (token_text settings 0 id 8)
+    → IsRedeeming step settings (request 1 (Cdb.WriteUsingToken id 552) (write_token_written (write_of (token_text settings 0 id 8) lba))) (token_text settings 0 id 8)
 asks-redeem id lba low fits =
-    redeems-by id lba id (token_text settings 0 id 8) (write_token_written (write_list (token_text settings 0 id 8) lba)) low refl (reads-write id lba fits)
+    redeems-by id lba id (token_text settings 0 id 8) (write_token_written (write_of (token_text settings 0 id 8) lba)) low refl (reads-write id lba fits)
     (token-names id (omega (arith, low)))

@@ -8,7 +8,6 @@ use Rattle.lba_ranges.specs.Denoted.{blocks_of, total}
 use Rattle.lba_ranges.specs.HeldBlocks.{HeldBlocks}
 use Rattle.rod_token.specs.TokenText.{token_text, serial_of}
 use Rattle.scsi_cdb.specs.declared.cdb.Cdb.{Cdb}
-use Rattle.scsi_cdb.specs.Encoded.{encoded}
 use Rattle.cm_frame.specs.declared.frame.Request.{Request}
 use Rattle.cm_frame.specs.declared.item.TraceItem.{TraceItem}
 use Rattle.cm_history.specs.declared.act.Act.{Act}
@@ -28,7 +27,7 @@ use Rattle.generator.specs.Rounds.{initiator, source, target, written, populate_
 use Rattle.trace_replay.specs.ReplayState.{AddressedReply, new_entry, has_no_room, entries_after, outcome_of}
 use Rattle.copymgr.proofs.QuietUnit.{Quiet, eight, at-first, has-room, after-write, after-redeem, after-populate, redeems, new_token}
 use Rattle.copymgr.proofs.PlayedCommands.{AllFit, IsAsking, IsRedeeming, between, one-act, two-acts, pumps}
-use Rattle.copymgr.proofs.RoundRequests.{asks-write, asks-read, asks-information, asks-populate, asks-redeem, token-serial, same-text}
+use Rattle.copymgr.proofs.RoundRequests.{request, asks-write, asks-read, asks-information, asks-populate, asks-redeem, token-serial, same-text}
 
 -- ---- the history between two acts
 
@@ -196,35 +195,32 @@ round-fits : (k lba i n few : ℕ) (entries : List Entry) (replies : List Addres
     → AllFit step settings (between n entries replies) (items_of i k a b c d e xs)
 round-fits k lba i n few entries replies a b c d e xs asks s small low within later =
     let actor : Actor = Actor.Nexus i in
-    let E1 = entries_after settings entries actor 0 k (Act.Write lba asks.list) in
-    let S1 = after-writing k k few entries actor k lba asks.list s (omega arith) in
-    let E2 = entries_after settings E1 actor 0 k (Act.Populate k 300 (eight lba)) in
-    let H = makes-token k (few + 1) E1 actor k lba S1 (omega (arith, small)) (omega (arith, low)) within in
-    let E3 = entries_after settings E2 actor 0 k (Act.Redeem asks.text 1) in
-    let S3 = after-redeeming (k + 1) k (few + 1 + 1) E2 actor k asks.text H.stands (omega arith) in
+    let wrote = entries_after settings entries actor 0 k (Act.Write lba asks.list) in
+    let after-wrote = after-writing k k few entries actor k lba asks.list s (omega arith) in
+    let made = entries_after settings wrote actor 0 k (Act.Populate k 300 (eight lba)) in
+    let token = makes-token k (few + 1) wrote actor k lba after-wrote (omega (arith, small)) (omega (arith, low)) within in
+    let used = entries_after settings made actor 0 k (Act.Redeem asks.text 1) in
+    let after-used = after-redeeming (k + 1) k (few + 1 + 1) made actor k asks.text token.stands (omega arith) in
     one-act step settings n entries replies i k a 0 (Act.Write lba asks.list) (populating i k b c d e xs) asks.writes (λ n1 r1.
-      one-act step settings n1 E1 r1 i k b 0 (Act.Populate k 300 (eight lba)) (redeeming i k c d e xs) asks.populates (λ n2 r2.
-        two-acts step settings n2 E2 r2 i k c asks.text (rod_of k (few + 1 + 1) lba E2 H) (pumping i k d e xs) asks.redeems
-        (eight-blocks k (few + 1 + 1) lba E2 H) (is-redeemed k (few + 1 + 1) lba E2 actor asks.text H (omega (arith, small)) asks.names asks.same) (λ n3 r3 start.
-          let E4 = entries_after settings E3 actor 1 k start in
-          let S4 = after-other (k + 1) k (few + 1 + 1 + 1) E3 actor k start S3 in
-          let E5 = entries_after settings E4 (Actor.Pump 1) 1 k Act.Pump in
-          let S5 = after-other (k + 1) k (few + 1 + 1 + 1 + 1) E4 (Actor.Pump 1) k Act.Pump S4 in
-          let E6 = entries_after settings E5 actor 1 k asks.report in
-          let S6 = after-other (k + 1) k (few + 1 + 1 + 1 + 1 + 1) E5 actor k asks.report S5 in
-          let E7 = entries_after settings E6 actor 1 k asks.read in
-          let S7 = after-other (k + 1) k (few + 1 + 1 + 1 + 1 + 1 + 1) E6 actor k asks.read S6 in
-          pumps step settings n3 E4 r3 1 k (looking i k d e xs) refl
-          (one-act step settings (n3 + 1) E5 r3 i k d 1 asks.report (reading i k e xs) asks.reports (λ n6 r6.
-            one-act step settings n6 E6 r6 i k e 1 asks.read xs asks.reads (λ n7 r7.
-              later n7 E7 r7 (longer (k + 1) k (few + 1 + 1 + 1 + 1 + 1 + 1 + 1) (k + 1) (few + 7) E7 S7 (omega arith) (omega arith))))))))
+    one-act step settings n1 wrote r1 i k b 0 (Act.Populate k 300 (eight lba)) (redeeming i k c d e xs) asks.populates (λ n2 r2.
+    two-acts step settings n2 made r2 i k c asks.text (rod_of k (few + 1 + 1) lba made token) (pumping i k d e xs) asks.redeems
+    (eight-blocks k (few + 1 + 1) lba made token) (is-redeemed k (few + 1 + 1) lba made actor asks.text token (omega (arith, small)) asks.names asks.same) (λ n3 r3 start.
+    let started = entries_after settings used actor 1 k start in
+    let after-started = after-other (k + 1) k (few + 1 + 1 + 1) used actor k start after-used in
+    let pumped = entries_after settings started (Actor.Pump 1) 1 k Act.Pump in
+    let after-pumped = after-other (k + 1) k (few + 1 + 1 + 1 + 1) started (Actor.Pump 1) k Act.Pump after-started in
+    let told = entries_after settings pumped actor 1 k asks.report in
+    let after-told = after-other (k + 1) k (few + 1 + 1 + 1 + 1 + 1) pumped actor k asks.report after-pumped in
+    let seen = entries_after settings told actor 1 k asks.read in
+    let after-seen = after-other (k + 1) k (few + 1 + 1 + 1 + 1 + 1 + 1) told actor k asks.read after-told in
+    pumps step settings n3 started r3 1 k (looking i k d e xs) refl
+    (one-act step settings (n3 + 1) pumped r3 i k d 1 asks.report (reading i k e xs) asks.reports (λ n6 r6.
+    one-act step settings n6 told r6 i k e 1 asks.read xs asks.reads (λ n7 r7.
+    later n7 seen r7 (longer (k + 1) k (few + 1 + 1 + 1 + 1 + 1 + 1 + 1) (k + 1) (few + 7) seen after-seen (omega arith) (omega arith))))))))
 
 -- ---- all rounds
 
 -- the requests of a round
-abbrev request : ℕ → Cdb → List ℕ → Request
-request unit cdb out = record { unit = unit; cdb = encoded cdb; out = out }
-
 abbrev writes_of : ℕ → Request
 writes_of k = request 0 (Cdb.Write (source k).lba 8) (written k)
 
@@ -263,9 +259,9 @@ rounds-fit first (suc count) n few entries replies low is s =
     (flat_map round_items (count_from (suc first) count))
     (round-asks first (omega (arith, low))) s (omega (arith, low, is)) (omega (arith, low)) (omega arith)
     (λ n2 entries2 replies2 s2.
-      let next : first + 1 ≡ suc first = omega arith in
-      rounds-fit (suc first) count n2 (few + 7) entries2 replies2 (omega (arith, low)) (omega (arith, is))
-      (subst (λ m. Stands m m (few + 7) entries2) next s2))
+    let next : first + 1 ≡ suc first = omega arith in
+    rounds-fit (suc first) count n2 (few + 7) entries2 replies2 (omega (arith, low)) (omega (arith, is))
+    (subst (λ m. Stands m m (few + 7) entries2) next s2))
 
 pub all-fit : (rounds : ℕ) → rounds ≤ 4096 → AllFit step settings (between 0 [] []) (flat_map round_items (count_from 0 rounds))
 all-fit rounds few = rounds-fit 0 rounds 0 0 [] [] (omega (arith, few)) refl (record { quiet = at-first; count = omega arith })
