@@ -190,6 +190,23 @@ abbrev FitsBehind : ℕ → ℕ → List TraceItem → Type 0
 FitsBehind serial few xs =
     (n : ℕ) (entries : List Entry) (replies : List AddressedReply) → Stands serial serial few entries → AllFit step settings (between n entries replies) xs
 
+-- the last items of a round are for the other unit
+looks : (serial k i n few : ℕ) (entries : List Entry) (replies : List AddressedReply) (d e : Request) (report read : Act) (xs : List TraceItem)
+    → IsAsking step settings d 1 report → IsAsking step settings e 1 read → Stands serial k few entries
+    → ((n2 : ℕ) (entries2 : List Entry) (replies2 : List AddressedReply) → Stands serial k (few + 1 + 1 + 1) entries2 → AllFit step settings (between n2 entries2 replies2) xs)
+    → AllFit step settings (between n entries replies) (pumping i k d e xs)
+looks serial k i n few entries replies d e report read xs reports reads s later =
+    let actor : Actor = Actor.Nexus i in
+    let pumped = entries_after settings entries (Actor.Pump 1) 1 k Act.Pump in
+    let after-pumped = after-other serial k few entries (Actor.Pump 1) k Act.Pump s in
+    let told = entries_after settings pumped actor 1 k report in
+    let after-told = after-other serial k (few + 1) pumped actor k report after-pumped in
+    let seen = entries_after settings told actor 1 k read in
+    let after-seen = after-other serial k (few + 1 + 1) told actor k read after-told in
+    pumps step settings n entries replies 1 k (looking i k d e xs) refl
+    (one-act step settings (n + 1) pumped replies i k d 1 report (reading i k e xs) reports (λ n2 r2.
+    one-act step settings n2 told r2 i k e 1 read xs reads (λ n3 r3. later n3 seen r3 after-seen)))
+
 round-fits : (k lba i n few : ℕ) (entries : List Entry) (replies : List AddressedReply) (a b c d e : Request) (xs : List TraceItem) → Asks k lba a b c d e
     → Stands k k few entries → few < 800_000 → k < 2 ^ 32 → lba + 8 ≤ 1_048_576 → FitsBehind (k + 1) (few + 7) xs
     → AllFit step settings (between n entries replies) (items_of i k a b c d e xs)
@@ -207,16 +224,8 @@ round-fits k lba i n few entries replies a b c d e xs asks s small low within la
     (eight-blocks k (few + 1 + 1) lba made token) (is-redeemed k (few + 1 + 1) lba made actor asks.text token (omega (arith, small)) asks.names asks.same) (λ n3 r3 start.
     let started = entries_after settings used actor 1 k start in
     let after-started = after-other (k + 1) k (few + 1 + 1 + 1) used actor k start after-used in
-    let pumped = entries_after settings started (Actor.Pump 1) 1 k Act.Pump in
-    let after-pumped = after-other (k + 1) k (few + 1 + 1 + 1 + 1) started (Actor.Pump 1) k Act.Pump after-started in
-    let told = entries_after settings pumped actor 1 k asks.report in
-    let after-told = after-other (k + 1) k (few + 1 + 1 + 1 + 1 + 1) pumped actor k asks.report after-pumped in
-    let seen = entries_after settings told actor 1 k asks.read in
-    let after-seen = after-other (k + 1) k (few + 1 + 1 + 1 + 1 + 1 + 1) told actor k asks.read after-told in
-    pumps step settings n3 started r3 1 k (looking i k d e xs) refl
-    (one-act step settings (n3 + 1) pumped r3 i k d 1 asks.report (reading i k e xs) asks.reports (λ n6 r6.
-    one-act step settings n6 told r6 i k e 1 asks.read xs asks.reads (λ n7 r7.
-    later n7 seen r7 (longer (k + 1) k (few + 1 + 1 + 1 + 1 + 1 + 1 + 1) (k + 1) (few + 7) seen after-seen (omega arith) (omega arith))))))))
+    looks (k + 1) k i n3 (few + 1 + 1 + 1 + 1) started r3 d e asks.report asks.read xs asks.reports asks.reads after-started (λ n4 entries4 r4 s4.
+    later n4 entries4 r4 (longer (k + 1) k (few + 1 + 1 + 1 + 1 + 1 + 1 + 1) (k + 1) (few + 7) entries4 s4 (omega arith) (omega arith))))))
 
 -- ---- all rounds
 
