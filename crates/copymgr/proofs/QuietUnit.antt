@@ -31,8 +31,9 @@ pub record Quiet (serial now few : ℕ) (past : List Deed) : Type 0 where
   pub count : length past ≤ few
   pub stamp : last_stamp past ≤ few
 
-pub at-first : Quiet 0 0 0 []
-at-first = record { made = refl; idle = refl; moment = omega arith; count = omega arith; stamp = omega arith }
+-- before the first act
+pub none-yet : Quiet 0 0 0 []
+none-yet = record { made = refl; idle = refl; moment = omega arith; count = omega arith; stamp = omega arith }
 
 -- ---- room
 

@@ -44,6 +44,7 @@ use Rattle.copymgr.proofs.QuietUnit.{eight}
 abbrev EndsIt : (Answer → Program) → Type 0
 EndsIt go_on = (a : Answer) → (reply : Reply) × (go_on a ≡ Ends reply)
 
+-- a command that goes on by one answer, whatever it is
 asks-alone : (config : Configuration) (r : Request) (unit : ℕ) (act : Act) (go_on : Answer → Program) → program config r ≡ ask_then unit act go_on → EndsIt go_on
     → IsAsking step config r unit act
 asks-alone config r unit act go_on is ends = record { asks = λ nexus. ap next is; ends = λ nexus o. by o }
@@ -67,7 +68,7 @@ ends-token config unit allocation (Answer.Report report) = (_, refl)
 ends-token config unit allocation (Answer.Refused sense) = (_, refl)
 ends-token config unit allocation _ = (Reply.Busy, refl)
 
--- ---- CDBs
+-- ---- CDBs, which are read as they were written
 
 decoded-write : (lba : ℕ) → lba < 2 ^ 64 → decoded (encoded (Cdb.Write lba 8)) ≡ Ok (Cdb.Write lba 8)
 decoded-write lba fits = ap (λ x. Ok (Cdb.Write x 8)) (number-back 8 lba fits)
@@ -86,6 +87,7 @@ decoded-information id fits = ap (λ x. Ok (Cdb.TokenInformation x 1024)) (numbe
 
 -- ---- what is written and read
 
+-- a request with its CDB spelled
 abbrev pub request : ℕ → Cdb → List ℕ → Request
 request unit cdb out = record { unit = unit; cdb = encoded cdb; out = out }
 
@@ -109,6 +111,7 @@ asks-information id fits =
 
 -- ---- lists
 
+-- the blocks in a row are all different
 none-again : (b first n : ℕ) → b < first → list_any (λ a. a == b) (row first n) ≡ false
 none-again b first zero low = refl
 none-again b first (suc n) low =
@@ -123,6 +126,7 @@ no-repeat first (suc n) = let here = none-again first (suc first) n (omega arith
 no-fault : (lba : ℕ) → range_fault (eight lba) ≡ None
 no-fault lba = let apart : is_overlapping (eight lba) ≡ false = no-repeat lba 8 in rw apart refl
 
+-- the list of a POPULATE TOKEN with the default timeout, which is read as 300 seconds
 abbrev populate_bytes : ℕ → List ℕ
 populate_bytes lba = populate_written (record { timeout = 0; ranges = eight lba })
 
@@ -154,6 +158,7 @@ names serial rest fits = ap (λ x. TokenKind.Names 0 x) (number-back 6 serial fi
 serial-back : (serial : ℕ) (rest : List ℕ) → serial < 2 ^ 48 → serial_of (named_text serial rest) ≡ serial
 serial-back serial rest fits = number-back 6 serial fits
 
+-- the rest of the text of a token of eight blocks
 abbrev behind : ℕ → List ℕ
 behind serial = unit_descriptor settings 0 ++ big_bytes 16 (8 * 512) ++ nonce settings 0 serial ++ zeros 416
 

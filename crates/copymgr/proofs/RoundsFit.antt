@@ -25,7 +25,7 @@ use Rattle.cmd_program.specs.Judging.{step}
 use Rattle.generator.specs.Settings.{count_from, settings}
 use Rattle.generator.specs.Rounds.{initiator, source, target, written, populate_list, write_list, round_items}
 use Rattle.trace_replay.specs.ReplayState.{AddressedReply, new_entry, has_no_room, entries_after, outcome_of}
-use Rattle.copymgr.proofs.QuietUnit.{Quiet, eight, at-first, has-room, after-write, after-redeem, after-populate, redeems, new_token}
+use Rattle.copymgr.proofs.QuietUnit.{Quiet, eight, none-yet, has-room, after-write, after-redeem, after-populate, redeems, new_token}
 use Rattle.copymgr.proofs.PlayedCommands.{AllFit, IsAsking, IsRedeeming, between, one-act, two-acts, pumps}
 use Rattle.copymgr.proofs.RoundRequests.{request, asks-write, asks-read, asks-information, asks-populate, asks-redeem, token-serial, same-text}
 
@@ -273,4 +273,4 @@ rounds-fit first (suc count) n few entries replies low is s =
     (subst (λ m. Stands m m (few + 7) entries2) next s2))
 
 pub all-fit : (rounds : ℕ) → rounds ≤ 4096 → AllFit step settings (between 0 [] []) (flat_map round_items (count_from 0 rounds))
-all-fit rounds few = rounds-fit 0 rounds 0 0 [] [] (omega (arith, few)) refl (record { quiet = at-first; count = omega arith })
+all-fit rounds few = rounds-fit 0 rounds 0 0 [] [] (omega (arith, few)) refl (record { quiet = none-yet; count = omega arith })
