@@ -14,7 +14,7 @@ fn take_all(framer: &mut Framer, noted: &mut Bytes) -> Result<bool, Fail> {
     for _ in 0..8 {
         match framer.take()? {
             Framed::Request(request) => {
-                noted.push(request.unit as u8)?;
+                noted.push(u8::try_from(request.unit).unwrap_or(u8::MAX))?;
                 noted.push(request.cdb[0])?;
                 noted.extend(request.out.as_slice())?;
             }
