@@ -15,15 +15,15 @@ use Rattle.cmd_program.specs.declared.step.Outcome.{Outcome}
 use Rattle.cmd_program.specs.declared.step.Step.{Step}
 use Rattle.cmd_program.specs.Stepping.{Stepping}
 use Rattle.trace_replay.specs.Items.{Ending, Placed}
-use Rattle.trace_replay.specs.ReplayState.{ReplayState, Pending, AddressedReply, NoShortage, waiting, without, goes_on, did, ran, entries_after, outcome_of, next, fits}
+use Rattle.trace_replay.specs.ReplayState.{ReplayState, Pending, AddressedReply, Nowhere, waiting, without, goes_on, did, ran, entries_after, outcome_of, next, fits}
 use Rattle.trace_replay.specs.Played.{play, shortage_for, shortages_behind}
 
 -- each item fits when its turn comes
 abbrev pub AllFit : Stepping → Configuration → ReplayState → List TraceItem → Type 0
 AllFit step config s [] = Unit {0}
-AllFit step config s (x ∷ xs) = (fits config s x ≡ true) × AllFit step config (next step config s x NoShortage) xs
+AllFit step config s (x ∷ xs) = (fits config s x ≡ true) × AllFit step config (next step config s x Nowhere) xs
 
-never-short : (x : TraceItem) → shortage_for x [] ≡ NoShortage
+never-short : (x : TraceItem) → shortage_for x [] ≡ Nowhere
 never-short (TraceItem.Begin initiator moment request) = refl
 never-short (TraceItem.Run initiator moment) = refl
 never-short (TraceItem.Pump unit moment) = refl
@@ -38,7 +38,7 @@ pub all-played : (step : Stepping) (config : Configuration) (s : ReplayState) (x
     → AllFit step config s (map (λ (x : Placed). x.item) xs) → (play step config s xs ending []).ending ≡ ending
 all-played step config s [] ending fit = refl
 all-played step config s (x ∷ xs) ending fit =
-    rw (fit.0, never-short x.item, none-behind x.item) (all-played step config (next step config s x.item NoShortage) xs ending fit.1)
+    rw (fit.0, never-short x.item, none-behind x.item) (all-played step config (next step config s x.item Nowhere) xs ending fit.1)
 
 -- how things stand between two commands
 abbrev pub between : ℕ → List Entry → List AddressedReply → ReplayState
@@ -77,7 +77,7 @@ begins : (step : Stepping) (config : Configuration) (n : ℕ) (entries : List En
     → step config i r [] ≡ Step.Do unit act → AllFit step config (waiting_with (n + 1) entries (waits_as i r []) replies) xs
     → AllFit step config (between n entries replies) (TraceItem.Begin i m r ∷ xs)
 begins step config n entries replies i m r unit act xs asks later =
-    let after : next step config (between n entries replies) (TraceItem.Begin i m r) NoShortage ≡ waiting_with (n + 1) entries (waits_as i r []) replies =
+    let after : next step config (between n entries replies) (TraceItem.Begin i m r) Nowhere ≡ waiting_with (n + 1) entries (waits_as i r []) replies =
     ap (goes_on (between (n + 1) entries replies) (waits_as i r [])) asks in
     (refl, subst (λ s. AllFit step config s xs) (sym after) later)
 
@@ -91,10 +91,10 @@ runs-on step config n entries replies i m r outcomes unit act o other more xs as
     let p = waits_as i r outcomes in
     let s = waiting_with (n + 1) entries p replies in
     let now = entries_after config entries (Actor.Nexus i) unit m act in
-    let found : ran step config s m NoShortage (waiting i (p ∷ [])) ≡ did step config s m p NoShortage (step config i r outcomes) =
-    ap (ran step config s m NoShortage) (waits i r outcomes) in
-    let done : did step config s m p NoShortage (step config i r outcomes) ≡ did step config s m p NoShortage (Step.Do unit act) = ap (did step config s m p NoShortage) asks in
-    let came : did step config s m p NoShortage (Step.Do unit act)
+    let found : ran step config s m Nowhere (waiting i (p ∷ [])) ≡ did step config s m p Nowhere (step config i r outcomes) =
+    ap (ran step config s m Nowhere) (waits i r outcomes) in
+    let done : did step config s m p Nowhere (step config i r outcomes) ≡ did step config s m p Nowhere (Step.Do unit act) = ap (did step config s m p Nowhere) asks in
+    let came : did step config s m p Nowhere (Step.Do unit act)
     ≡ goes_on (waiting_with (n + 1) now p replies) (waits_as i r (outcomes ++ o ∷ [])) (step config i r (outcomes ++ o ∷ [])) =
     ap (λ x. goes_on (waiting_with (n + 1) now p replies) (waits_as i r (outcomes ++ x ∷ [])) (step config i r (outcomes ++ x ∷ []))) is in
     let waiting_on : goes_on (waiting_with (n + 1) now p replies) (waits_as i r (outcomes ++ o ∷ [])) (step config i r (outcomes ++ o ∷ []))
@@ -115,10 +115,10 @@ runs-out step config n entries replies i m r outcomes unit act reply xs asks goe
     let now = entries_after config entries (Actor.Nexus i) unit m act in
     let o = outcome_of config entries (Actor.Nexus i) unit m act in
     let all : List AddressedReply = replies ++ (record { initiator = i; reply = reply }) ∷ [] in
-    let found : ran step config s m NoShortage (waiting i (p ∷ [])) ≡ did step config s m p NoShortage (step config i r outcomes) =
-    ap (ran step config s m NoShortage) (waits i r outcomes) in
-    let done : did step config s m p NoShortage (step config i r outcomes) ≡ did step config s m p NoShortage (Step.Do unit act) = ap (did step config s m p NoShortage) asks in
-    let answered : did step config s m p NoShortage (Step.Do unit act) ≡ between (n + 1) now all =
+    let found : ran step config s m Nowhere (waiting i (p ∷ [])) ≡ did step config s m p Nowhere (step config i r outcomes) =
+    ap (ran step config s m Nowhere) (waits i r outcomes) in
+    let done : did step config s m p Nowhere (step config i r outcomes) ≡ did step config s m p Nowhere (Step.Do unit act) = ap (did step config s m p Nowhere) asks in
+    let answered : did step config s m p Nowhere (Step.Do unit act) ≡ between (n + 1) now all =
     ap (goes_on (waiting_with (n + 1) now p replies) (waits_as i r (outcomes ++ o ∷ []))) goes
     ∙ ap (λ l. record { items = n + 1; entries = now; pending = l; replies = all }) (gone i r outcomes) in
     (ap is_some (waits i r outcomes), subst (λ s2. AllFit step config s2 xs) (sym (found ∙ done ∙ answered)) later)

@@ -14,7 +14,7 @@ use Rattle.cmd_machine.specs.Rest.{StandsFor}
 use Rattle.any_cmds.specs.declared.phase.AnyPhase.{AnyPhase}
 use Rattle.any_cmds.specs.Meaning.{by_any}
 use Rattle.trace_replay.specs.declared.nexus.Waiting.{Waiting}
-use Rattle.trace_replay.specs.ReplayState.{Pending, Shortage, NoShortage, AtStep, noted, noted_at_step, next_step}
+use Rattle.trace_replay.specs.ReplayState.{Pending, Shortage, Nowhere, AtStep, noted, noted_at_step, next_step}
 use Rattle.trace_replay.specs.inner.Machines.{IsCommandOf, IsNext, WentOn, HasBegun, shortage_of}
 use Rattle.trace_replay.proofs.ShownShortages.{any-append}
 use Rattle.trace_replay.proofs.ShownShortages.{or-true}
@@ -69,4 +69,4 @@ begun config initiator request waits reply went = go went.0 went.2
     go : (wanted : Bool) → WentOn config (noted (record { initiator = initiator; request = request; outcomes = [] }) (noted_at_step (shortage_of wanted))) waits reply
         → (shortage : Shortage) × HasBegun config initiator request shortage waits reply
     go true w = (AtStep, w)
-    go false w = (NoShortage, w)
+    go false w = (Nowhere, w)

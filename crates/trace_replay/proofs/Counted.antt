@@ -17,7 +17,7 @@ use Rattle.trace_replay.specs.declared.summary.Summary.{Summary}
 use Rattle.trace_replay.specs.declared.player.Player.{Player}
 use Rattle.trace_replay.specs.declared.machine.Machine.{Machine}
 use Rattle.trace_replay.specs.Items.{items_limit}
-use Rattle.trace_replay.specs.ReplayState.{Pending, AddressedReply, ReplayState, Shortage, NoShortage, AtBegin, AtAct, AtStep, waiting, goes_on, did, ran, begun, next, next_step, acted, noted_act}
+use Rattle.trace_replay.specs.ReplayState.{Pending, AddressedReply, ReplayState, Shortage, Nowhere, AtBegin, AtAct, AtStep, waiting, goes_on, did, ran, begun, next, next_step, acted, noted_act}
 use Rattle.trace_replay.specs.Played.{shortage_for, addressed_bytes, output_of, summary_of, is_good, is_check, is_busy, is_task_set_full}
 use Rattle.trace_replay.specs.inner.Laws.{StandsAt}
 use Rattle.trace_replay.proofs.LoopLaws.{shortages_of}
@@ -48,7 +48,7 @@ ran-items config s moment shortage None = refl
 ran-items config s moment shortage (Some p) = did-items config s moment p shortage (next_step step config p)
 
 begun-items : (config : Configuration) (s : ReplayState) (i : ℕ) (r : Request) (shortage : Shortage) → (begun step config s i r shortage).items ≡ s.items
-begun-items config s i r NoShortage = went-items s _ _
+begun-items config s i r Nowhere = went-items s _ _
 begun-items config s i r AtBegin = refl
 begun-items config s i r AtAct = went-items s _ _
 begun-items config s i r AtStep = went-items s _ _

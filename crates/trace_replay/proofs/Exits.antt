@@ -22,7 +22,7 @@ use Rattle.trace_replay.specs.declared.summary.Summary.{Summary}
 use Rattle.trace_replay.specs.declared.fault.ReplayFault.{ReplayFault}
 use Rattle.trace_replay.specs.declared.fault.ReplayFault.TheVariants.{ReadFault, WriteFault, OutOfMemory}
 use Rattle.trace_replay.specs.Items.{Ending, Placed, trace_of}
-use Rattle.trace_replay.specs.ReplayState.{Pending, ReplayState, Shortage, NoShortage, next, next_step, fits, waiting}
+use Rattle.trace_replay.specs.ReplayState.{Pending, ReplayState, Shortage, Nowhere, next, next_step, fits, waiting}
 use Rattle.trace_replay.specs.Played.{Played, played, played_from, shortage_for, shortages_behind, output_of, summary_of}
 use Rattle.trace_replay.specs.Shortages.{allowed_at_act, allowed_at_run, is_allowed, are_allowed, may_lack, met_want}
 use Rattle.cm_base.specs.Outside.{IsBeginning}
@@ -35,11 +35,11 @@ use Rattle.trace_replay.proofs.ShownShortages.{none-behind}
 
 -- ---- no shortage is always allowed
 
-no-shortage-at-run : (step : Stepping) (config : Configuration) (s : ReplayState) (found : Option Pending) → allowed_at_run step config s NoShortage found ≡ true
+no-shortage-at-run : (step : Stepping) (config : Configuration) (s : ReplayState) (found : Option Pending) → allowed_at_run step config s Nowhere found ≡ true
 no-shortage-at-run step config s None = refl
 no-shortage-at-run step config s (Some p) = go (gave_up p.outcomes) (next_step step config p)
   where
-    go : (t : Bool) (next : Step) → cond t true (allowed_at_act config s.entries (Actor.Nexus p.initiator) NoShortage next) ≡ true
+    go : (t : Bool) (next : Step) → cond t true (allowed_at_act config s.entries (Actor.Nexus p.initiator) Nowhere next) ≡ true
     go true next = refl
     go false (Step.Do unit act) = refl
     go false (Step.Done reply) = refl

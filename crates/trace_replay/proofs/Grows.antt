@@ -9,7 +9,7 @@ use Rattle.cm_history.specs.declared.act.Actor.TheVariants.{Nexus}
 use Rattle.cmd_program.specs.declared.step.Step.{Step}
 use Rattle.cmd_program.specs.Stepping.{Stepping}
 use Rattle.trace_replay.specs.Items.{Ending, BadRecord, Placed, trace_of}
-use Rattle.trace_replay.specs.ReplayState.{Pending, AddressedReply, ReplayState, Shortage, NoShortage, AtBegin, AtAct, AtStep, waiting, acted, noted_act, goes_on, next_step, begun, did, ran, changed, next, fits}
+use Rattle.trace_replay.specs.ReplayState.{Pending, AddressedReply, ReplayState, Shortage, Nowhere, AtBegin, AtAct, AtStep, waiting, acted, noted_act, goes_on, next_step, begun, did, ran, changed, next, fits}
 use Rattle.trace_replay.specs.Played.{play, shortage_for, shortages_behind, addressed_bytes, output_of}
 use Rattle.trace_replay.proofs.LoopLaws.{OutputGrows}
 use Rattle.cm_base.specs.Outside.{IsBeginning}
@@ -40,7 +40,7 @@ goes_on-from s t p (Step.Do unit act) same = record { more = []; is = append-nil
 begun-follows : (step : Stepping) (config : Configuration) (s : ReplayState) (initiator : ℕ) (request : Request) (shortage : Shortage)
     → Follows s (begun step config s initiator request shortage)
 begun-follows step config s initiator request AtBegin = record { more = (record { initiator = initiator; reply = Reply.Busy }) ∷ []; is = refl }
-begun-follows step config s initiator request NoShortage = goes_on-follows s _ _
+begun-follows step config s initiator request Nowhere = goes_on-follows s _ _
 begun-follows step config s initiator request AtAct = goes_on-follows s _ _
 begun-follows step config s initiator request AtStep = goes_on-follows s _ _
 

@@ -20,7 +20,7 @@ use Rattle.cmd_program.specs.Stepping.{gave_up}
 use Rattle.trace_replay.specs.declared.nexus.Waiting.{Waiting}
 use Rattle.trace_replay.specs.declared.nexus.Nexus.{Nexus}
 use Rattle.trace_replay.specs.declared.machine.Machine.{Machine}
-use Rattle.trace_replay.specs.ReplayState.{Pending, ReplayState, Shortage, NoShortage, AtBegin, AtAct, AtStep, is_of, waiting, without, seq, new_entry, has_no_room, entries_after, entries_at, next_step, goes_on, acted, noted_act, did, ran, next, fits}
+use Rattle.trace_replay.specs.ReplayState.{Pending, ReplayState, Shortage, Nowhere, AtBegin, AtAct, AtStep, is_of, waiting, without, seq, new_entry, has_no_room, entries_after, entries_at, next_step, goes_on, acted, noted_act, did, ran, next, fits}
 use Rattle.trace_replay.specs.Played.{shortage_for}
 use Rattle.trace_replay.specs.Shortages.{is_no_shortage, allowed_at_act, allowed_at_run, is_allowed}
 use Rattle.trace_replay.specs.inner.Machines.{HaveCounted, IsWaiting, WentOn, HasBegun, HasRun, WaitsFor, IsNexus, IsStanding, IsEffect, effect_of}
@@ -62,7 +62,7 @@ seq-after config entries actor u moment act i other = go (has_no_room config ent
 
 seq-at : (shortage : Shortage) (i : ℕ) (entries later : List Entry) → seq (Actor.Nexus i) later ≡ seq (Actor.Nexus i) entries
     → seq (Actor.Nexus i) (entries_at shortage entries later) ≡ seq (Actor.Nexus i) entries
-seq-at NoShortage i entries later e = e
+seq-at Nowhere i entries later e = e
 seq-at AtBegin i entries later e = e
 seq-at AtAct i entries later e = refl
 seq-at AtStep i entries later e = e
@@ -80,7 +80,7 @@ pub pumped : (config : Configuration) (s : ReplayState) (m m' : Machine) (unit m
     → IsEffect config s (TraceItem.Pump unit moment) (effect_of unit None) m'
 pumped config s m m' unit moment is there told nexuses units = record {
   fit = there;
-  shortage = NoShortage;
+  shortage = Nowhere;
   allowed = refl;
   state = record {
     told = told ∙ is.told;
@@ -225,7 +225,7 @@ begun config s m m' i moment request nexus reply is idle right began told units 
         s (TraceItem.Begin i moment request) shortage fit allowed refl nx nexus.waiting reply same refl so
 
     by : (shortage : Shortage) → HasBegun config i request shortage nexus.waiting reply → IsEffect config s (TraceItem.Begin i moment request) (effect_of i reply) m'
-    by NoShortage went = goes NoShortage [] (next_step step config (record { initiator = i; request = request; outcomes = [] })) refl refl
+    by Nowhere went = goes Nowhere [] (next_step step config (record { initiator = i; request = request; outcomes = [] })) refl refl
         (went-goes config (record { initiator = i; request = request; outcomes = [] }) nexus.waiting reply went)
     by AtStep went = goes AtStep (Outcome.NoMemory ∷ []) (next_step step config (record { initiator = i; request = request; outcomes = Outcome.NoMemory ∷ [] })) refl refl
         (went-goes config (record { initiator = i; request = request; outcomes = Outcome.NoMemory ∷ [] }) nexus.waiting reply went)

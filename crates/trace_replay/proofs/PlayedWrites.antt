@@ -26,7 +26,7 @@ use Rattle.cmd_program.specs.InHistory.{is_by, entries_by, IsNext, IsTurn, RunsI
 use Rattle.cmd_program.specs.WriteEnds.{EndsWell, IsNotStopped}
 use Rattle.cmd_program.proofs.PublicLaws.{writes-end-well, writes-are-not-stopped}
 use Rattle.trace_replay.specs.Items.{Placed, Ending, BadRecord, trace_of, items_limit}
-use Rattle.trace_replay.specs.ReplayState.{Pending, AddressedReply, ReplayState, Shortage, NoShortage, AtBegin, AtAct, AtStep, is_of, waiting, without, replied, goes_on, next_step, gone_on, begun, noted, noted_at_step, outcomes_at, entries_at, entries_after, new_entry, acted, noted_act, did, ran, fits, has_no_room, outcome_of, at_first}
+use Rattle.trace_replay.specs.ReplayState.{Pending, AddressedReply, ReplayState, Shortage, Nowhere, AtBegin, AtAct, AtStep, is_of, waiting, without, replied, goes_on, next_step, gone_on, begun, noted, noted_at_step, outcomes_at, entries_at, entries_after, new_entry, acted, noted_act, did, ran, fits, has_no_room, outcome_of, at_first}
 use Rattle.trace_replay.specs.ReplayState as state
 use Rattle.trace_replay.specs.Played.{played, played_after, play, shortage_for, shortages_behind}
 use Rattle.trace_replay.specs.Ended.{Ended, ended_by, ended_now, ended_at_act, ended_at_run, ended_at, ended_in, ended_after, ended, reply_to, IsKeptTo}
@@ -70,7 +70,7 @@ runs-on config nexus p before (Outcome.NoMemory ∷ os) more after later run on 
 
 -- a shortage at the next step adds no entry
 step-runs : (config : Configuration) (nexus : ℕ) (p : Program) (h : List Entry) (shortage : Shortage) → RunsTo config nexus p h (noted_at_step shortage) h
-step-runs config nexus p h NoShortage = refl
+step-runs config nexus p h Nowhere = refl
 step-runs config nexus p h AtBegin = refl
 step-runs config nexus p h AtAct = refl
 step-runs config nexus p h AtStep = refl
@@ -158,8 +158,8 @@ acted-runs : (config : Configuration) (entries : List Entry) (p : Pending) (unit
     → Runs config (entries_at shortage entries (entries_after config entries (Actor.Nexus p.initiator) unit moment act))
     (noted p (outcomes_at shortage (outcome_of config entries (Actor.Nexus p.initiator) unit moment act)))
 acted-runs config entries p unit moment act AtAct asks r = noted-runs config entries p (Outcome.NoMemory ∷ []) (λ q h. refl) r
-acted-runs config entries p unit moment act NoShortage asks r =
-    done-runs config entries p unit moment act NoShortage (has_no_room config entries (Actor.Nexus p.initiator) unit act) asks r
+acted-runs config entries p unit moment act Nowhere asks r =
+    done-runs config entries p unit moment act Nowhere (has_no_room config entries (Actor.Nexus p.initiator) unit act) asks r
 acted-runs config entries p unit moment act AtBegin asks r =
     done-runs config entries p unit moment act AtBegin (has_no_room config entries (Actor.Nexus p.initiator) unit act) asks r
 acted-runs config entries p unit moment act AtStep asks r =
@@ -230,7 +230,7 @@ behind-act config s initiator unit moment act shortage all = Each-by _ (without 
     at : (p : Pending) → (m : Shortage) → Runs config s.entries p
         → Runs config (entries_after config s.entries (Actor.Nexus initiator) unit moment act) p
         → Runs config (entries_at m s.entries (entries_after config s.entries (Actor.Nexus initiator) unit moment act)) p
-    at p NoShortage x y = y
+    at p Nowhere x y = y
     at p AtBegin x y = y
     at p AtAct x y = x
     at p AtStep x y = y
@@ -286,7 +286,7 @@ begin-kept config s initiator moment request shortage all = by shortage
 
     by : (m : Shortage) → ItemKept config s (TraceItem.Begin initiator moment request) m
     by AtBegin = record { run = others-run config s.entries initiator s.pending all; kept = (busy-kept initiator request, tt); said = refl }
-    by NoShortage = record { run = begins NoShortage; kept = ends NoShortage; said = says NoShortage }
+    by Nowhere = record { run = begins Nowhere; kept = ends Nowhere; said = says Nowhere }
     by AtAct = record { run = begins AtAct; kept = ends AtAct; said = says AtAct }
     by AtStep = record { run = begins AtStep; kept = ends AtStep; said = says AtStep }
 

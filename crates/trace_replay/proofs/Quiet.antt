@@ -21,7 +21,7 @@ use Rattle.cmd_program.specs.Judging.{step, program, program_after}
 use Rattle.cmd_program.specs.Honest.{IsHonestReply}
 use Rattle.cmd_program.proofs.PublicLaws.{IsHonest, program-honest}
 use Rattle.trace_replay.specs.Items.{Placed, Ending, BadRecord, trace_of, items_limit}
-use Rattle.trace_replay.specs.ReplayState.{Pending, AddressedReply, ReplayState, Shortage, NoShortage, is_of, waiting, without, replied, goes_on, next_step, gone_on, begun, noted, acted, noted_act, did, ran, fits, has_no_room, outcome_of, at_first}
+use Rattle.trace_replay.specs.ReplayState.{Pending, AddressedReply, ReplayState, Shortage, Nowhere, is_of, waiting, without, replied, goes_on, next_step, gone_on, begun, noted, acted, noted_act, did, ran, fits, has_no_room, outcome_of, at_first}
 use Rattle.trace_replay.specs.ReplayState as state
 use Rattle.trace_replay.specs.Played.{played, played_after, play, shortage_for, shortages_behind, replies_that, is_busy}
 use Rattle.trace_replay.proofs.ShownShortages.{none-behind}
@@ -94,13 +94,13 @@ fold-last : (p : Program) (xs : List Outcome) (o : Outcome) → fold moved p (xs
 fold-last p [] o = refl
 fold-last p (x ∷ xs) o = fold-last (moved p x) xs o
 
-quiet-did : (config : Configuration) (s : ReplayState) (moment : ℕ) (p : Pending) → Quiet config s → IsQuiet (its config p) → Quiet config (did step config s moment p NoShortage (next_step step config p))
+quiet-did : (config : Configuration) (s : ReplayState) (moment : ℕ) (p : Pending) → Quiet config s → IsQuiet (its config p) → Quiet config (did step config s moment p Nowhere (next_step step config p))
 quiet-did config s moment p quiet q = go (next_step step config p) refl
   where
-    go : (n : Step) → next_step step config p ≡ n → Quiet config (did step config s moment p NoShortage n)
+    go : (n : Step) → next_step step config p ≡ n → Quiet config (did step config s moment p Nowhere n)
     go (Step.Done reply) e = quiet
     go (Step.Do unit act) e =
-        quiet-goes config (acted config s (Nexus p.initiator) unit moment act NoShortage) (noted_act config s p unit moment act NoShortage)
+        quiet-goes config (acted config s (Nexus p.initiator) unit moment act Nowhere) (noted_act config s p unit moment act Nowhere)
         (record { waits = quiet.waits; said = quiet.said })
         (subst IsQuiet (sym (fold-last (program config p.request) p.outcomes (outcome_of config s.entries (Nexus p.initiator) unit moment act)))
         (after (has_no_room config s.entries (Nexus p.initiator) unit act)))
@@ -109,10 +109,10 @@ quiet-did config s moment p quiet q = go (next_step step config p) refl
         after true = quiet-full (its config p) q
         after false = quiet-answered (its config p) unit act _ q e (answer-kind config s.entries unit (Nexus p.initiator) moment act)
 
-quiet-ran : (config : Configuration) (s : ReplayState) (initiator moment : ℕ) → Quiet config s → Quiet config (ran step config s moment NoShortage (waiting initiator s.pending))
+quiet-ran : (config : Configuration) (s : ReplayState) (initiator moment : ℕ) → Quiet config s → Quiet config (ran step config s moment Nowhere (waiting initiator s.pending))
 quiet-ran config s initiator moment quiet = go (waiting initiator s.pending) refl
   where
-    go : (w : Option Pending) → waiting initiator s.pending ≡ w → Quiet config (ran step config s moment NoShortage w)
+    go : (w : Option Pending) → waiting initiator s.pending ≡ w → Quiet config (ran step config s moment Nowhere w)
     go None e = quiet
     go (Some p) e = quiet-did config s moment p quiet (Each-in (λ (p : Pending). IsQuiet (its config p)) s.pending p quiet.waits (find-in (is_of initiator) s.pending p e))
 

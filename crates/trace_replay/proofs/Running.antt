@@ -11,7 +11,7 @@ use Rattle.cmd_program.specs.declared.step.Outcome.{Outcome}
 use Rattle.cmd_program.specs.Stepping.{gave_up, gives_up}
 use Rattle.trace_replay.specs.declared.units.Units.{Units}
 use Rattle.trace_replay.specs.declared.nexus.Nexus.{Nexus}
-use Rattle.trace_replay.specs.ReplayState.{Pending, Shortage, NoShortage, AtBegin, AtAct, AtStep, seq, has_no_room, entries_after, outcome_of, noted, noted_at_step, outcomes_at, entries_at}
+use Rattle.trace_replay.specs.ReplayState.{Pending, Shortage, Nowhere, AtBegin, AtAct, AtStep, seq, has_no_room, entries_after, outcome_of, noted, noted_at_step, outcomes_at, entries_at}
 use Rattle.cm_history.specs.Ends.{ends_operation}
 use Rattle.cm_history.specs.History.{past_of}
 use Rattle.trace_replay.specs.inner.Machines.{HaveCounted, HasActed, HasRun, WentOn, shortage_of, is_at_act_of}
@@ -66,14 +66,14 @@ module _ (config : Configuration) (entries : List Entry) (p : Pending) (u moment
           → outcomes_at shortage outcome ≡ found ∷ [] → (wanted : Bool) → (gave_up (p.outcomes ++ found ∷ []) ≡ true → wanted ≡ false)
           → WentOn config (noted (noted p (found ∷ [])) (noted_at_step (shortage_of wanted))) nexus.waiting reply
           → HasRun config entries p u moment act after nexus reply
-      go NoShortage allowed units n is false once went = record {
-        shortage = NoShortage;
+      go Nowhere allowed units n is false once went = record {
+        shortage = Nowhere;
         allowed = always (gave_up p.outcomes);
         units = units;
         seq = n;
-        went = moved-on NoShortage [] (found ∷ []) (append-nil (p.outcomes ++ found ∷ [])) (sym is) went;
+        went = moved-on Nowhere [] (found ∷ []) (append-nil (p.outcomes ++ found ∷ [])) (sym is) went;
       }
-      go NoShortage allowed units n is true once went =
+      go Nowhere allowed units n is true once went =
           let same : outcome ≡ found = cc in
           let goes : gave_up (p.outcomes ++ found ∷ []) ≡ true → ⊥ = λ e. let k = once e in cc in
           let first : gave_up p.outcomes ≡ false = not-before goes in

@@ -21,7 +21,7 @@ use Rattle.cm_base.specs.declared.parsed.Parsed.{Parsed}
 use Rattle.cm_base.specs.declared.parsed.Parsed.TheVariants.{Whole, Short, Bad}
 use Rattle.cm_frame.specs.Reading.{read_header}
 use Rattle.trace_replay.specs.Items.{Ending, BadRecord, Placed, trace_of, items_limit}
-use Rattle.trace_replay.specs.ReplayState.{Shortage, NoShortage, AtBegin, AtAct, AtStep, acted, noted_act, begun, did, ran, changed, next, fits, outcome_of, outcomes_at, has_no_room, at_first}
+use Rattle.trace_replay.specs.ReplayState.{Shortage, Nowhere, AtBegin, AtAct, AtStep, acted, noted_act, begun, did, ran, changed, next, fits, outcome_of, outcomes_at, has_no_room, at_first}
 use Rattle.trace_replay.specs.Played.{played_after, play, shortage_for, shortages_behind}
 use Rattle.trace_replay.specs.Shortages.{is_no_shortage, allowed_at_act, allowed_at_run, is_allowed, are_allowed, allowed_after}
 use Rattle.trace_replay.proofs.LoopLaws.{ShortagesTell}
@@ -165,7 +165,7 @@ beside s q (Step.Do unit act) w other = record {
 begun-beside : (step : Stepping) (config : Configuration) (s : ReplayState) (j : ℕ) (request : Request) (shortage : Shortage) (w : Waits s)
     → (w.p.initiator ≡ j → ⊥) → Waits (begun step config s j request shortage)
 begun-beside step config s j request AtBegin w other = beside s (record { initiator = j; request = request; outcomes = [] }) (Step.Done Reply.Busy) w other
-begun-beside step config s j request NoShortage w other = beside s (record { initiator = j; request = request; outcomes = [] }) _ w other
+begun-beside step config s j request Nowhere w other = beside s (record { initiator = j; request = request; outcomes = [] }) _ w other
 begun-beside step config s j request AtAct w other = beside s (record { initiator = j; request = request; outcomes = [] }) _ w other
 begun-beside step config s j request AtStep w other = beside s (record { initiator = j; request = request; outcomes = Outcome.NoMemory ∷ [] }) _ w other
 
@@ -238,7 +238,7 @@ none-in os o a b = any-append gives_up os (o ∷ []) ∙ rw (a, b) refl
 
 begun-shows : (step : Stepping) → EndsBusy step → (config : Configuration) (s : ReplayState) (j m : ℕ) (request : Request) (shortage : Shortage)
     → is_allowed step config s (TraceItem.Begin j m request) shortage ≡ true → is_no_shortage shortage ≡ false → Shows (begun step config s j request shortage)
-begun-shows step ends config s j m request NoShortage may some = cc
+begun-shows step ends config s j m request Nowhere may some = cc
 begun-shows step ends config s j m request AtAct may some = cc
 begun-shows step ends config s j m request AtBegin may some = inl (replied-busy s j Reply.Busy refl)
 begun-shows step ends config s j m request AtStep may some =
@@ -256,7 +256,7 @@ did-short : (step : Stepping) → EndsBusy step → (config : Configuration) (s 
     → gave_up p.outcomes ≡ false → allowed_at_act config s.entries (Actor.Nexus p.initiator) shortage next ≡ true → is_no_shortage shortage ≡ false
     → Shows (did step config s moment p shortage next)
 did-short step ends config s moment p shortage (Step.Done reply) none may some = cc
-did-short step ends config s moment p NoShortage (Step.Do unit act) none may some = cc
+did-short step ends config s moment p Nowhere (Step.Do unit act) none may some = cc
 did-short step ends config s moment p AtBegin (Step.Do unit act) none may some = cc
 did-short step ends config s moment p AtAct (Step.Do unit act) none may some =
     gone_on-shows step ends config (acted config s (Actor.Nexus p.initiator) unit moment act AtAct) (noted_act config s p unit moment act AtAct)
@@ -289,7 +289,7 @@ next-short step ends config s (TraceItem.Begin j m request) shortages fit may so
   where
     go : (shortage : Shortage) → is_allowed step config s (TraceItem.Begin j m request) shortage ≡ true
         → is_allowed step config (record s { items = s.items + 1 }) (TraceItem.Begin j m request) shortage ≡ true
-    go NoShortage e = e
+    go Nowhere e = e
     go AtBegin e = e
     go AtAct e = e
     go AtStep e = e
@@ -308,15 +308,15 @@ no-shortage-then : (item : TraceItem) (shortages : List Shortage) → is_no_shor
 no-shortage-then (TraceItem.Pump u m) shortages e = refl
 no-shortage-then (TraceItem.Begin i m r) shortages e = go (shortage_for (TraceItem.Begin i m r) shortages) e
   where
-    go : (shortage : Shortage) → is_no_shortage shortage ≡ true → shortage ≡ NoShortage
-    go NoShortage e = refl
+    go : (shortage : Shortage) → is_no_shortage shortage ≡ true → shortage ≡ Nowhere
+    go Nowhere e = refl
     go AtBegin e = cc
     go AtAct e = cc
     go AtStep e = cc
 no-shortage-then (TraceItem.Run i m) shortages e = go (shortage_for (TraceItem.Run i m) shortages) e
   where
-    go : (shortage : Shortage) → is_no_shortage shortage ≡ true → shortage ≡ NoShortage
-    go NoShortage e = refl
+    go : (shortage : Shortage) → is_no_shortage shortage ≡ true → shortage ≡ Nowhere
+    go Nowhere e = refl
     go AtBegin e = cc
     go AtAct e = cc
     go AtStep e = cc

@@ -11,7 +11,7 @@ use Rattle.cm_frame.specs.Reading.{read_header}
 use Rattle.cmd_program.specs.Stepping.{Stepping}
 use Rattle.trace_replay.specs.declared.summary.Summary.{Summary}
 use Rattle.trace_replay.specs.Items.{Ending, Torn, BadHeader, BadRecord, Placed, trace_of, items_limit}
-use Rattle.trace_replay.specs.ReplayState.{ReplayState, AddressedReply, Shortage, NoShortage, at_first, next, fits}
+use Rattle.trace_replay.specs.ReplayState.{ReplayState, AddressedReply, Shortage, Nowhere, at_first, next, fits}
 
 -- how things stand at the end, and why it is the end
 pub record Played : Type 0 where
@@ -20,7 +20,7 @@ pub record Played : Type 0 where
 
 -- There is a shortage for each Begin and each Run, and none for a Pump. Shortages that are not there say nothing.
 abbrev pub first_shortage : List Shortage → Shortage
-first_shortage [] = NoShortage
+first_shortage [] = Nowhere
 first_shortage (m ∷ shortages) = m
 
 abbrev pub later_marks : List Shortage → List Shortage
@@ -28,7 +28,7 @@ later_marks [] = []
 later_marks (m ∷ shortages) = shortages
 
 abbrev pub shortage_for : TraceItem → List Shortage → Shortage
-shortage_for (TraceItem.Pump unit moment) shortages = NoShortage
+shortage_for (TraceItem.Pump unit moment) shortages = Nowhere
 shortage_for item shortages = first_shortage shortages
 
 abbrev pub shortages_behind : TraceItem → List Shortage → List Shortage

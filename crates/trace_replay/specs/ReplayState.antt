@@ -43,7 +43,7 @@ at_first = record { items = 0; entries = []; pending = []; replies = [] }
 
 -- where memory was refused at a Begin or Run: nowhere, at the beginning of its command, at its act, or at its next step
 pub data Shortage : Type 0 where
-  NoShortage : Shortage
+  Nowhere : Shortage
   AtBegin : Shortage
   AtAct : Shortage
   AtStep : Shortage

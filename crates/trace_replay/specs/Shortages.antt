@@ -14,12 +14,12 @@ use Rattle.cmd_program.specs.declared.step.Outcome.{Outcome}
 use Rattle.cmd_program.specs.declared.step.Step.{Step}
 use Rattle.cmd_program.specs.Stepping.{Stepping, gave_up}
 use Rattle.trace_replay.specs.Items.{Placed, trace_of, items_limit}
-use Rattle.trace_replay.specs.ReplayState.{Pending, ReplayState, Shortage, NoShortage, AtBegin, AtAct, AtStep, at_first, waiting, has_no_room, next_step, next, fits}
+use Rattle.trace_replay.specs.ReplayState.{Pending, ReplayState, Shortage, Nowhere, AtBegin, AtAct, AtStep, at_first, waiting, has_no_room, next_step, next, fits}
 use Rattle.trace_replay.specs.Played.{shortage_for, shortages_behind, is_busy, replies_that}
 
 -- the shortage says nothing
 abbrev pub is_no_shortage : Shortage → Bool
-is_no_shortage NoShortage = true
+is_no_shortage Nowhere = true
 is_no_shortage _ = false
 
 -- the shortage may stand at the act; an act that ends an operation never wants memory
@@ -28,7 +28,7 @@ allowed_at_act config entries actor shortage (Step.Done reply) = is_no_shortage 
 allowed_at_act config entries actor AtAct (Step.Do unit act) = not (ends_operation (past_of config unit entries) actor act)
 allowed_at_act config entries actor AtStep (Step.Do unit act) = not (has_no_room config entries actor unit act)
 allowed_at_act config entries actor AtBegin (Step.Do unit act) = false
-allowed_at_act config entries actor NoShortage (Step.Do unit act) = true
+allowed_at_act config entries actor Nowhere (Step.Do unit act) = true
 
 -- the shortage may stand at a Run of the command, and at none after the one at which it gave up
 abbrev pub allowed_at_run : Stepping → Configuration → ReplayState → Shortage → Option Pending → Bool

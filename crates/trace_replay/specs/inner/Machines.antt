@@ -31,7 +31,7 @@ use Rattle.trace_replay.specs.declared.nexus.Waiting.{Waiting}
 use Rattle.trace_replay.specs.declared.nexus.Nexus.{Nexus}
 use Rattle.trace_replay.specs.declared.machine.Machine.{Machine}
 use Rattle.trace_replay.specs.declared.machine.Effect.{Effect}
-use Rattle.trace_replay.specs.ReplayState.{Pending, AddressedReply, ReplayState, Shortage, NoShortage, AtBegin, AtAct, AtStep, waiting, seq, new_entry, has_no_room, entries_after, outcome_of, noted, noted_at_step, outcomes_at, entries_at, next_step, next, fits}
+use Rattle.trace_replay.specs.ReplayState.{Pending, AddressedReply, ReplayState, Shortage, Nowhere, AtBegin, AtAct, AtStep, waiting, seq, new_entry, has_no_room, entries_after, outcome_of, noted, noted_at_step, outcomes_at, entries_at, next_step, next, fits}
 use Rattle.trace_replay.specs.Played.{shortage_for}
 use Rattle.trace_replay.specs.Shortages.{is_no_shortage, allowed_at_act, is_allowed}
 
@@ -107,7 +107,7 @@ pub record IsWaiting (config : Configuration) (w : Waiting) (p : Pending) : Type
 
 -- the shortage of a step at which memory was wanted, or not
 abbrev pub shortage_of : Bool → Shortage
-shortage_of wanted = if wanted then AtStep else NoShortage
+shortage_of wanted = if wanted then AtStep else Nowhere
 
 -- the next step of a command, which gave up where it wanted memory for it
 pub record IsNext (config : Configuration) (c : CommandOf AnyPhase) (p : Pending) (next : Step) (given : Bool) : Type 0 where
@@ -125,7 +125,7 @@ WentOn config p (Some w) (Some reply) = ⊥
 
 -- a shortage that may stand at an act, by whether the command gave up before and whether the act ends an operation
 abbrev pub is_at_act_of : Bool → Shortage → Bool → Bool
-is_at_act_of given NoShortage ends = true
+is_at_act_of given Nowhere ends = true
 is_at_act_of given AtAct ends = not given && not ends
 is_at_act_of given shortage ends = false
 

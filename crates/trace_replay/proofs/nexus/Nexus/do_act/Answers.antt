@@ -4,7 +4,7 @@ use Rattle.cm_history.specs.declared.act.Actor.{Actor}
 use Rattle.cm_history.specs.History.{answer}
 use Rattle.cmd_program.specs.declared.step.Outcome.{Outcome}
 use Rattle.std.proofs.lemmas.Bool.{eq-eqb}
-use Rattle.trace_replay.specs.ReplayState.{NoShortage, seq, new_entry}
+use Rattle.trace_replay.specs.ReplayState.{Nowhere, seq, new_entry}
 use Rattle.trace_replay.specs.inner.Machines.{HaveCounted}
 use Rattle.trace_replay.proofs.UnitActs.{after-done, seq-same}
 use Rattle.trace_replay.proofs.nexus.Nexus.do_act.Goals as goal
@@ -24,7 +24,7 @@ returns-in-Ok c = λ config entries h right.
     let actor = Actor.Nexus c.args.initiator in
     let d = c.in-Ok.ensures.done config entries h in
     record {
-      shortage = NoShortage;
+      shortage = Nowhere;
       allowed = refl;
       units = after-done (λ es. HaveCounted config es c.act.new.self) config entries actor c.args.unit c.args.moment c.args.act d.0 (d.2 right);
       seq = after-done (λ es. c.args.self.now.seq + 1 ≡ seq actor es) config entries actor c.args.unit c.args.moment c.args.act d.0
