@@ -1,11 +1,12 @@
 // The steps of a command, by outcomes that its acts can have.
-ghost use Rattle.std.specs.Prelude.{◌≡◌, ℕ, true};
+ghost use Rattle.std.specs.Prelude.{◌≡◌, ℕ, List, true};
 ghost use Rattle.cm_base.specs.Configuration.{Configuration};
 ghost use Rattle.cm_history.specs.Forms.{HasForm, AreBlocksOf, IsRod, IsReport};
+ghost use Rattle.cm_frame.specs.declared.frame.Request.{Request};
+ghost use Rattle.cmd_program.specs.declared.step.Outcome.{Outcome};
 ghost use Rattle.cmd_program.specs.Meaning.{MayFollow};
-ghost use Rattle.cmd_machine.specs.Rest.{IsSoundAt};
-ghost use Rattle.any_cmds.specs.Meaning.{IsSoundAny};
-ghost use Rattle.any_cmds.proofs.Meaning.{IsCommand};
+ghost use Rattle.cmd_machine.specs.Rest.{IsSoundAt, StandsFor};
+ghost use Rattle.any_cmds.specs.Meaning.{IsSoundAny, by_any};
 
 use crate::{AnyCommand, begin_any};
 use cm_base::Config;
@@ -102,9 +103,11 @@ fn drive(
     outcome: Outcome,
 ) -> Result<Step, Fail>
     requires sound { IsSoundAt IsSoundAny config.now command.old }
-    requires stands { IsCommand config.now command.old }
+    requires stands { (nexus : ℕ) × (request : Request) × (outcomes : List Outcome)
+        × StandsFor by_any config.now command.old nexus request outcomes }
     ensures sound { IsSoundAt IsSoundAny config.now command.new }
-    ensures stands { IsCommand config.now command.new }
+    ensures stands { (nexus : ℕ) × (request : Request) × (outcomes : List Outcome)
+        × StandsFor by_any config.now command.new nexus request outcomes }
 {
     let step = command.step(alloc, config)?;
     if !may_follow(config, &step, &outcome) {
