@@ -8,20 +8,15 @@ note-requires-clause-notable c =
     let was = c.requires.stands in
     let follows = c.may_follow.ensures c.if-not-may_follow.false in
     record {
-      nexus = was.nexus;
-      request = was.request;
-      outcomes = was.outcomes;
-      stands = was.stands;
+      nexus = was.0;
+      request = was.1;
+      outcomes = was.2;
+      stands = was.3;
       follows = subst (λ (s : Step). MayFollow c.args.config.now s c.args.outcome)
-          (c.in_ok-step.ensures.next was.nexus was.request was.outcomes was.stands) follows;
+          (c.in_ok-step.ensures.next was.0 was.1 was.2 was.3) follows;
     }
 
 pub returns-clause-stands : goal.returns-clause-stands
 returns-clause-stands c =
     let was = c.requires.stands in
-    record {
-      nexus = was.nexus;
-      request = was.request;
-      outcomes = was.outcomes ++ c.args.outcome ∷ [];
-      stands = c.note.ensures.stands was.nexus was.request was.outcomes was.stands;
-    }
+    (was.0, was.1, was.2 ++ c.args.outcome ∷ [], c.note.ensures.stands was.0 was.1 was.2 was.3)
