@@ -1,4 +1,4 @@
-"""What tools/gate-cost makes of the commands of the toolchain."""
+"""What tools/gate-cost tells of a run of the gate."""
 
 import contextlib
 import io
@@ -11,35 +11,32 @@ import unittest.mock
 
 from . import support
 
-# the time goes to a process that checks tests, or to one that does not
+# a gate that checks a crate, its tests, and a wrong body in a folder of its own
 RT = """\
 #!/bin/sh
-echo "$(basename "$PWD") $*" >> "$LOG"
-[ "$1 $(basename "$PWD")" = "check bad" ] && { echo oh; echo no; exit 1; }
+echo "$*" > "$LOG"
 work='import time; end = time.process_time() + 1.0
 while time.process_time() < end: pass'
-case $1 in
-    verdict) python3 -c "$work" check --test; python3 -c "$work" check --as-it-is ;;
-    must-fail) python3 -c "$work" check ;;
-esac
+cd crates/low && python3 -c "$work" build --crate-name low
+python3 -c "$work" build --crate-name low --test
+cd ../../edit && python3 -c "$work" check --crate-name low
+exit 3
 """
 
-CRATES = "low: bytes\n# of all\nhigh: low bytes\nbad: low\n"
+CRATES = "low: bytes\n# of all\nhigh: low bytes\n"
 
 
 class GateCost(unittest.TestCase):
     def cost(self, *names):
-        """The table, what was said, the exit status, and the commands that ran."""
+        """The table, what was said, the exit status, and the words of the gate."""
         tool = support.tool("gate-cost")
         with tempfile.TemporaryDirectory() as name, contextlib.ExitStack() as stack:
             top = pathlib.Path(name)
-            for path in ("bin", "crates/low/src", "crates/low/must-fail", "crates/high/src", "crates/bad/src"):
+            for path in ("bin", "crates/low/must-fail", "crates/high", "edit"):
                 (top / path).mkdir(parents=True)
             (top / "bin/rt").write_text(RT)
             (top / "bin/rt").chmod(0o755)
             (top / "crates.txt").write_text(CRATES)
-            (top / "HANDLES").write_text("")
-            (top / "crates/low/src/lib.rt").write_text("")
             (top / "crates/low/must-fail/wrong.edit").write_text("")
             environment = {"PATH": f"{top / 'bin'}:{os.environ['PATH']}", "LOG": str(top / "log")}
             stack.enter_context(unittest.mock.patch.dict(os.environ, environment))
@@ -52,25 +49,20 @@ class GateCost(unittest.TestCase):
                 tool.main()
             except SystemExit as end:
                 status = end.code
-            ran = (top / "log").read_text().splitlines() if (top / "log").exists() else []
+            ran = (top / "log").read_text().split() if (top / "log").exists() else []
         return told.getvalue().splitlines(), said.getvalue(), status, ran
 
-    def test_a_crate_stands_over_the_libraries_below_it(self):
-        table, _, status, ran = self.cost("high")
-        self.assertEqual(status, 0)
-        self.assertEqual(ran, ["low lib", "high verdict", "high check"])
-        self.assertEqual([line.split(" | ")[0] for line in table], ["| Crate", "| ---", "| high", "| all"])
-
-    def test_the_time_is_that_of_the_commands(self):
-        table, _, _, ran = self.cost("low")
-        self.assertEqual(ran[:2], ["low verdict", "low check"])
-        self.assertTrue(ran[2].endswith("must-fail --anew low"))
+    def test_the_time_is_told_by_crate_and_part(self):
+        table, _, status, ran = self.cost("low")
+        self.assertEqual((status, ran), (3, ["ci", "low", "--anew"]))
+        self.assertEqual([line.split(" | ")[0] for line in table], ["| Crate", "| ---", "| low", "| all"])
         check, tests, edits, how_many = [int(cell) for cell in table[2].strip("| ").split(" | ")[1:]]
         self.assertEqual(how_many, 1)
-        self.assertTrue(all(0 < seconds <= 3 for seconds in (check, tests, edits)), table[2])
+        self.assertTrue(all(seconds == 1 for seconds in (check, tests, edits)), table[2])
 
-    def test_what_fails_ends_it(self):
-        _, said, status, _ = self.cost("bad")
-        self.assertEqual((said, status), ("tools/gate-cost: rt check failed: oh / no\n", 1))
-        _, said, status, _ = self.cost("none")
-        self.assertEqual((said, status), ("tools/gate-cost: crates.txt has no crate none\n", 2))
+    def test_what_earlier_runs_passed_may_be_kept(self):
+        self.assertEqual(self.cost("--kept")[3], ["ci"])
+
+    def test_a_crate_that_is_none_is_refused(self):
+        _, said, status, ran = self.cost("none")
+        self.assertEqual((said, status, ran), ("tools/gate-cost: crates.txt has no crate none\n", 2, []))
