@@ -15,6 +15,7 @@ use Rattle.block_params.specs.RangesRead.{ranges_in, ranges_from, length_fault, 
 abbrev pub unmap_count : List ℕ → ℕ
 unmap_count bytes = min (field bytes 2 3) (length bytes - 8) / 16
 
+-- UNMAP parameter list (SBC-3); no bytes at all are no ranges
 abbrev pub unmap_read : List ℕ → Result (List Range) SenseCode
 unmap_read bytes =
     if length bytes == 0 then Ok [] else
@@ -36,6 +37,7 @@ populate_fault bytes = if nat_lt 3600 (field bytes 4 7) then Some invalid_field_
 abbrev pub timeout_of : ℕ → ℕ
 timeout_of asked = if asked == 0 then 300 else asked
 
+-- POPULATE TOKEN parameter list (SBC-3): the lengths are judged first, then timeout and type, then the ranges
 abbrev pub populate_read : List ℕ → Result PopulateList SenseCode
 populate_read bytes =
     unless (or_else (length_fault 16 bytes) (or_else (populate_fault bytes) (range_fault (ranges_from 16 bytes))))
@@ -43,6 +45,7 @@ populate_read bytes =
 
 -- ---- WRITE USING TOKEN
 
+-- WRITE USING TOKEN parameter list (SBC-3): the lengths are judged before the ranges
 abbrev pub write_token_read : List ℕ → Result WriteList SenseCode
 write_token_read bytes =
     unless (or_else (length_fault 536 bytes) (range_fault (ranges_from 536 bytes)))

@@ -10,6 +10,7 @@ use Rattle.block_params.specs.declared.lists.WriteList.{WriteList}
 abbrev pub descriptor : Range → List ℕ
 descriptor r = big_bytes 8 r.lba ++ big_bytes 4 r.count ++ zeros 4
 
+-- the range descriptors, one after another
 abbrev pub descriptors : List Range → List ℕ
 descriptors [] = []
 descriptors (r ∷ rs) = descriptor r ++ descriptors rs
@@ -29,6 +30,7 @@ unmap_written ranges = sized (big_bytes 2 (16 * length ranges) ++ zeros 4 ++ des
 abbrev pub populate_written : PopulateList → List ℕ
 populate_written list = sized (2 ∷ 0 ∷ big_bytes 4 list.timeout ++ big_bytes 4 0x0080_0000 ++ zeros 2 ++ measured list.ranges)
 
+-- with IMMED in bit 0 and DEL_TKN in bit 1 of byte 2
 abbrev pub write_token_written : WriteList → List ℕ
 write_token_written list =
     sized ((flag list.immed + 2 * flag list.delete) ∷ zeros 5 ++ big_bytes 8 list.offset ++ list.token ++ zeros 6 ++ measured list.ranges)

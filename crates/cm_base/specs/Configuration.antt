@@ -2,6 +2,7 @@
 use Rattle.std.specs.Prelude.{◌≡◌, ℕ, ◌≤◌, List, length, All, ◌⊎◌}
 use Rattle.cm_base.specs.declared.config.UnitConfig.{UnitConfig}
 
+-- the secret from which the tokens of all units are made, and the units, of which the first has number 0
 pub record Configuration : Type 0 where
   pub secret : List ℕ
   pub units : List UnitConfig

@@ -2,6 +2,7 @@
 use Rattle.std.specs.Prelude.{ℕ, suc, ◌-◌, ◌/◌, ◌%◌, ◌^◌, ◌<◌, ◌==◌, ◌&&◌, List, ◌++◌, length, take, drop, replicate, slice_index, All, Bool, nat_le, if◌then◌else◌}
 use Rattle.byteorder.specs.Endian.{big_from, big_bytes}
 
+-- the byte at a place; the first byte stands at place 0
 abbrev pub byte : List ℕ → ℕ → ℕ
 byte bytes place = slice_index bytes place
 
@@ -17,6 +18,7 @@ bits bytes place high low = slice_index bytes place / 2 ^ low % 2 ^ (suc high - 
 abbrev pub bit : List ℕ → ℕ → ℕ → Bool
 bit bytes place number = bits bytes place number number == 1
 
+-- `n` bytes of zero
 abbrev pub zeros : ℕ → List ℕ
 zeros n = replicate n 0
 

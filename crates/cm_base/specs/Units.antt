@@ -10,9 +10,11 @@ abbrev pub told : Option UnitConfig → UnitConfig
 told (Some unit) = unit
 told None = record { blocks = 0; block_length = 0; entries = 0; quota = 0; payload = 0; group = 0 }
 
+-- what is told of the unit of this number
 abbrev pub unit_of : Configuration → ℕ → UnitConfig
 unit_of config unit = told (slice_get config.units unit)
 
+-- there is a unit of this number
 abbrev pub is_configured : Configuration → ℕ → Bool
 is_configured config unit = nat_lt unit (length config.units)
 

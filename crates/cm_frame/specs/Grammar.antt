@@ -27,6 +27,7 @@ unit_bytes u =
     big_bytes 8 u.blocks ++ big_bytes 4 u.block_length ++ big_bytes 4 u.entries ++ big_bytes 8 u.quota
     ++ big_bytes 4 u.payload ++ u.group ∷ 0 ∷ 0 ∷ 0 ∷ []
 
+-- the text, the secret, the number of units in two bytes, and each unit
 abbrev pub header_bytes : Configuration → List ℕ
 header_bytes config =
     header_text ++ config.secret ++ big_bytes 2 (length config.units) ++ flat_map unit_bytes config.units
@@ -38,6 +39,7 @@ pub record IsConfig (config : Configuration) : Type 0 where
 
 -- ---- requests and replies
 
+-- length of the data-out, number of the unit, CDB, data-out
 abbrev pub request_bytes : Request → List ℕ
 request_bytes r = big_bytes 4 (length r.out) ++ big_bytes 2 r.unit ++ r.cdb ++ r.out
 
@@ -78,6 +80,7 @@ IsReply _ = Unit {0}
 
 -- ---- items
 
+-- 01h, 02h or 03h by its kind, and then what it has, in order
 abbrev pub item_bytes : TraceItem → List ℕ
 item_bytes (TraceItem.Begin initiator moment request) = 0x01 ∷ big_bytes 4 initiator ++ big_bytes 8 moment ++ request_bytes request
 item_bytes (TraceItem.Run initiator moment) = 0x02 ∷ big_bytes 4 initiator ++ big_bytes 8 moment

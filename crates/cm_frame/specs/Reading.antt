@@ -61,9 +61,11 @@ units_fault (suc n) place bytes = or_later place (first_fault (unit_checks bytes
 abbrev pub units_told : List ℕ → ℕ
 units_told bytes = field bytes 40 41
 
+-- the configuration that a header spells: the secret is bytes 8..39, and the units stand from byte 42 on
 abbrev pub config_in : List ℕ → Configuration
 config_in bytes = record { secret = part 8 32 bytes; units = units_in (units_told bytes) (drop 42 bytes) }
 
+-- the whole header, unless a unit in it has a fault
 abbrev pub judged_units : List ℕ → Option ℕ → Parsed Configuration
 judged_units bytes (Some place) = Bad place
 judged_units bytes None = Whole (config_in bytes) (42 + 32 * units_told bytes)
@@ -79,6 +81,7 @@ read_header bytes =
 
 -- ---- requests
 
+-- the request that the bytes begin with
 abbrev pub request_in : List ℕ → Request
 request_in bytes = record { unit = field bytes 4 5; cdb = part 6 16 bytes; out = part 22 (field bytes 0 3) bytes }
 
@@ -98,9 +101,11 @@ begin_in bytes (Whole request used) = Whole (TraceItem.Begin (field bytes 1 4) (
 begin_in bytes Short = Short
 begin_in bytes (Bad place) = Bad (13 + place)
 
+-- a Run of 13 bytes: its kind, the initiator and the moment
 abbrev pub read_run : List ℕ → Parsed TraceItem
 read_run bytes = if nat_lt (length bytes) 13 then Short else Whole (TraceItem.Run (field bytes 1 4) (field bytes 5 12)) 13
 
+-- a Pump of 11 bytes: its kind, the unit and the moment
 abbrev pub read_pump : List ℕ → Parsed TraceItem
 read_pump bytes = if nat_lt (length bytes) 11 then Short else Whole (TraceItem.Pump (field bytes 1 2) (field bytes 3 10)) 11
 

@@ -29,19 +29,24 @@ abbrev pub put_at : ℕ → List Held → List Writing
 put_at lba items = paired (row lba (length items)) items
 
 -- Up to `answer_status`, `holds` is what the blocks hold.
+
+-- a Read and a Capture: the blocks as they stand, refused where one lies outside the unit
 abbrev pub answer_read : UnitConfig → (ℕ → Held) → ℕ → ℕ → Answer
 answer_read unit holds lba count =
     if nat_le (lba + count) unit.blocks then Answer.Blocks (cut unit holds (row lba count)) else Answer.Refused lba_out_of_range
 
+-- a Write and a Put: refused where a block lies outside the unit, or more would be mapped than the quota
 abbrev pub answer_write : UnitConfig → (ℕ → Held) → ℕ → List Held → Answer
 answer_write unit holds lba items =
     if nat_lt unit.blocks (lba + length items) then Answer.Refused lba_out_of_range else
     if nat_lt unit.quota (mapped_with unit holds (put_at lba items)) then Answer.Refused space_allocation_failed else
     Answer.Done
 
+-- an Unmap: refused where a range ends outside the unit
 abbrev pub answer_unmap : UnitConfig → List Range → Answer
 answer_unmap unit ranges = if is_within unit.blocks ranges then Answer.Done else Answer.Refused lba_out_of_range
 
+-- a MapStatus: the first 64 runs from `lba` on, refused where that is no block of the unit
 abbrev pub answer_status : UnitConfig → (ℕ → Held) → ℕ → Answer
 answer_status unit holds lba =
     if nat_lt lba unit.blocks then Answer.Status (map_runs holds told_runs lba (unit.blocks - lba)) else Answer.Refused lba_out_of_range
@@ -54,6 +59,7 @@ is_busy past actor form id = list_any (has_key actor form id) (running past)
 abbrev pub is_crowded : List Deed → Bool
 is_crowded past = nat_le running_operations (length (running past))
 
+-- a Populate: the first refusal that holds, else the serial, which is the number of tokens made before
 abbrev pub answer_populate : UnitConfig → List Deed → Actor → ℕ → List Range → Answer
 answer_populate unit past actor id ranges =
     if is_busy past actor OfToken id then Answer.Refused operation_in_progress else
@@ -61,6 +67,7 @@ answer_populate unit past actor id ranges =
     if nat_le (2 ^ 48) (length (tokens past)) then Answer.Refused insufficient_resources else
     Answer.Made (length (tokens past))
 
+-- a Start: the first refusal that holds; with no blocks to write it is done at once
 abbrev pub answer_start : UnitConfig → List Deed → Actor → ℕ → List Range → HeldBlocks → Answer
 answer_start unit past actor id ranges rod =
     if is_busy past actor OfToken id then Answer.Refused operation_in_progress else
@@ -68,6 +75,7 @@ answer_start unit past actor id ranges rod =
     if is_crowded past then Answer.Refused insufficient_resources else
     Answer.Progress (if length rod.items == 0 then OpState.Done else OpState.Running) 0
 
+-- an Open: the first refusal that holds
 abbrev pub answer_open : List Deed → Actor → ℕ → Answer
 answer_open past actor id =
     if is_busy past actor OfCopy id then Answer.Refused operation_in_progress else
@@ -86,10 +94,12 @@ progress unit past otherwise (Some o) =
     if nat_lt unit.quota (mapped_with unit (held past) (next_piece o)) then Answer.Progress (OpState.Failed space_allocation_failed) (count o) else
     progress_by o (length (next_piece o))
 
+-- an End: the operation is terminated, with the blocks that it has written
 abbrev pub answer_end : Option Operation → Answer
 answer_end None = Answer.Refused invalid_field_in_cdb
 answer_end (Some o) = Answer.Progress OpState.Terminated (count o)
 
+-- an Abort and a Close: refused where there is no such operation
 abbrev pub done_if : Option Operation → Answer
 done_if None = Answer.Refused invalid_field_in_cdb
 done_if (Some o) = Answer.Done
@@ -99,6 +109,7 @@ abbrev pub serial_made : Answer → Option ℕ
 serial_made (Answer.Made serial) = Some serial
 serial_made _ = None
 
+-- what is told of a token operation
 abbrev pub report_of : Operation → OpReport
 report_of o = record {
   populate = is_populate o.made.entry.act;
@@ -108,10 +119,12 @@ report_of o = record {
   serial = serial_made o.made.answer;
 }
 
+-- a Report: refused where the unit keeps no such record
 abbrev pub answer_report : Option Operation → Answer
 answer_report None = Answer.Refused invalid_field_in_cdb
 answer_report (Some o) = Answer.Report (report_of o)
 
+-- a Recall: how far the copy has come, refused where the unit keeps no such record
 abbrev pub answer_recall : Option Operation → Answer
 answer_recall None = Answer.Refused invalid_field_in_cdb
 answer_recall (Some o) = Answer.Copy (result_of o.servers)
@@ -141,10 +154,12 @@ answer_after config unit past actor now (Act.Recall id) = answer_recall (find (h
 
 -- ---- what an answered act writes
 
+-- the next piece of the operation, and nothing where there is none
 abbrev pub piece_of : Option Operation → List Writing
 piece_of None = []
 piece_of (Some o) = next_piece o
 
+-- what the act would write: its own blocks, or the next piece of the operation that it serves
 abbrev pub writings : List Deed → Actor → Act → List Writing
 writings past actor (Act.Write lba list) = put_at lba list.items
 writings past actor (Act.Put lba list) = put_at lba list.items
@@ -159,6 +174,7 @@ wrote_of answer all = if is_refusal answer then [] else if is_failure answer the
 
 -- ---- the deeds of a unit
 
+-- the entry as the next deed after the unit's past
 abbrev pub deed : Configuration → ℕ → List Deed → Entry → Deed
 deed config unit past e =
     let answer = answer_after config unit past e.actor e.moment e.act in

@@ -7,6 +7,8 @@ use Rattle.cm_history.specs.declared.answer.Answer.{Answer}
 use Rattle.lba_ranges.specs.Writings.{Writing}
 
 -- Below, `past` is the list of a unit's deeds, the latest first.
+
+-- an entry of a unit's history, with what came of it
 pub record Deed : Type 0 where
   pub entry : Entry
   -- how many deeds of the unit came before it
@@ -28,6 +30,7 @@ abbrev pub last_stamp : List Deed → ℕ
 last_stamp [] = 0
 last_stamp (d ∷ past) = d.entry.stamp
 
+-- the act was refused, by a sense
 abbrev pub is_refusal : Answer → Bool
 is_refusal (Answer.Refused sense) = true
 is_refusal _ = false
@@ -36,6 +39,7 @@ is_refusal _ = false
 abbrev pub is_answered : Deed → Bool
 is_answered d = not (is_refusal d.answer)
 
+-- one nexus, or the pump of one unit
 abbrev pub same_actor : Actor → Actor → Bool
 same_actor (Nexus a) (Nexus b) = a == b
 same_actor (Pump a) (Pump b) = a == b

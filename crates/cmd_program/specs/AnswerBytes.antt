@@ -18,6 +18,7 @@ use Rattle.cm_history.specs.declared.answer.OpState.{OpState}
 abbrev pub run_bytes : MapRun → List ℕ
 run_bytes r = big_bytes 8 r.lba ++ big_bytes 4 r.count ++ (if r.mapped then 0 else 1) ∷ zeros 3
 
+-- LBA status descriptors (SBC-3), one after another
 abbrev pub runs_bytes : List MapRun → List ℕ
 runs_bytes [] = []
 runs_bytes (r ∷ rs) = run_bytes r ++ runs_bytes rs
@@ -33,6 +34,7 @@ operation_status background OpState.Done = OperationStatus.Completed
 operation_status background (OpState.Failed sense) = OperationStatus.Failed sense
 operation_status background OpState.Terminated = OperationStatus.Terminated
 
+-- what a host is told of the report of a token operation
 abbrev pub status_of : OpReport → CopyStatus
 status_of r = told r.populate (operation_status r.background r.state) r.count
 
@@ -45,6 +47,7 @@ abbrev pub report_token_bytes : Configuration → ℕ → OpReport → List ℕ
 report_token_bytes config unit r =
     information_bytes (status_of r) (option_map (λ serial. token_text config unit serial r.count) r.serial)
 
+-- COPY COMMAND STATUS (SPC-4): in progress, completed without errors, completed with errors
 abbrev pub copy_code : CopyState → ℕ
 copy_code CopyState.Running = 0x00
 copy_code CopyState.Done = 0x01

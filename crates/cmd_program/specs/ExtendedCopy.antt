@@ -44,6 +44,7 @@ unit_or_first (Some unit) = unit
 abbrev pub places : Configuration → List Cscd → List ℕ
 places config cscds = map (λ (c : Cscd). unit_or_first (named_unit config c.name)) cscds
 
+-- a segment, with the units of its source and its destination
 abbrev pub move_of : List ℕ → Segment → Move
 move_of units s = record {
   source = slice_index units s.source;
@@ -53,18 +54,22 @@ move_of units s = record {
   to = s.to;
 }
 
+-- the segments of the list, with their units
 abbrev pub moves_of : Configuration → CopyList → List Move
 moves_of config list = map (move_of (places config list.units)) list.segments
 
 -- ---- what is wrong before the first act
 
+-- a CSCD has to be a unit of this copy manager, and of its block length
 abbrev pub place_fault : Configuration → Cscd → Option ℕ → Option SenseCode
 place_fault config c None = Some copy_target_device_not_reachable
 place_fault config c (Some unit) = if c.block_length == (unit_of config unit).block_length then None else Some invalid_field_in_parameter_list
 
+-- a CSCD has to be a direct access block device (peripheral device type 00h)
 abbrev pub cscd_fault : Configuration → Cscd → Option SenseCode
 cscd_fault config c = if c.device == 0 then place_fault config c (named_unit config c.name) else Some incorrect_copy_target_device_type
 
+-- the two units of a segment have to have one block length, and its blocks to lie in both
 abbrev pub move_fault : Configuration → Move → Option SenseCode
 move_fault config m =
     let source = unit_of config m.source in
@@ -79,6 +84,7 @@ abbrev pub size_fault : Configuration → List Move → Option SenseCode
 size_fault config moves =
     if nat_lt 536_870_912 (sum_by (λ (m : Move). m.count * (unit_of config m.source).block_length) moves) then Some invalid_field_in_parameter_list else None
 
+-- the first fault: of the CSCDs, of the segments, of all that would be copied
 abbrev pub copy_fault : Configuration → CopyList → Option SenseCode
 copy_fault config list =
     let moves = moves_of config list in
@@ -97,6 +103,7 @@ pub record Tally : Type 0 where
   pub segments : ℕ
   pub bytes : ℕ
 
+-- the Close of the record: how the copy ended, and how far it came
 abbrev pub close_as : Copying → Tally → CopyState → Ask
 close_as c t state = record {
   unit = c.unit;
@@ -122,6 +129,7 @@ abbrev pub closing : Copying → Tally → Option SenseCode → Program
 closing c t ended_by =
     if c.opened then Asks (close_as c t (end_state ended_by)) (left_of c t) (unless_refused (copy_reply ended_by)) else copy_reply ended_by
 
+-- one more segment is done whole
 abbrev pub segment_done : Tally → Tally
 segment_done t = record t { segments = t.segments + 1 }
 
@@ -129,6 +137,7 @@ segment_done t = record t { segments = t.segments + 1 }
 abbrev pub piece_count : HeldBlocks → ℕ → ℕ
 piece_count list at = min piece_blocks (length list.items - at)
 
+-- the piece of the captured blocks that begins at block `at`
 abbrev pub piece_at : HeldBlocks → ℕ → HeldBlocks
 piece_at list at = record list { items = slice_range list.items at (at + piece_count list at) }
 
@@ -170,6 +179,7 @@ opening unit id moves true = copying (record { unit = unit; id = id; opened = fa
 opening unit id moves false =
     ask_then unit (Act.Open id) (unless_refused (copying (record { unit = unit; id = id; opened = true }) moves fresh))
 
+-- a fault ends the command before its first act
 abbrev pub copy_by : Configuration → ℕ → CopyList → Option SenseCode → Program
 copy_by config unit list (Some sense) = refused sense
 copy_by config unit list None = opening unit list.id (moves_of config list) (list.usage == 3)

@@ -56,6 +56,7 @@ good bytes = Ends (Reply.Good bytes)
 abbrev pub done : Program
 done = good []
 
+-- CHECK CONDITION, with this sense
 abbrev pub refused : SenseCode → Program
 refused sense = Ends (Reply.Check sense)
 

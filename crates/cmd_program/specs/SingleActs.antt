@@ -20,20 +20,25 @@ blocks_in size bytes = record { block_length = size; items = cut size (length by
 
 -- ---- what is told of each answer; `allocation` is the allocation length
 
+-- READ: the bytes of the blocks
 abbrev pub told_read : Answer → Program
 told_read answer = with_blocks (λ list. good (blocks_bytes list)) refused answer
 
+-- GET LBA STATUS: the runs of mapped and unmapped blocks
 abbrev pub told_map : ℕ → Answer → Program
 told_map allocation (Answer.Status runs) = good (take allocation (map_bytes runs))
 told_map allocation (Answer.Refused sense) = refused sense
 told_map allocation _ = never
 
+-- RECEIVE COPY STATUS(LID4): the report of the operation
 abbrev pub told_report : ℕ → Answer → Program
 told_report allocation answer = with_report (λ report. good (take allocation (report_bytes report))) answer
 
+-- RECEIVE ROD TOKEN INFORMATION: the report of the operation, with its token
 abbrev pub told_token : Configuration → ℕ → ℕ → Answer → Program
 told_token config unit allocation answer = with_report (λ report. good (take allocation (report_token_bytes config unit report))) answer
 
+-- RECEIVE COPY STATUS(LID1): how far the copy has come
 abbrev pub told_copy : ℕ → Answer → Program
 told_copy allocation (Answer.Copy result) = good (take allocation (copy_bytes result))
 told_copy allocation (Answer.Refused sense) = refused sense
@@ -50,17 +55,21 @@ abbrev pub page_told : ℕ → Option (List ℕ) → Program
 page_told allocation None = refused invalid_field_in_cdb
 page_told allocation (Some page) = good (take allocation page)
 
+-- INQUIRY: with EVPD a vital product data page, else the standard data, for which PAGE CODE has to be 0
 abbrev pub inquiry : ℕ → Bool → ℕ → ℕ → Program
 inquiry unit true page allocation = page_told allocation (vpd unit page)
 inquiry unit false page allocation = if page == 0 then good (take allocation standard) else refused invalid_field_in_cdb
 
+-- WRITE: the data-out, cut into blocks, from `lba` on
 abbrev pub write : Configuration → ℕ → ℕ → List ℕ → Program
 write config unit lba out = act_alone unit (Act.Write lba (blocks_in (unit_of config unit).block_length out))
 
+-- UNMAP, as its parameter list was read
 abbrev pub unmap : ℕ → Result (List Range) SenseCode → Program
 unmap unit (Err sense) = refused sense
 unmap unit (Ok ranges) = act_alone unit (Act.Unmap ranges)
 
+-- POPULATE TOKEN, as its parameter list was read
 abbrev pub populate : ℕ → ℕ → Result PopulateList SenseCode → Program
 populate unit id (Err sense) = refused sense
 populate unit id (Ok list) = act_alone unit (Act.Populate id list.timeout list.ranges)

@@ -3,6 +3,7 @@ use Rattle.std.specs.Prelude.{◌≡◌, ◌≤◌, ℕ, ◌==◌, Bool, true, f
 use Rattle.scsi_sense.specs.SenseCode.{SenseCode}
 use Rattle.copy_status.specs.declared.operation.OperationStatus.{OperationStatus}
 
+-- whether it populates a token, COPY OPERATION STATUS, whether it runs, the sense of its error, and the blocks moved
 pub record CopyStatus : Type 0 where
   pub populate : Bool
   pub status : ℕ
@@ -18,11 +19,13 @@ status_code OperationStatus.Foreground = 0x11
 status_code OperationStatus.Background = 0x12
 status_code OperationStatus.Terminated = 0x60
 
+-- in progress, in foreground or in background
 abbrev pub is_running : OperationStatus → Bool
 is_running OperationStatus.Foreground = true
 is_running OperationStatus.Background = true
 is_running _ = false
 
+-- the sense of an operation that was completed with errors
 abbrev pub sense_of : OperationStatus → Option SenseCode
 sense_of (OperationStatus.Failed sense) = Some sense
 sense_of _ = None

@@ -19,6 +19,7 @@ abbrev pub completion : Option SenseCode → List ℕ
 completion None = 0x00 ∷ 0x00 ∷ 0x00 ∷ []
 completion (Some sense) = 0x02 ∷ 0x12 ∷ 0x12 ∷ []
 
+-- the sense data, where there is a sense to tell
 abbrev pub sense_data : Option SenseCode → List ℕ
 sense_data None = []
 sense_data (Some sense) = sense_bytes sense

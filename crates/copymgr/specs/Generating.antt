@@ -16,6 +16,7 @@ use Rattle.copymgr.specs.Told.{summary_text}
 abbrev pub played_rounds : ℕ → List Shortage → Played
 played_rounds rounds shortages = played step (generated rounds) shortages
 
+-- what was played of the generated trace, in numbers
 abbrev pub counts : ℕ → List Shortage → Summary
 counts rounds shortages = summary_of (played_rounds rounds shortages).state
 

@@ -4,6 +4,7 @@ use Rattle.trace_replay.specs.declared.summary.Summary.{Summary}
 use Rattle.trace_replay.specs.declared.fault.ReplayFault.{ReplayFault}
 use Rattle.copymgr.specs.declared.status.Status.{Status}
 
+-- each fault of a replay ends the program in a status of its own
 abbrev pub status_of : Result Summary ReplayFault → Status
 status_of (Ok summary) = Status.Done
 status_of (Err ReplayFault.ReadFault) = Status.ReadFault

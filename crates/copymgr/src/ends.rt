@@ -23,6 +23,7 @@ impl Model for AtHand {
 }
 
 impl AtHand {
+    /// A source that gives these bytes, and then ends.
     pub fn new(bytes: Bytes) -> AtHand
         ensures { ⟦<AtHand as Source>⟧.left result ≡ Some bytes }
     {

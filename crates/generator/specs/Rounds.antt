@@ -40,9 +40,11 @@ write_list round = write_token_written (record {
 
 -- ---- items
 
+-- the round's initiator sends a command to a unit, with this data-out
 abbrev pub begin_of : ℕ → ℕ → Cdb → List ℕ → TraceItem
 begin_of round unit cdb out = TraceItem.Begin (initiator round) round (record { unit = unit; cdb = encoded cdb; out = out })
 
+-- the command of the round's initiator does its next act
 abbrev pub run_of : ℕ → TraceItem
 run_of round = TraceItem.Run (initiator round) round
 
@@ -65,5 +67,6 @@ redeeming round =
 abbrev pub looking : ℕ → List TraceItem
 looking round = command round 1 (Cdb.TokenInformation round 1024) [] ++ command round 1 (Cdb.Read (target round).lba 8) []
 
+-- all that happens in the round, in order
 abbrev pub round_items : ℕ → List TraceItem
 round_items round = making round ++ redeeming round ++ looking round

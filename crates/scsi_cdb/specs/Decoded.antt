@@ -20,6 +20,7 @@ row code size command = record { code = code; action = None; size = size; comman
 abbrev pub action_row : ℕ → ℕ → (List ℕ → Cdb) → Row
 action_row code action command = record { code = code; action = Some action; size = 16; command = command }
 
+-- each command of the profile, with the fields that are read in its CDB (SPC-4, SBC-3)
 abbrev pub table : List Row
 table =
     row 0x00 6 (λ b. Cdb.TestUnitReady)
@@ -68,6 +69,7 @@ has_bad_field b _ = false
 abbrev pub has_fault : List ℕ → Row → Bool
 has_fault b r = bit b (r.size - 1) 2 || has_bad_field b (r.command b)
 
+-- a CDB of no row is refused, and so is one with a bad field; any other is what its row reads in it
 abbrev pub decoded_by : List ℕ → Option Row → Result Cdb SenseCode
 decoded_by b None = Err invalid_operation_code
 decoded_by b (Some r) = if has_fault b r then Err invalid_field_in_cdb else Ok (r.command b)

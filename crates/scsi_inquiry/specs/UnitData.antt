@@ -62,6 +62,7 @@ abbrev pub luns : ℕ → ℕ → List ℕ
 luns unit zero = []
 luns unit (suc n) = 0 ∷ unit ∷ zeros 6 ++ luns (suc unit) n
 
+-- REPORT LUNS parameter data (SPC-4): all units, each eight bytes
 abbrev pub report_luns : Configuration → List ℕ
 report_luns config = big_bytes 4 (8 * length config.units) ++ zeros 4 ++ luns 0 (length config.units)
 

@@ -16,6 +16,7 @@ followed item (Err sense) = Err sense
 abbrev pub is_named : List ℕ → Bool
 is_named d = (bits d 4 3 0 == 1) && (bits d 5 5 4 == 0) && (bits d 5 3 0 == 3) && (byte d 7 == 8)
 
+-- an Identification descriptor CSCD descriptor (SPC-4), of 32 bytes
 abbrev pub cscd : List ℕ → Cscd
 cscd d = record {
   device = bits d 1 4 0;
@@ -28,6 +29,7 @@ abbrev pub cscds_read : ℕ → List ℕ → Result (List Cscd) SenseCode
 cscds_read zero bytes = Ok []
 cscds_read (suc n) bytes = if byte bytes 0 == 0xe4 then followed (cscd bytes) (cscds_read n (drop 32 bytes)) else Err unsupported_target_descriptor_type
 
+-- a block device to block device segment descriptor (SPC-4), of 28 bytes
 abbrev pub segment : List ℕ → Segment
 segment d = record {
   source = field d 4 5;

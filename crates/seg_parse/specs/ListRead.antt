@@ -50,5 +50,6 @@ copy_list bytes (Ok units) (Err sense) = Err sense
 copy_list bytes (Ok units) (Ok segments) =
     Ok (record { id = byte bytes 0; usage = usage bytes; units = units; segments = segments })
 
+-- the parameter list of an EXTENDED COPY(LID1), whose head is judged first
 abbrev pub lid1_read : List ℕ → Result CopyList SenseCode
 lid1_read bytes = unless (head_fault bytes) (copy_list bytes (cscds_of bytes) (segments_of bytes))

@@ -26,8 +26,10 @@ pub struct Segment {
     pub to: u64,
 }
 
+/// The CSCDs of one list, at most 16.
 pub type CscdList = Sequence<Cscd>;
 
+/// The segments of one list, at most 64, in the order in which they are copied.
 pub type SegmentList = Sequence<Segment>;
 
 /// What an EXTENDED COPY asks for.

@@ -27,6 +27,7 @@ abbrev pub ended_by : Pending → Step → List Ended
 ended_by p (Step.Do unit act) = []
 ended_by p (Step.Done reply) = (record { initiator = p.initiator; request = p.request; outcomes = p.outcomes; reply = reply }) ∷ []
 
+-- the command, if its next step ends it
 abbrev pub ended_now : Stepping → Configuration → Pending → List Ended
 ended_now step config p = ended_by p (next_step step config p)
 
@@ -42,6 +43,7 @@ abbrev pub ended_at_act : Stepping → Configuration → ReplayState → ℕ →
 ended_at_act step config s moment shortage p (Step.Done reply) = []
 ended_at_act step config s moment shortage p (Step.Do unit act) = ended_now step config (noted_act config s p unit moment act shortage)
 
+-- the command that waits, if the Run ends it
 abbrev pub ended_at_run : Stepping → Configuration → ReplayState → ℕ → Shortage → Option Pending → List Ended
 ended_at_run step config s moment shortage None = []
 ended_at_run step config s moment shortage (Some p) = ended_at_act step config s moment shortage p (next_step step config p)
@@ -61,6 +63,7 @@ ended_in step config s (x ∷ xs) shortages =
     ++ ended_in step config (next step config s x.item (shortage_for x.item shortages)) xs (shortages_behind x.item shortages)
     else []
 
+-- behind a header that is torn or bad no command ends
 abbrev pub ended_after : Stepping → Parsed Configuration → List ℕ → List Shortage → List Ended
 ended_after step (Whole config used) bytes shortages = ended_in step config at_first (trace_of items_limit used (drop used bytes)).items shortages
 ended_after step _ bytes shortages = []

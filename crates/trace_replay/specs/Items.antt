@@ -23,9 +23,11 @@ pub record Trace : Type 0 where
   pub items : List Placed
   pub ending : Ending
 
+-- no more items, and how the bytes end
 abbrev pub ends : Ending → Trace
 ends ending = record { items = []; ending = ending }
 
+-- the item at this place, before those of the rest
 abbrev pub with_item : ℕ → TraceItem → Trace → Trace
 with_item place item t = record t { items = (record { place = place; item = item }) ∷ t.items }
 

@@ -23,14 +23,17 @@ abbrev pub first_shortage : List Shortage → Shortage
 first_shortage [] = Nowhere
 first_shortage (m ∷ shortages) = m
 
+-- the shortages behind the first
 abbrev pub later_marks : List Shortage → List Shortage
 later_marks [] = []
 later_marks (m ∷ shortages) = shortages
 
+-- the shortage at the next item
 abbrev pub shortage_for : TraceItem → List Shortage → Shortage
 shortage_for (TraceItem.Pump unit moment) shortages = Nowhere
 shortage_for item shortages = first_shortage shortages
 
+-- the shortages of the items behind it
 abbrev pub shortages_behind : TraceItem → List Shortage → List Shortage
 shortages_behind (TraceItem.Pump unit moment) shortages = shortages
 shortages_behind item shortages = later_marks shortages
@@ -48,9 +51,11 @@ abbrev pub played_from : Stepping → Configuration → ReplayState → ℕ → 
 played_from step config s n place bytes shortages =
     play step config s (trace_of n place bytes).items (trace_of n place bytes).ending shortages
 
+-- no item was played
 abbrev pub never_began : Ending → Played
 never_began ending = record { state = at_first; ending = ending }
 
+-- the items behind a whole header; a header that is torn or bad is the end
 abbrev pub played_after : Stepping → Parsed Configuration → List ℕ → List Shortage → Played
 played_after step (Whole config used) bytes shortages = played_from step config at_first items_limit used (drop used bytes) shortages
 played_after step Short bytes shortages = never_began (Torn 0)
@@ -66,21 +71,26 @@ played step bytes shortages = played_after step (read_header bytes) bytes shorta
 abbrev pub addressed_bytes : AddressedReply → List ℕ
 addressed_bytes r = big_bytes 4 r.initiator ++ reply_bytes r.reply
 
+-- the replies so far as they are written, in order
 abbrev pub output_of : ReplayState → List ℕ
 output_of s = flat_map addressed_bytes s.replies
 
+-- the reply is GOOD
 abbrev pub is_good : Reply → Bool
 is_good (Reply.Good bytes) = true
 is_good _ = false
 
+-- the reply is CHECK CONDITION
 abbrev pub is_check : Reply → Bool
 is_check (Reply.Check sense) = true
 is_check _ = false
 
+-- the reply is BUSY
 abbrev pub is_busy : Reply → Bool
 is_busy Reply.Busy = true
 is_busy _ = false
 
+-- the reply is TASK SET FULL
 abbrev pub is_task_set_full : Reply → Bool
 is_task_set_full Reply.Full = true
 is_task_set_full _ = false
@@ -89,6 +99,7 @@ is_task_set_full _ = false
 abbrev pub replies_that : (Reply → Bool) → ReplayState → ℕ
 replies_that test s = count_by (λ (r : AddressedReply). test r.reply) s.replies
 
+-- what was played, in numbers
 abbrev pub summary_of : ReplayState → Summary
 summary_of s = record {
   records = s.items;

@@ -27,6 +27,7 @@ pub record AddressedReply : Type 0 where
   pub initiator : ℕ
   pub reply : Reply
 
+-- what was played so far, and what it left
 pub record ReplayState : Type 0 where
   -- how many items were played
   pub items : ℕ
@@ -50,6 +51,7 @@ pub data Shortage : Type 0 where
 
 -- ---- pending commands
 
+-- the command is of this initiator
 abbrev pub is_of : ℕ → Pending → Bool
 is_of initiator p = p.initiator == initiator
 
@@ -57,6 +59,7 @@ is_of initiator p = p.initiator == initiator
 abbrev pub waiting : ℕ → List Pending → Option Pending
 waiting initiator pending = find (is_of initiator) pending
 
+-- the commands of all other initiators
 abbrev pub without : ℕ → List Pending → List Pending
 without initiator pending = filter (λ (p : Pending). not (is_of initiator p)) pending
 
@@ -81,6 +84,7 @@ abbrev pub entries_after : Configuration → List Entry → Actor → ℕ → �
 entries_after config entries actor unit moment act =
     if has_no_room config entries actor unit act then entries else entries ++ new_entry entries actor unit moment act ∷ []
 
+-- what comes of an act: the unit's answer, where its record has room
 abbrev pub outcome_of : Configuration → List Entry → Actor → ℕ → ℕ → Act → Outcome
 outcome_of config entries actor unit moment act =
     if has_no_room config entries actor unit act then Outcome.Full else Outcome.Answered (answer config entries unit actor moment act)
@@ -99,9 +103,11 @@ abbrev pub goes_on : ReplayState → Pending → Step → ReplayState
 goes_on s p (Step.Done reply) = replied s p.initiator reply
 goes_on s p (Step.Do unit act) = record s { pending = without p.initiator s.pending ++ p ∷ [] }
 
+-- what the command does next, by the outcomes so far
 abbrev pub next_step : Stepping → Configuration → Pending → Step
 next_step step config p = step config p.initiator p.request p.outcomes
 
+-- the command does its next step
 abbrev pub gone_on : Stepping → Configuration → ReplayState → Pending → ReplayState
 gone_on step config s p = goes_on s p (next_step step config p)
 
@@ -110,6 +116,7 @@ abbrev pub noted_at_step : Shortage → List Outcome
 noted_at_step AtStep = Outcome.NoMemory ∷ []
 noted_at_step _ = []
 
+-- a command begins: BUSY where memory is refused at its beginning, else it does its first step
 abbrev pub begun : Stepping → Configuration → ReplayState → ℕ → Request → Shortage → ReplayState
 begun step config s initiator request AtBegin = replied s initiator Reply.Busy
 begun step config s initiator request shortage =
@@ -124,6 +131,7 @@ abbrev pub outcomes_at : Shortage → Outcome → List Outcome
 outcomes_at AtAct outcome = Outcome.NoMemory ∷ []
 outcomes_at shortage outcome = outcome ∷ noted_at_step shortage
 
+-- the history after an act; where memory is refused for it, the history as it was
 abbrev pub entries_at : Shortage → List Entry → List Entry → List Entry
 entries_at AtAct before after = before
 entries_at shortage before after = after
@@ -144,6 +152,7 @@ did step config s moment p shortage (Step.Done reply) = s
 did step config s moment p shortage (Step.Do unit act) =
     gone_on step config (acted config s (Nexus p.initiator) unit moment act shortage) (noted_act config s p unit moment act shortage)
 
+-- a Run: the command that waits does its act
 abbrev pub ran : Stepping → Configuration → ReplayState → ℕ → Shortage → Option Pending → ReplayState
 ran step config s moment shortage None = s
 ran step config s moment shortage (Some p) = did step config s moment p shortage (next_step step config p)

@@ -36,6 +36,7 @@ allowed_at_run step config s shortage None = true
 allowed_at_run step config s shortage (Some p) =
     if gave_up p.outcomes then is_no_shortage shortage else allowed_at_act config s.entries (Actor.Nexus p.initiator) shortage (next_step step config p)
 
+-- the shortage may stand at this item; a Begin does no act, so none stands at its act
 abbrev pub is_allowed : Stepping → Configuration → ReplayState → TraceItem → Shortage → Bool
 is_allowed step config s (TraceItem.Begin initiator moment request) AtAct = false
 is_allowed step config s (TraceItem.Begin initiator moment request) shortage = true
@@ -55,6 +56,7 @@ are_allowed step config s (x ∷ xs) shortages =
 abbrev pub may_lack_from : Stepping → Configuration → ReplayState → ℕ → ℕ → List ℕ → List Shortage → Bool
 may_lack_from step config s n place bytes shortages = are_allowed step config s (trace_of n place bytes).items shortages
 
+-- behind a header that is torn or bad, shortages say nothing
 abbrev pub allowed_after : Stepping → Parsed Configuration → List ℕ → List Shortage → Bool
 allowed_after step (Whole config used) bytes shortages = may_lack_from step config at_first items_limit used (drop used bytes) shortages
 allowed_after step _ bytes shortages = true
@@ -65,6 +67,7 @@ may_lack step bytes shortages = allowed_after step (read_header bytes) bytes sho
 
 -- ---- what shortages show
 
+-- the outcome is want of memory
 abbrev pub is_no_memory : Outcome → Bool
 is_no_memory Outcome.NoMemory = true
 is_no_memory _ = false
