@@ -2,5 +2,6 @@ pub mod Nearest
 pub mod Places
 pub mod Written
 pub mod Splits
+pub mod PublicLaws
 pub mod Counting
 pub mod Planned

@@ -201,6 +201,13 @@ impl Blocks for ExtentUnit {
 
     ghost holds = { λ u. held_in u.block_length u.entries };
 
+    // no pin is made of it
+    ghost pinned = { λ u pin. None };
+
+    ghost shown = { λ u pin block. None };
+
+    ghost written_by = { λ u w. Unit {0} };
+
     fn new(alloc: Global, count: u64, size: u32) -> Result<ExtentUnit, OutOfMemory> {
         Ok(ExtentUnit {
             alloc,
@@ -283,4 +290,6 @@ impl Blocks for ExtentUnit {
         }
         Ok(list)
     }
+
+    ghost alike = { λ u w v by agree. by };
 }

@@ -69,6 +69,13 @@ impl Blocks for PlainUnit {
 
     ghost holds = { λ u. stored u.entries };
 
+    // no pin is made of it
+    ghost pinned = { λ u pin. None };
+
+    ghost shown = { λ u pin block. None };
+
+    ghost written_by = { λ u w. Unit {0} };
+
     fn new(alloc: Global, count: u64, size: u32) -> Result<PlainUnit, OutOfMemory> {
         Ok(PlainUnit {
             alloc,
@@ -131,4 +138,6 @@ impl Blocks for PlainUnit {
         }
         Ok(list)
     }
+
+    ghost alike = { λ u w v by agree. by };
 }
