@@ -1,5 +1,6 @@
 -- The table of the commands, and what it reads in a CDB
-use Rattle.std.specs.Prelude.{ℕ, ◌-◌, ◌==◌, List, [], ◌∷◌, find, Option, Some, None, Result, Ok, Err, Bool, true, false, not, ◌&&◌, ◌||◌, nat_lt, if◌then◌else◌}
+use Rattle.std.specs.Prelude.{ℕ, ◌-◌, ◌==◌, List, [], ◌∷◌, ◌++◌, find, Option, Some, None, Result, Ok, Err, Bool, true, false, not, ◌&&◌, ◌||◌, nat_lt, if◌then◌else◌}
+use Rattle.std.specs.Option.{option_map_or}
 use Rattle.cm_base.specs.Fields.{byte, field, bits, bit}
 use Rattle.scsi_sense.specs.SenseCode.{SenseCode}
 use Rattle.scsi_sense.specs.Codes.{invalid_operation_code, invalid_field_in_cdb}
@@ -20,9 +21,9 @@ row code size command = record { code = code; action = None; size = size; comman
 abbrev pub action_row : ℕ → ℕ → (List ℕ → Cdb) → Row
 action_row code action command = record { code = code; action = Some action; size = 16; command = command }
 
--- each command of the profile, with the fields that are read in its CDB (SPC-4, SBC-3)
-abbrev pub table : List Row
-table =
+-- the commands that have an operation code of their own, with the fields that are read in their CDBs (SPC-4, SBC-3)
+abbrev pub plain_rows : List Row
+plain_rows =
     row 0x00 6 (λ b. Cdb.TestUnitReady)
     ∷ row 0x03 6 (λ b. Cdb.RequestSense (byte b 4))
     ∷ row 0x12 6 (λ b. Cdb.Inquiry (bit b 1 0) (byte b 2) (field b 3 4))
@@ -32,7 +33,12 @@ table =
     ∷ row 0x42 10 (λ b. Cdb.Unmap (field b 7 8))
     ∷ row 0x88 16 (λ b. Cdb.Read (field b 2 9) (field b 10 13))
     ∷ row 0x8a 16 (λ b. Cdb.Write (field b 2 9) (field b 10 13))
-    ∷ action_row 0x83 0x00 (λ b. Cdb.ExtendedCopy (field b 10 13))
+    ∷ row 0xa0 12 (λ b. Cdb.ReportLuns (field b 6 9)) ∷ []
+
+-- the commands of one operation code and many service actions: third-party copies, and SERVICE ACTION IN(16)
+abbrev pub action_rows : List Row
+action_rows =
+    action_row 0x83 0x00 (λ b. Cdb.ExtendedCopy (field b 10 13))
     ∷ action_row 0x83 0x10 (λ b. Cdb.PopulateToken (field b 6 9) (field b 10 13))
     ∷ action_row 0x83 0x11 (λ b. Cdb.WriteUsingToken (field b 6 9) (field b 10 13))
     ∷ action_row 0x83 0x1c (λ b. Cdb.CopyAbort (field b 2 5))
@@ -41,21 +47,15 @@ table =
     ∷ action_row 0x84 0x05 (λ b. Cdb.CopyStatus4 (field b 2 5) (field b 10 13))
     ∷ action_row 0x84 0x07 (λ b. Cdb.TokenInformation (field b 2 5) (field b 10 13))
     ∷ action_row 0x9e 0x10 (λ b. Cdb.ReadCapacity16 (field b 10 13))
-    ∷ action_row 0x9e 0x12 (λ b. Cdb.GetLbaStatus (field b 2 9) (field b 10 13))
-    ∷ row 0xa0 12 (λ b. Cdb.ReportLuns (field b 6 9)) ∷ []
+    ∷ action_row 0x9e 0x12 (λ b. Cdb.GetLbaStatus (field b 2 9) (field b 10 13)) ∷ []
 
--- the service action is in bits 4..0 of byte 1
-abbrev pub has_action : List ℕ → Option ℕ → Bool
-has_action b None = true
-has_action b (Some action) = bits b 1 4 0 == action
-
--- the row is that of the CDB
+-- the row is that of the CDB, whose service action is in bits 4..0 of byte 1
 abbrev pub is_row_of : List ℕ → Row → Bool
-is_row_of b r = (byte b 0 == r.code) && has_action b r.action
+is_row_of b r = (byte b 0 == r.code) && option_map_or (λ action. bits b 1 4 0 == action) r.action true
 
 -- the row of the CDB, if there is one
 abbrev pub row_of : List ℕ → Option Row
-row_of b = find (is_row_of b) table
+row_of b = find (is_row_of b) (plain_rows ++ action_rows)
 
 -- protection, more than 2048 blocks, ANCHOR or DESC
 abbrev pub has_bad_field : List ℕ → Cdb → Bool
@@ -69,11 +69,8 @@ has_bad_field b _ = false
 abbrev pub has_fault : List ℕ → Row → Bool
 has_fault b r = bit b (r.size - 1) 2 || has_bad_field b (r.command b)
 
--- a CDB of no row is refused, and so is one with a bad field; any other is what its row reads in it
-abbrev pub decoded_by : List ℕ → Option Row → Result Cdb SenseCode
-decoded_by b None = Err invalid_operation_code
-decoded_by b (Some r) = if has_fault b r then Err invalid_field_in_cdb else Ok (r.command b)
-
--- what the 16 bytes ask for
+-- what the 16 bytes ask for; a CDB of no row is refused, and so is one with a bad field
 abbrev pub decoded : List ℕ → Result Cdb SenseCode
-decoded b = decoded_by b (row_of b)
+decoded b =
+    option_map_or (λ r. if has_fault b r then Err invalid_field_in_cdb else Ok (r.command b)) (row_of b)
+    (Err invalid_operation_code)
