@@ -12,10 +12,6 @@ standard =
     (0x00 ∷ 0 ∷ 0x06 ∷ 0x02 ∷ 0x1f ∷ 0x08 ∷ 0 ∷ 0 ∷ [])
     ++ codes "COPYMGR " ++ codes "ROD TOKEN UNIT  " ++ codes "0001"
 
--- the pages that there are
-abbrev pub page_list : List ℕ
-page_list = 0x00 ∷ 0x83 ∷ 0x8f ∷ 0xb0 ∷ 0xb2 ∷ []
-
 -- the unit's name as a designator
 abbrev pub identification : ℕ → List ℕ
 identification unit = 0x01 ∷ 0x03 ∷ 0x00 ∷ 0x08 ∷ unit_name unit
@@ -30,18 +26,14 @@ copy_limits =
 abbrev pub block_limits : List ℕ
 block_limits = zeros 4 ++ big_bytes 4 2048 ++ zeros 8 ++ big_bytes 4 0xffff_ffff ++ big_bytes 4 64 ++ zeros 36
 
--- unmapped blocks read as zeros, and the unit is thin
-abbrev pub provisioning : List ℕ
-provisioning = 0x00 ∷ 0x84 ∷ 0x02 ∷ 0x00 ∷ []
-
--- what stands on a page
+-- what stands on a page: 00h lists the pages, and by B2h unmapped blocks read as zeros, and the unit is thin
 abbrev pub page_content : ℕ → ℕ → Option (List ℕ)
 page_content unit page =
-    if page == 0x00 then Some page_list else
+    if page == 0x00 then Some (0x00 ∷ 0x83 ∷ 0x8f ∷ 0xb0 ∷ 0xb2 ∷ []) else
     if page == 0x83 then Some (identification unit) else
     if page == 0x8f then Some copy_limits else
     if page == 0xb0 then Some block_limits else
-    if page == 0xb2 then Some provisioning else
+    if page == 0xb2 then Some (0x00 ∷ 0x84 ∷ 0x02 ∷ 0x00 ∷ []) else
     None
 
 -- a vital product data page, if there is one
