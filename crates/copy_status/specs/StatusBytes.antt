@@ -6,14 +6,6 @@ use Rattle.scsi_sense.specs.SenseCode.{SenseCode}
 use Rattle.scsi_sense.specs.SenseBytes.{sense_bytes}
 use Rattle.copy_status.specs.CopyStatus.{CopyStatus}
 
--- POPULATE TOKEN or WRITE USING TOKEN
-abbrev pub service_action : CopyStatus → ℕ
-service_action f = if f.populate then 0x10 else 0x11
-
--- the host is asked to wait while the operation runs
-abbrev pub delay : CopyStatus → ℕ
-delay f = if f.running then 100 else 0
-
 -- completion status, and twice the length of the sense
 abbrev pub completion : Option SenseCode → List ℕ
 completion None = 0x00 ∷ 0x00 ∷ 0x00 ∷ []
@@ -24,10 +16,11 @@ abbrev pub sense_data : Option SenseCode → List ℕ
 sense_data None = []
 sense_data (Some sense) = sense_bytes sense
 
--- bytes 4..31; F1h says that the count is one of blocks
+-- bytes 4..31: service action, status, the milliseconds to wait while it runs, completion; F1h: the count is of blocks
 abbrev pub fields_bytes : CopyStatus → List ℕ
 fields_bytes f =
-    service_action f ∷ f.status ∷ zeros 2 ++ big_bytes 4 (delay f) ++ completion f.sense ++ 0xf1 ∷ big_bytes 8 f.count ++ zeros 8
+    (if f.populate then 0x10 else 0x11) ∷ f.status ∷ zeros 2 ++ big_bytes 4 (if f.running then 100 else 0)
+    ++ completion f.sense ++ 0xf1 ∷ big_bytes 8 f.count ++ zeros 8
 
 -- the 32 bytes before the sense
 abbrev pub header_bytes : CopyStatus → ℕ → List ℕ
