@@ -94,7 +94,7 @@ progress unit past otherwise (Some o) =
     if nat_lt unit.quota (mapped_with unit (held past) (next_piece o)) then Answer.Progress (OpState.Failed space_allocation_failed) (count o) else
     progress_by o (length (next_piece o))
 
--- an End: the operation is terminated, with the blocks that it has written
+-- an End: the operation is terminated, with the blocks that it has written; refused where there is no such operation
 abbrev pub answer_end : Option Operation → Answer
 answer_end None = Answer.Refused invalid_field_in_cdb
 answer_end (Some o) = Answer.Progress OpState.Terminated (count o)
