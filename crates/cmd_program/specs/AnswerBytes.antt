@@ -6,9 +6,8 @@ use Rattle.cm_base.specs.Configuration.{Configuration}
 use Rattle.cm_base.specs.Fields.{zeros, counted}
 use Rattle.copy_status.specs.declared.operation.OperationStatus.{OperationStatus}
 use Rattle.copy_status.specs.CopyStatus.{CopyStatus, told}
-use Rattle.copy_status.specs.StatusBytes.{status4_bytes, information_bytes, status1_bytes}
+use Rattle.copy_status.specs.StatusBytes.{information_bytes}
 use Rattle.rod_token.specs.TokenText.{token_text}
-use Rattle.cm_history.specs.declared.act.CopyEnd.{CopyEnd}
 use Rattle.cm_history.specs.declared.act.CopyState.{CopyState}
 use Rattle.lba_ranges.specs.declared.status.MapRun.{MapRun}
 use Rattle.cm_history.specs.declared.answer.OpReport.{OpReport}
@@ -38,10 +37,6 @@ operation_status background OpState.Terminated = OperationStatus.Terminated
 abbrev pub status_of : OpReport → CopyStatus
 status_of r = told r.populate (operation_status r.background r.state) r.count
 
--- RECEIVE COPY STATUS(LID4)
-abbrev pub report_bytes : OpReport → List ℕ
-report_bytes r = status4_bytes (status_of r)
-
 -- RECEIVE ROD TOKEN INFORMATION, with the token that a POPULATE TOKEN made at the unit
 abbrev pub report_token_bytes : Configuration → ℕ → OpReport → List ℕ
 report_token_bytes config unit r =
@@ -53,7 +48,3 @@ copy_code CopyState.Running = 0x00
 copy_code CopyState.Done = 0x01
 copy_code CopyState.Failed = 0x02
 copy_code CopyState.Terminated = 0x02
-
--- RECEIVE COPY STATUS(LID1)
-abbrev pub copy_bytes : CopyEnd → List ℕ
-copy_bytes c = status1_bytes (copy_code c.state) c.segments c.bytes

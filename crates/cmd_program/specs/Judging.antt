@@ -16,7 +16,7 @@ use Rattle.cm_history.specs.declared.act.Act.{Act}
 use Rattle.cmd_program.specs.declared.step.Outcome.{Outcome}
 use Rattle.cmd_program.specs.declared.step.Step.{Step}
 use Rattle.cmd_program.specs.Program.{Program, good, done, refused, ask_then, next, moved}
-use Rattle.cmd_program.specs.SingleActs.{inquiry, write, unmap, populate, act_alone, told_read, told_map, told_report, told_token, told_copy}
+use Rattle.cmd_program.specs.SingleActs.{inquiry, blocks_in, unmap, populate, act_alone, told_read, told_map, told_report, told_token, told_copy}
 use Rattle.cmd_program.specs.TokenWrite.{write_using_token}
 use Rattle.cmd_program.specs.ExtendedCopy.{extended_copy}
 
@@ -39,7 +39,7 @@ program_of config unit out Cdb.TestUnitReady = done
 program_of config unit out (Cdb.RequestSense allocation) = good (take allocation (sense_bytes no_additional_sense))
 program_of config unit out (Cdb.Inquiry evpd page allocation) = inquiry unit evpd page allocation
 program_of config unit out (Cdb.Read lba count) = ask_then unit (Act.Read lba count) told_read
-program_of config unit out (Cdb.Write lba count) = write config unit lba out
+program_of config unit out (Cdb.Write lba count) = act_alone unit (Act.Write lba (blocks_in (unit_of config unit).block_length out))
 program_of config unit out (Cdb.Unmap length) = unmap unit (unmap_read out)
 program_of config unit out Cdb.ReadCapacity10 = good (capacity10 config unit)
 program_of config unit out (Cdb.ReadCapacity16 allocation) = good (take allocation (capacity16 config unit))

@@ -1,7 +1,6 @@
 -- Commands that ask for one act, or for none
 use Rattle.std.specs.Prelude.{ℕ, ◌/◌, ◌==◌, List, take, length, Option, Some, None, Result, Ok, Err, Bool, true, false, if◌then◌else◌}
 use Rattle.cm_base.specs.Configuration.{Configuration}
-use Rattle.cm_base.specs.Units.{unit_of}
 use Rattle.lba_ranges.specs.HeldBlocks.{HeldBlocks, cut}
 use Rattle.lba_ranges.specs.declared.ranges.Range.{Range}
 use Rattle.scsi_sense.specs.SenseCode.{SenseCode}
@@ -12,7 +11,8 @@ use Rattle.cm_history.specs.declared.act.Act.{Act}
 use Rattle.cm_history.specs.declared.answer.Answer.{Answer}
 use Rattle.cmd_program.specs.Program.{Program, good, done, refused, never, unless_refused, with_blocks, with_report, ask_then}
 use Rattle.lba_ranges.specs.HeldBlocks.{blocks_bytes}
-use Rattle.cmd_program.specs.AnswerBytes.{map_bytes, report_bytes, report_token_bytes, copy_bytes}
+use Rattle.copy_status.specs.StatusBytes.{status4_bytes, status1_bytes}
+use Rattle.cmd_program.specs.AnswerBytes.{map_bytes, status_of, report_token_bytes, copy_code}
 
 -- the blocks of data that came with a WRITE
 abbrev pub blocks_in : ℕ → List ℕ → HeldBlocks
@@ -32,7 +32,7 @@ told_map allocation _ = never
 
 -- RECEIVE COPY STATUS(LID4): the report of the operation
 abbrev pub told_report : ℕ → Answer → Program
-told_report allocation answer = with_report (λ report. good (take allocation (report_bytes report))) answer
+told_report allocation answer = with_report (λ report. good (take allocation (status4_bytes (status_of report)))) answer
 
 -- RECEIVE ROD TOKEN INFORMATION: the report of the operation, with its token
 abbrev pub told_token : Configuration → ℕ → ℕ → Answer → Program
@@ -40,7 +40,7 @@ told_token config unit allocation answer = with_report (λ report. good (take al
 
 -- RECEIVE COPY STATUS(LID1): how far the copy has come
 abbrev pub told_copy : ℕ → Answer → Program
-told_copy allocation (Answer.Copy result) = good (take allocation (copy_bytes result))
+told_copy allocation (Answer.Copy result) = good (take allocation (status1_bytes (copy_code result.state) result.segments result.bytes))
 told_copy allocation (Answer.Refused sense) = refused sense
 told_copy allocation _ = never
 
@@ -59,10 +59,6 @@ page_told allocation (Some page) = good (take allocation page)
 abbrev pub inquiry : ℕ → Bool → ℕ → ℕ → Program
 inquiry unit true page allocation = page_told allocation (vpd unit page)
 inquiry unit false page allocation = if page == 0 then good (take allocation standard) else refused invalid_field_in_cdb
-
--- WRITE: the data-out, cut into blocks, from `lba` on
-abbrev pub write : Configuration → ℕ → ℕ → List ℕ → Program
-write config unit lba out = act_alone unit (Act.Write lba (blocks_in (unit_of config unit).block_length out))
 
 -- UNMAP, as its parameter list was read
 abbrev pub unmap : ℕ → Result (List Range) SenseCode → Program
