@@ -1,4 +1,4 @@
-ghost use Rattle.std.specs.Prelude.{◌≡◌, ◌∷◌, ◌++◌, ◌≤◌, ◌<◌, ◌^◌, [], length, IfOk, OnOk};
+ghost use Rattle.std.specs.Prelude.{◌≡◌, ◌∷◌, ◌++◌, ◌≤◌, ◌<◌, ◌^◌, [], length, IsTrue, ◌↔◌, IfOk, OnOk};
 ghost use Rattle.byteorder.specs.Endian.{big_bytes};
 ghost use Rattle.cm_base.specs.Fields.{flag, AreBytes};
 ghost use Rattle.recorder.specs.Text.{range_bytes, ranges_bytes, blocks_text, block_limit, state_code, end_bytes, act_code, act_fields, actor_bytes, behind_actor, entry_bytes, HasShortLists, FitsRange, FitRanges, FitBlocks, FitsAct, FitsActor, IsEntry};
@@ -263,6 +263,25 @@ pub(crate) fn entry_text(alloc: Global, entry: &Entry) -> Result<Text, OutOfMemo
     write_behind(&mut text, entry)?;
     text.sound();
     Ok(text)
+}
+
+/// It has at most 1,048,576 blocks.
+fn is_short(list: &BlockList) -> bool
+    ensures { IsTrue result ↔ (length list.now.items ≤ block_limit) }
+{
+    list.blocks() <= 1_048_576
+}
+
+/// No list of the act's blocks has more than 1,048,576 blocks, so that its entry may be written. It takes no memory.
+pub fn has_short_lists(act: &Act) -> bool
+    ensures { IsTrue result ↔ HasShortLists act.now }
+{
+    match act {
+        Act::Write { list, .. } => is_short(list),
+        Act::Put { list, .. } => is_short(list),
+        Act::Start { rod, .. } => is_short(rod),
+        _ => true,
+    }
 }
 
 /// The text of an entry (own profile): stamp 8 bytes, unit 2, kind of the actor 1, its number 4, seq 8,
