@@ -1,11 +1,15 @@
 ghost use Rattle.std.specs.Prelude.{◌≡◌};
 ghost use Rattle.cm_history.specs.declared.act.Act.{Act};
-ghost use Rattle.lba_ranges.specs.HeldBlocks.{IsFull};
+
+mod acts;
+mod entries;
+mod faults;
+mod sinking;
 
 use super::*;
-use cm_base::{CallList, Payload};
+use cm_base::CallList;
 use cm_history::{Act, Actor, Entry};
-use lba_ranges::{BlockList, Fill, Piece};
+use entries::is_read;
 use std::test::Fail;
 
 /// The second entry of a unit: the nexus of number 1 reads three blocks.
@@ -22,7 +26,7 @@ fn read_of_three() -> Entry
     }
 }
 
-/// The 44 bytes were worked out by hand from docs/formats.md.
+/// The 44 bytes were worked out by hand from docs/formats.md, and are read as the entry.
 #[test]
 fn a_read_as_bytes(rt: HostRuntime) -> Result<(), Fail> {
     let text = write_entry(rt.alloc(), &read_of_three())?;
@@ -30,62 +34,9 @@ fn a_read_as_bytes(rt: HostRuntime) -> Result<(), Fail> {
         0, 0, 0, 0, 0, 0, 0, 2, 0, 0, 0, 0, 0, 0, 1, 0, 0, 0, 0, 0, 0, 0, 1, 0, 0, 0, 0, 0, 0, 0,
         0, 1, 0, 0, 0, 0, 0, 0, 0, 0, 0, 0, 0, 3,
     ];
-    assert_eq!(rt; text.len(), 44);
+    assert_eq!(rt; bytes.len(), 44);
     assert_eq!(rt; text.as_slice(), bytes.as_slice());
-    Ok(())
-}
-
-/// One mapped block of two bytes.
-fn one_block(bytes: &'static [u8; 2]) -> Piece
-    ensures count { result.count ≡ 1 }
-    ensures full { IsFull 2 result.count result.fill }
-{
-    Piece {
-        count: 1,
-        fill: Fill::Bytes(Payload::from_static(bytes)),
-    }
-}
-
-/// Two mapped blocks of two bytes, which lie in two runs, and three unmapped ones.
-fn two_groups(rt: &HostRuntime) -> Result<BlockList, Fail> {
-    let mut list = BlockList::empty(rt.alloc(), 2);
-    list.push(one_block(&[0x11, 0x12]))?;
-    if list.blocks() > 1 {
-        return Err(Fail::new("too many blocks"));
-    }
-    list.push(one_block(&[0x21, 0x22]))?;
-    if list.blocks() > 2 {
-        return Err(Fail::new("too many blocks"));
-    }
-    list.push(Piece {
-        count: 3,
-        fill: Fill::Hole,
-    })?;
-    Ok(list)
-}
-
-/// Runs that touch make one group.
-#[test]
-fn a_put_as_bytes(rt: HostRuntime) -> Result<(), Fail> {
-    let list = two_groups(&rt)?;
-    if list.blocks() > 1_048_576 {
-        return Err(Fail::new("too many blocks"));
-    }
-    let put = Entry {
-        stamp: 0,
-        unit: 1,
-        actor: Actor::Pump(1),
-        seq: 0,
-        moment: 0,
-        act: Act::Put { lba: 7, list },
-    };
-    let text = write_entry(rt.alloc(), &put)?;
-    let end = [
-        0x0f, 0, 0, 0, 0, 0, 0, 0, 7, 0, 0, 0, 2, 0, 0, 0, 2, 0, 0, 0, 2, 1, 0x11, 0x12, 0x21,
-        0x22, 0, 0, 0, 3, 0,
-    ];
-    assert_eq!(rt; text.len(), 62);
-    assert!(rt; text.as_slice().ends_with(&end));
+    assert!(rt; is_read(rt.alloc(), &bytes, &bytes)?);
     Ok(())
 }
 
