@@ -14,4 +14,5 @@ It shares nothing with the program: it keeps lists and walks over them. The file
     player.py     a whole trace
     requests.py   random requests
     traces.py     random traces
+    entries.py    the entries of units' records, and their texts
 """
