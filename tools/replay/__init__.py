@@ -15,4 +15,6 @@ It shares nothing with the program: it keeps lists and walks over them. The file
     requests.py   random requests
     traces.py     random traces
     entries.py    the entries of units' records, and their texts
+    sessions.py   random sessions, which are the commands of one connection
+    compared.py   what a program wrote, beside the replies of a player
 """

@@ -65,13 +65,18 @@ def read_header(data):
     return Machine(bytes(data[8:40]), shapes), end
 
 
-# ---- items
+# ---- requests and items
+
+
+def request_bytes(request):
+    """What a connection brings for one command."""
+    unit, cdb, out = request
+    return struct.pack(">IH16s", len(out), unit, cdb) + out
 
 
 def item_bytes(item):
     if isinstance(item, Begin):
-        unit, cdb, out = item.request
-        return struct.pack(">BIQIH16s", BEGIN, item.initiator, item.moment, len(out), unit, cdb) + out
+        return struct.pack(">BIQ", BEGIN, item.initiator, item.moment) + request_bytes(item.request)
     if isinstance(item, Run):
         return struct.pack(">BIQ", RUN, *item)
     return struct.pack(">BHQ", PUMP, *item)
