@@ -2,6 +2,7 @@
 ghost use Rattle.std.specs.Prelude.{◌<◌};
 
 use crate::rows::first_path::HEADER;
+use crate::rows::sessions::{SESSIONS, TWO_UNITS};
 use crate::tests::{bytes_of, only};
 use cm_base::{Bytes, CallList, Config, MemoryLink, MemorySink, MemorySource, SetClock};
 use cm_frame::{Parsed, read_header};
@@ -42,75 +43,148 @@ fn config_of(alloc: Global, header: &str) -> Result<Config, Fail> {
     }
 }
 
-/// Serves a connection by pulls and pushes of so many bytes, of which those listed fail.
+/// Serves a connection of these two sides.
 fn served(
     alloc: Global,
     header: &str,
-    input: Bytes,
-    step: usize,
-    pulls: CallList,
-    pushes: CallList,
-) -> Result<(SessionEnd, MemoryLink), Fail>
-    requires { 0 < step }
-{
+    source: MemorySource,
+    sink: MemorySink,
+) -> Result<(SessionEnd, MemoryLink), Fail> {
     let config = config_of(alloc, header)?;
     let mut units = UnitRuns::new(alloc, config.copy(alloc)?, 0)?;
-    let sink = MemorySink::new(alloc, step, pushes);
-    let mut link = MemoryLink::new(MemorySource::new(input, step, pulls), sink);
+    let mut link = MemoryLink::new(source, sink);
     let end = session(alloc, &config, &mut link, &mut units, &SetClock::new(0));
     Ok((end, link))
 }
 
-/// A connection that gives so many bytes of the two requests ends so, with so many bytes of the replies.
-fn is_served(
+/// Serves a connection by pulls and pushes of so many bytes, none of which fails.
+fn served_whole(
     alloc: Global,
-    given: usize,
+    header: &str,
+    input: Bytes,
     step: usize,
-    end: SessionEnd,
-    taken: usize,
-) -> Result<bool, Fail>
+) -> Result<(SessionEnd, MemoryLink), Fail>
     requires { 0 < step }
 {
-    let requests = bytes_of(alloc, &REQUESTS)?;
-    let replies = bytes_of(alloc, &REPLIES)?;
-    let input = Bytes::copy(alloc, requests.as_slice().get(..given).unwrap_or(&[]))?;
-    let none = CallList::empty(alloc);
-    let (found, link) = served(alloc, HEADER, input, step, none, CallList::empty(alloc))?;
-    Ok(found == end && replies.as_slice().get(..taken) == Some(link.taken()))
+    let source = MemorySource::new(input, step, CallList::empty(alloc));
+    let sink = MemorySink::new(alloc, step, CallList::empty(alloc));
+    served(alloc, header, source, sink)
+}
+
+/// The two requests and their replies.
+#[derive(Drop)]
+struct Worked {
+    requests: Bytes,
+    replies: Bytes,
+}
+
+/// How a session ends, and how many bytes of the replies are taken.
+#[derive(Clone, Copy)]
+struct Wanted {
+    frames: u64,
+    fault: Option<SessionFault>,
+    taken: usize,
+}
+
+impl Worked {
+    fn new(alloc: Global) -> Result<Worked, Fail> {
+        Ok(Worked {
+            requests: bytes_of(alloc, &REQUESTS)?,
+            replies: bytes_of(alloc, &REPLIES)?,
+        })
+    }
+
+    /// So many bytes of the requests, by pulls of so many, of which those listed fail.
+    fn source(
+        &self,
+        alloc: Global,
+        given: usize,
+        step: usize,
+        failing: CallList,
+    ) -> Result<MemorySource, Fail>
+        requires { 0 < step }
+    {
+        let given = self.requests.as_slice().get(..given).unwrap_or(&[]);
+        let input = Bytes::copy(alloc, given)?;
+        Ok(MemorySource::new(input, step, failing))
+    }
+
+    /// A connection of these two sides is served as wanted.
+    fn is_served(
+        &self,
+        alloc: Global,
+        source: MemorySource,
+        sink: MemorySink,
+        wanted: Wanted,
+    ) -> Result<bool, Fail> {
+        let (end, link) = served(alloc, HEADER, source, sink)?;
+        let all_taken = self.replies.as_slice().get(..wanted.taken) == Some(link.taken());
+        Ok(end.frames == wanted.frames && end.fault == wanted.fault && all_taken)
+    }
+
+    /// A connection without faults that gives so many bytes is served as wanted.
+    fn is_served_whole(
+        &self,
+        alloc: Global,
+        given: usize,
+        step: usize,
+        wanted: Wanted,
+    ) -> Result<bool, Fail>
+        requires { 0 < step }
+    {
+        let source = self.source(alloc, given, step, CallList::empty(alloc))?;
+        let sink = MemorySink::new(alloc, step, CallList::empty(alloc));
+        self.is_served(alloc, source, sink, wanted)
+    }
 }
 
 #[test]
 fn one_session_over_two_requests(rt: HostRuntime) -> Result<(), Fail> {
-    let end = SessionEnd {
+    let worked = Worked::new(rt.alloc())?;
+    let wanted = Wanted {
         frames: 2,
         fault: None,
+        taken: 1548,
     };
     for step in [1, 7, 4096] {
-        assert!(rt; is_served(rt.alloc(), BOTH, step, end, 1548)?, "by {step}");
+        assert!(rt;
+            worked.is_served_whole(rt.alloc(), BOTH, step, wanted)?,
+            "by {step}"
+        );
     }
     Ok(())
 }
 
 #[test]
 fn a_session_ends_between_two_requests(rt: HostRuntime) -> Result<(), Fail> {
-    let end = SessionEnd {
+    let worked = Worked::new(rt.alloc())?;
+    let wanted = Wanted {
         frames: 1,
         fault: None,
+        taken: 6,
     };
     for step in [1, 7, 4096] {
-        assert!(rt; is_served(rt.alloc(), FIRST, step, end, 6)?, "by {step}");
+        assert!(rt;
+            worked.is_served_whole(rt.alloc(), FIRST, step, wanted)?,
+            "by {step}"
+        );
     }
     Ok(())
 }
 
 #[test]
 fn a_session_is_cut_inside_the_second_request(rt: HostRuntime) -> Result<(), Fail> {
-    let end = SessionEnd {
+    let worked = Worked::new(rt.alloc())?;
+    let wanted = Wanted {
         frames: 1,
         fault: Some(SessionFault::Torn),
+        taken: 6,
     };
     for given in FIRST + 1..BOTH {
-        assert!(rt; is_served(rt.alloc(), given, 7, end, 6)?, "after {given}");
+        assert!(rt;
+            worked.is_served_whole(rt.alloc(), given, 7, wanted)?,
+            "after {given}"
+        );
     }
     Ok(())
 }
@@ -120,48 +194,132 @@ fn a_session_meets_too_much_data(rt: HostRuntime) -> Result<(), Fail> {
     let alloc = rt.alloc();
     let mut input = bytes_of(alloc, &REQUESTS)?;
     input.extend(&8_388_609u32.to_be_bytes())?;
-    let none = CallList::empty(alloc);
-    let (end, link) = served(alloc, HEADER, input, 7, none, CallList::empty(alloc))?;
+    let (end, link) = served_whole(alloc, HEADER, input, 7)?;
     assert_eq!(rt; end.frames, 2);
     assert_eq!(rt; end.fault, Some(SessionFault::BadFrame));
     assert_eq!(rt; link.taken(), bytes_of(alloc, &REPLIES)?.as_slice());
     Ok(())
 }
 
-/// Each pull fails once: the requests that were pulled whole are answered.
+/// How a session ends at a pull that fails when so many bytes were pulled: the requests that are whole are
+/// answered, and no others.
+fn after_pulls(pulled: usize) -> Wanted {
+    let (frames, taken) = match pulled {
+        ..FIRST => (0, 0),
+        FIRST..BOTH => (1, 6),
+        _ => (2, 1548),
+    };
+    Wanted {
+        frames,
+        fault: Some(SessionFault::ReadFault),
+        taken,
+    }
+}
+
+/// Each of so many pulls fails once, the last of which would have told the end. Few pushes take the replies.
+fn is_served_at_each_pull(alloc: Global, step: usize, pulls: usize) -> Result<bool, Fail>
+    requires { 0 < step }
+{
+    let worked = Worked::new(alloc)?;
+    for before in 0..pulls {
+        let wanted = after_pulls(step.saturating_mul(before).min(BOTH));
+        let source = worked.source(alloc, BOTH, step, only(alloc, before as u64 + 1)?)?;
+        let sink = MemorySink::new(alloc, 4096, CallList::empty(alloc));
+        if !worked.is_served(alloc, source, sink, wanted)? {
+            return Ok(false);
+        }
+    }
+    Ok(true)
+}
+
 #[test]
 fn each_pull_of_a_session_fails(rt: HostRuntime) -> Result<(), Fail> {
     let alloc = rt.alloc();
-    let replies = bytes_of(alloc, &REPLIES)?;
-    for (call, frames, taken) in [(1, 0, 0), (21, 0, 0), (22, 1, 6), (23, 2, 1548)] {
-        let input = bytes_of(alloc, &REQUESTS)?;
-        let failing = only(alloc, call)?;
-        let (end, link) = served(alloc, HEADER, input, 50, failing, CallList::empty(alloc))?;
-        assert_eq!(rt; end.frames, frames, "pull {call}");
-        assert_eq!(rt; end.fault, Some(SessionFault::ReadFault), "pull {call}");
-        assert!(rt;
-            replies.as_slice().get(..taken) == Some(link.taken()),
-            "pull {call}"
-        );
+    assert!(rt; is_served_at_each_pull(alloc, 1, 1069)?);
+    assert!(rt; is_served_at_each_pull(alloc, 7, 154)?);
+    assert!(rt; is_served_at_each_pull(alloc, 4096, 2)?);
+    Ok(())
+}
+
+/// How a session ends at a push that fails when so many bytes were pushed, which are what was taken.
+fn after_pushes(taken: usize) -> Wanted {
+    Wanted {
+        frames: u64::from(taken >= 6),
+        fault: Some(SessionFault::WriteFault),
+        taken,
+    }
+}
+
+/// Each push fails once: so many of the first reply, which has 6 bytes, and so many of the second. Few pulls
+/// bring the requests.
+fn is_served_at_each_push(
+    alloc: Global,
+    step: usize,
+    first: usize,
+    second: usize,
+) -> Result<bool, Fail>
+    requires { 0 < step }
+{
+    let worked = Worked::new(alloc)?;
+    for before in 0..first.saturating_add(second) {
+        let taken = if before < first {
+            step.saturating_mul(before)
+        } else {
+            step.saturating_mul(before - first).saturating_add(6)
+        };
+        let source = worked.source(alloc, BOTH, 4096, CallList::empty(alloc))?;
+        let sink = MemorySink::new(alloc, step, only(alloc, before as u64 + 1)?);
+        if !worked.is_served(alloc, source, sink, after_pushes(taken))? {
+            return Ok(false);
+        }
+    }
+    Ok(true)
+}
+
+#[test]
+fn each_push_of_a_session_fails(rt: HostRuntime) -> Result<(), Fail> {
+    let alloc = rt.alloc();
+    assert!(rt; is_served_at_each_push(alloc, 1, 6, 1542)?);
+    assert!(rt; is_served_at_each_push(alloc, 7, 1, 221)?);
+    assert!(rt; is_served_at_each_push(alloc, 4096, 1, 1)?);
+    Ok(())
+}
+
+/// One pull behind those of the whole input, and one push behind those of all replies, would fail: none is
+/// asked for.
+#[test]
+fn a_session_pulls_and_pushes_no_more(rt: HostRuntime) -> Result<(), Fail> {
+    let alloc = rt.alloc();
+    let wanted = Wanted {
+        frames: 2,
+        fault: None,
+        taken: 1548,
+    };
+    let worked = Worked::new(alloc)?;
+    for (step, pull, push) in [(1, 1070, 1549), (7, 155, 223), (4096, 3, 3)] {
+        let source = worked.source(alloc, BOTH, step, only(alloc, pull)?)?;
+        let sink = MemorySink::new(alloc, step, only(alloc, push)?);
+        assert!(rt; worked.is_served(alloc, source, sink, wanted)?, "by {step}");
     }
     Ok(())
 }
 
-/// Each push fails once: what was taken is what was pushed before.
+/// Sessions of every command are replied as was worked out.
 #[test]
-fn each_push_of_a_session_fails(rt: HostRuntime) -> Result<(), Fail> {
+fn worked_sessions(rt: HostRuntime) -> Result<(), Fail> {
     let alloc = rt.alloc();
-    let replies = bytes_of(alloc, &REPLIES)?;
-    for (call, frames, taken) in [(1, 0, 0), (2, 1, 6), (3, 1, 56), (32, 1, 1506)] {
-        let input = bytes_of(alloc, &REQUESTS)?;
-        let failing = only(alloc, call)?;
-        let (end, link) = served(alloc, HEADER, input, 50, CallList::empty(alloc), failing)?;
-        assert_eq!(rt; end.frames, frames, "push {call}");
-        assert_eq!(rt; end.fault, Some(SessionFault::WriteFault), "push {call}");
-        assert!(rt;
-            replies.as_slice().get(..taken) == Some(link.taken()),
-            "push {call}"
-        );
+    for worked in &SESSIONS {
+        let replies = bytes_of(alloc, worked.replies)?;
+        for step in [1, 7, 4096] {
+            let input = bytes_of(alloc, worked.requests)?;
+            let (end, link) = served_whole(alloc, TWO_UNITS, input, step)?;
+            assert!(rt; end.fault.is_none(), "{} by {step}", worked.name);
+            assert!(rt;
+                link.taken() == replies.as_slice(),
+                "{} by {step}",
+                worked.name
+            );
+        }
     }
     Ok(())
 }
@@ -172,20 +330,13 @@ fn a_session_replies_with_long_data(rt: HostRuntime) -> Result<(), Fail> {
     let alloc = rt.alloc();
     let reply = bytes_of(alloc, &["000000014000", "00*81920"])?;
     let input = bytes_of(alloc, &[LONG_READ])?;
-    let none = CallList::empty(alloc);
-    let (end, link) = served(
-        alloc,
-        LONG_BLOCKS,
-        input,
-        100_000,
-        none,
-        CallList::empty(alloc),
-    )?;
+    let (end, link) = served_whole(alloc, LONG_BLOCKS, input, 100_000)?;
     assert!(rt; end.frames == 1 && end.fault.is_none());
     assert!(rt; link.taken() == reply.as_slice());
     let input = bytes_of(alloc, &[LONG_READ])?;
-    let none = CallList::empty(alloc);
-    let (end, link) = served(alloc, LONG_BLOCKS, input, 100_000, none, only(alloc, 2)?)?;
+    let source = MemorySource::new(input, 100_000, CallList::empty(alloc));
+    let sink = MemorySink::new(alloc, 100_000, only(alloc, 2)?);
+    let (end, link) = served(alloc, LONG_BLOCKS, source, sink)?;
     assert!(rt; end.frames == 0 && end.fault == Some(SessionFault::WriteFault));
     assert_eq!(rt; link.taken().len(), 6);
     Ok(())

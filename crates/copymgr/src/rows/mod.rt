@@ -6,6 +6,7 @@ pub mod first_path;
 pub mod generated;
 pub mod long_data;
 pub mod operations;
+pub mod sessions;
 pub mod tokens;
 pub mod usual_copy;
 pub mod words;
