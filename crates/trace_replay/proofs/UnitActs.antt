@@ -23,7 +23,10 @@ use Rattle.cm_history.specs.Room.{is_full}
 use Rattle.cm_history.proofs.PublicLaws.{past_of-on}
 use Rattle.cm_history.specs.declared.refused.ActRefused.{ActRefused}
 use Rattle.unit_core.specs.UnitState as unit
-use Rattle.unit_core.specs.Acting as acting
+use Rattle.unit_core.specs.Acting as whole
+use Rattle.unit_core.specs.Unfolded as acting
+use Rattle.unit_core.specs.Unfolded.{IsUnfolded, UnfoldedUnit, unfolded}
+use Rattle.unit_core.proofs.PublicLaws.{unfolded-after, unfolded-entry, unfolded-full, unfolded-grown}
 use Rattle.trace_replay.specs.declared.units.Units.{Units}
 use Rattle.trace_replay.specs.ReplayState.{seq, new_entry, has_no_room, entries_after}
 use Rattle.trace_replay.proofs.Legally.{legal-more, low-more}
@@ -100,7 +103,7 @@ seq-other actor entries e other =
 
 -- ---- an act of one of the units
 
-abbrev its : Configuration → List Entry → ℕ → unit.UnitState
+abbrev its : Configuration → List Entry → ℕ → UnfoldedUnit
 its config entries u = record { config = config; unit = u; entries = on u entries }
 
 same-past : (config : Configuration) (entries : List Entry) (u : ℕ) → acting.past (its config entries u) ≡ past_of config u entries
@@ -108,19 +111,26 @@ same-past config entries u = past_of-on config u entries
 
 module _ (config : Configuration) (entries : List Entry) (units : Units) (u : ℕ) (value : unit.UnitState) (actor : Actor) (act : Act)
     (have : HaveDone config entries units) (at : slice_get units.units.items u ≡ Some value) where
-  is-its : value ≡ its config entries u
+  is-its : unfolded value ≡ its config entries u
   is-its = have.each u value at
 
-  same-full : acting.is_full_at value actor units.stamp act ≡ has_no_room config entries actor u act
+  keeps : IsUnfolded value
+  keeps = have.keeps u value at
+
+  -- what is told after each list for which the unit stands
+  abbrev Told : (List Entry → Type 0) → Type 0
+  Told F = (h : List Entry) → unit.Stands value h → F h
+
+  same-full : acting.is_full_at (unfolded value) actor units.stamp act ≡ has_no_room config entries actor u act
   same-full =
       ap (λ v. acting.is_full_at v actor units.stamp act) is-its
       ∙ ap (λ p. is_full (unit_of config u) 0 p actor units.stamp act) (same-past config entries u)
       ∙ ap (λ n. is_full (unit_of config u) 0 (past_of config u entries) actor n act) have.stamp
 
-  pub room-left : acting.is_full_at value actor units.stamp act ≡ false → has_no_room config entries actor u act ≡ false
-  room-left e = sym same-full ∙ e
+  pub room-left : Told (λ h. whole.is_full_at value h actor units.stamp act ≡ false) → has_no_room config entries actor u act ≡ false
+  room-left told = sym same-full ∙ sym (unfolded-full value actor units.stamp act keeps) ∙ told value.kept keeps.stands
 
-  pub stamp-fits : units.stamp < 2 ^ 64 → acting.is_full_at value actor units.stamp act ≡ false → units.stamp < 2 ^ 64 - 1
+  pub stamp-fits : units.stamp < 2 ^ 64 → Told (λ h. whole.is_full_at value h actor units.stamp act ≡ false) → units.stamp < 2 ^ 64 - 1
   stamp-fits range room = go (cases_eq (max (length entries) (last_stamp (past_of config u entries))) (2 ^ 64 - 1))
     where
       go : ((max (length entries) (last_stamp (past_of config u entries)) ≡ 2 ^ 64 - 1) ⊎ (max (length entries) (last_stamp (past_of config u entries)) ≡ 2 ^ 64 - 1 → ⊥)) → units.stamp < 2 ^ 64 - 1
@@ -130,19 +140,19 @@ module _ (config : Configuration) (entries : List Entry) (units : Units) (u : �
           cc
       go (inr other) = omega (arith, have.stamp, have.stamps u, range)
 
-  pub answer-is : (moment : ℕ) (found : Answer) → found ≡ answer value.config value.entries value.unit actor moment act → found ≡ answer config entries u actor moment act
-  answer-is moment found is =
-      is ∙ ap (λ (v : unit.UnitState). answer v.config v.entries v.unit actor moment act) is-its
+  pub answer-is : (moment : ℕ) (found : Answer) → Told (λ h. found ≡ answer value.config h value.unit actor moment act) → found ≡ answer config entries u actor moment act
+  answer-is moment found told =
+      told value.kept keeps.stands ∙ ap (λ (v : UnfoldedUnit). answer v.config v.entries v.unit actor moment act) is-its
       ∙ ap (λ p. answer_after config u p actor moment act) (same-past config entries u)
 
   pub form-is : (found : Answer) → HasForm value.config value.unit act found → HasForm config u act found
-  form-is found has = subst (λ (v : unit.UnitState). HasForm v.config v.unit act found) is-its has
+  form-is found has = subst (λ (v : UnfoldedUnit). HasForm v.config v.unit act found) is-its has
 
-  pub refuses : (refused : ActRefused) → (refused ≡ ActRefused.Full → acting.is_full_at value actor units.stamp act ≡ true)
-      → (refused ≡ ActRefused.OutOfMemory → acting.ends_operation_at value actor act ≡ false) → Refuses config entries u actor act refused
-  refuses ActRefused.Full full ends = sym same-full ∙ full refl
+  pub refuses : (refused : ActRefused) → (refused ≡ ActRefused.Full → Told (λ h. whole.is_full_at value h actor units.stamp act ≡ true))
+      → (refused ≡ ActRefused.OutOfMemory → Told (λ h. whole.ends_operation_at value h actor act ≡ false)) → Refuses config entries u actor act refused
+  refuses ActRefused.Full full ends = sym same-full ∙ sym (unfolded-full value actor units.stamp act keeps) ∙ full refl value.kept keeps.stands
   refuses ActRefused.OutOfMemory full ends =
-      sym (ap (λ p. ends_operation p actor act) (same-past config entries u)) ∙ sym (ap (λ v. acting.ends_operation_at v actor act) is-its) ∙ ends refl
+      sym (ap (λ p. ends_operation p actor act) (same-past config entries u)) ∙ sym (ap (λ v. ends_operation (acting.past v) actor act) is-its) ∙ ends refl value.kept keeps.stands
 
   -- the unit is as it was
   pub done-refused : (units' : Units) (value' : unit.UnitState) → units'.units.items ≡ slice_set units.units.items u value' → units'.stamp ≡ units.stamp
@@ -153,6 +163,7 @@ module _ (config : Configuration) (entries : List Entry) (units : Units) (u : �
         limits = have.limits;
         count = ap length all ∙ have.count;
         each = λ v w e. have.each v w (ap (λ l. slice_get l v) (sym all) ∙ e);
+        keeps = λ v w e. have.keeps v w (ap (λ l. slice_get l v) (sym all) ∙ e);
         stamp = stamp ∙ have.stamp;
         legal = have.legal;
         low = have.low;
@@ -161,13 +172,16 @@ module _ (config : Configuration) (entries : List Entry) (units : Units) (u : �
 
   -- the unit has one more entry
   pub done-more : (units' : Units) (value' : unit.UnitState) (n moment : ℕ) → units'.units.items ≡ slice_set units.units.items u value' → units'.stamp ≡ units.stamp + 1
-      → value' ≡ record value { entries = value.entries ++ acting.entry_at value actor n units.stamp moment act ∷ [] }
+      → Told (λ h. unit.Stands value' (h ++ whole.entry_at value actor n units.stamp moment act ∷ []))
+      → value'.kept ≡ value.kept ++ whole.entry_at value actor n units.stamp moment act ∷ []
+      → value'.folded ≡ value.folded → value'.config ≡ value.config → value'.unit ≡ value.unit
       → u < length config.units → within_limits config u act ≡ true → may_ask u actor act ≡ true
       → n ≡ seq actor entries → HaveDone config (entries ++ new_entry entries actor u moment act ∷ []) units'
-  done-more units' value' n moment list stamp grown configured limits asked right = record {
+  done-more units' value' n moment list stamp stands kept folded told number configured limits asked right = record {
     limits = have.limits;
     count = ap length list ∙ length-set units.units.items u value' ∙ have.count;
     each = λ v w e. each v w e (cases_eq u v);
+    keeps = λ v w e. kept-all v w e (cases_eq u v);
     stamp = stamp ∙ omega (arith, have.stamp, length-append entries (new_entry entries actor u moment act ∷ []));
     legal = legal-more config entries actor u moment act have.low have.legal configured limits asked;
     low = low-more config entries actor u moment act have.low;
@@ -183,23 +197,37 @@ module _ (config : Configuration) (entries : List Entry) (units : Units) (u : �
           ap (λ p. max units.stamp (last_stamp p)) (same-past config entries u) ∙ latest in
           rw (last, right) refl
 
-      grown-so : value' ≡ its config (entries ++ new_entry entries actor u moment act ∷ []) u
+      grown : unfolded value' ≡ record (unfolded value) { entries = value.kept ++ acting.entry_at (unfolded value) actor n units.stamp moment act ∷ [] }
+      grown =
+          unfolded-grown value value' (whole.entry_at value actor n units.stamp moment act) told number kept
+          ∙ ap (λ e. record (unfolded value) { entries = value.kept ++ e ∷ [] }) (unfolded-entry value actor n units.stamp moment act keeps)
+
+      grown-so : unfolded value' ≡ its config (entries ++ new_entry entries actor u moment act ∷ []) u
       grown-so =
-          grown ∙ ap (λ (v : unit.UnitState). record v { entries = v.entries ++ acting.entry_at v actor n units.stamp moment act ∷ [] }) is-its
+          grown ∙ ap (λ (v : UnfoldedUnit). record v { entries = v.entries ++ acting.entry_at v actor n units.stamp moment act ∷ [] }) is-its
           ∙ ap (λ e. record (its config entries u) { entries = on u entries ++ e ∷ [] }) new
           ∙ ap (λ l. record (its config entries u) { entries = l }) (sym (on-same u entries (new_entry entries actor u moment act) (eq-eqb u u refl)))
 
       each : (v : ℕ) (w : unit.UnitState) → slice_get units'.units.items v ≡ Some w → ((u ≡ v) ⊎ (u ≡ v → ⊥))
-          → w ≡ its config (entries ++ new_entry entries actor u moment act ∷ []) v
+          → unfolded w ≡ its config (entries ++ new_entry entries actor u moment act ∷ []) v
       each v w e (inl same) =
           let put : slice_get units'.units.items u ≡ Some value' = ap (λ l. slice_get l u) list ∙ get-set units.units.items u value' value at in
           let here : slice_get units'.units.items u ≡ Some w = ap (slice_get units'.units.items) same ∙ e in
           let is : w ≡ value' = cc in
-          is ∙ grown-so ∙ ap (its config (entries ++ new_entry entries actor u moment act ∷ [])) same
+          ap unfolded is ∙ grown-so ∙ ap (its config (entries ++ new_entry entries actor u moment act ∷ [])) same
       each v w e (inr other) =
           let kept : slice_get units.units.items v ≡ Some w = sym (ap (λ l. slice_get l v) list ∙ get-set_other units.units.items u v value' other) ∙ e in
           let test : (u == v) ≡ false = not-equal u v other in
           have.each v w kept ∙ ap (λ l. record (its config entries v) { entries = l }) (sym (on-other v entries (new_entry entries actor u moment act) test))
+
+      kept-all : (v : ℕ) (w : unit.UnitState) → slice_get units'.units.items v ≡ Some w → ((u ≡ v) ⊎ (u ≡ v → ⊥)) → IsUnfolded w
+      kept-all v w e (inl same) =
+          let put : slice_get units'.units.items u ≡ Some value' = ap (λ l. slice_get l u) list ∙ get-set units.units.items u value' value at in
+          let here : slice_get units'.units.items u ≡ Some w = ap (slice_get units'.units.items) same ∙ e in
+          let is : w ≡ value' = cc in
+          subst IsUnfolded (sym is) (unfolded-after value value' (whole.entry_at value actor n units.stamp moment act) keeps folded kept stands)
+      kept-all v w e (inr other) =
+          have.keeps v w (sym (ap (λ l. slice_get l v) list ∙ get-set_other units.units.items u v value' other) ∙ e)
 
 pub seq-below : (actor : Actor) (entries : List Entry) (n stamp limit : ℕ) → n ≡ seq actor entries → stamp ≡ length entries → stamp < limit → n < limit
 seq-below actor entries n stamp limit right is below = omega (arith, right, is, below, seq-within actor entries)
@@ -223,6 +251,7 @@ done-beside config entries units units' list stamp have = record {
   limits = have.limits;
   count = ap length list ∙ have.count;
   each = λ v w e. have.each v w (ap (λ l. slice_get l v) (sym list) ∙ e);
+  keeps = λ v w e. have.keeps v w (ap (λ l. slice_get l v) (sym list) ∙ e);
   stamp = stamp ∙ have.stamp;
   legal = have.legal;
   low = have.low;
@@ -311,7 +340,7 @@ one-config config other entries more units u have have' within = go (slice_get u
 
     go : (found : Option unit.UnitState) → slice_get units.units.items u ≡ found → other ≡ config
     go None e = absurd (none-within units.units.items u here e)
-    go (Some value) e = ap (λ (v : unit.UnitState). v.config) (sym (have'.each u value e) ∙ have.each u value e)
+    go (Some value) e = ap (λ (v : UnfoldedUnit). v.config) (sym (have'.each u value e) ∙ have.each u value e)
 
 -- ---- one more unit
 

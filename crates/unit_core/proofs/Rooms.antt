@@ -28,60 +28,54 @@ no_bytes (Act.Write lba list) e = cc
 no_bytes _ e = refl
 
 -- an act has no room for one of three causes
-pub full-is : (unit : UnitConfig) (past : List Deed) (actor : Actor) (stamp : ℕ) (act : Act) → payload 0 past ≤ unit.payload
-    → is_full unit 0 past actor stamp act
-    ≡ (((max stamp (last_stamp past) == 2 ^ 64 - 1) || nat_lt unit.entries (length past + reserved past + need past actor act)) || nat_lt unit.payload (payload 0 past + bytes_in act))
-full-is unit past actor stamp act within =
-    let all : length past - 0 + reserved past + need past actor act ≡ length past + reserved past + need past actor act = omega arith in
-    let bytes : (is_write act && nat_lt unit.payload (payload 0 past + bytes_in act)) ≡ nat_lt unit.payload (payload 0 past + bytes_in act) = go (is_write act) refl in
-    ap (λ n. ((max stamp (last_stamp past) == 2 ^ 64 - 1) || nat_lt unit.entries n) || (is_write act && nat_lt unit.payload (payload 0 past + bytes_in act))) all
-    ∙ ap (λ t. ((max stamp (last_stamp past) == 2 ^ 64 - 1) || nat_lt unit.entries (length past + reserved past + need past actor act)) || t) bytes
+pub full-is : (unit : UnitConfig) (folded : ℕ) (past : List Deed) (actor : Actor) (stamp : ℕ) (act : Act) → payload folded past ≤ unit.payload
+    → is_full unit folded past actor stamp act
+    ≡ (((max stamp (last_stamp past) == 2 ^ 64 - 1) || nat_lt unit.entries (length past - folded + reserved past + need past actor act)) || nat_lt unit.payload (payload folded past + bytes_in act))
+full-is unit folded past actor stamp act within =
+    ap (λ t. ((max stamp (last_stamp past) == 2 ^ 64 - 1) || nat_lt unit.entries (length past - folded + reserved past + need past actor act)) || t) (go (is_write act) refl)
   where
-    go : (t : Bool) → is_write act ≡ t → (t && nat_lt unit.payload (payload 0 past + bytes_in act)) ≡ nat_lt unit.payload (payload 0 past + bytes_in act)
+    go : (t : Bool) → is_write act ≡ t → (t && nat_lt unit.payload (payload folded past + bytes_in act)) ≡ nat_lt unit.payload (payload folded past + bytes_in act)
     go true e = refl
     go false e = let none = no_bytes act e in grind (arith, nat_tests)
 
 -- a record that is not full has the entries and the bytes left
-pub record HasRoom (unit : UnitConfig) (past : List Deed) (actor : Actor) (stamp : ℕ) (act : Act) : Type 0 where
+pub record HasRoom (unit : UnitConfig) (folded : ℕ) (past : List Deed) (actor : Actor) (stamp : ℕ) (act : Act) : Type 0 where
   pub stamps : max stamp (last_stamp past) == 2 ^ 64 - 1 ≡ false
-  pub entries : length past + reserved past + need past actor act ≤ unit.entries
-  pub bytes : payload 0 past + bytes_in act ≤ unit.payload
+  pub entries : length past - folded + reserved past + need past actor act ≤ unit.entries
+  pub bytes : payload folded past + bytes_in act ≤ unit.payload
 
-pub room-of : (unit : UnitConfig) (past : List Deed) (actor : Actor) (stamp : ℕ) (act : Act) → payload 0 past ≤ unit.payload
-    → is_full unit 0 past actor stamp act ≡ false → HasRoom unit past actor stamp act
-room-of unit past actor stamp act within e =
-    let n = length past + reserved past + need past actor act in
-    let parts = or_parts ((max stamp (last_stamp past) == 2 ^ 64 - 1) || nat_lt unit.entries n) (nat_lt unit.payload (payload 0 past + bytes_in act))
-    (sym (full-is unit past actor stamp act within) ∙ e) in
+pub room-of : (unit : UnitConfig) (folded : ℕ) (past : List Deed) (actor : Actor) (stamp : ℕ) (act : Act) → payload folded past ≤ unit.payload
+    → is_full unit folded past actor stamp act ≡ false → HasRoom unit folded past actor stamp act
+room-of unit folded past actor stamp act within e =
+    let n = length past - folded + reserved past + need past actor act in
+    let parts = or_parts ((max stamp (last_stamp past) == 2 ^ 64 - 1) || nat_lt unit.entries n) (nat_lt unit.payload (payload folded past + bytes_in act))
+    (sym (full-is unit folded past actor stamp act within) ∙ e) in
     let first = or_parts (max stamp (last_stamp past) == 2 ^ 64 - 1) (nat_lt unit.entries n) parts.0 in
-    record { stamps = first.0; entries = ltb-false unit.entries n first.1; bytes = ltb-false unit.payload (payload 0 past + bytes_in act) parts.1 }
-
-pub payload-step : (past : List Deed) (d : Deed) → payload 0 (d ∷ past) ≡ payload 0 past + bytes_in d.entry.act
-payload-step past d = let on : nat_le 0 d.place ≡ true = grind (arith, nat_tests) in rw on refl
+    record { stamps = first.0; entries = ltb-false unit.entries n first.1; bytes = ltb-false unit.payload (payload folded past + bytes_in act) parts.1 }
 
 -- the three causes, each where those before it do not hold
-pub full-stamps : (unit : UnitConfig) (past : List Deed) (actor : Actor) (stamp : ℕ) (act : Act) → payload 0 past ≤ unit.payload
-    → max stamp (last_stamp past) ≡ 2 ^ 64 - 1 → is_full unit 0 past actor stamp act ≡ true
-full-stamps unit past actor stamp act within last =
-    full-is unit past actor stamp act within
+pub full-stamps : (unit : UnitConfig) (folded : ℕ) (past : List Deed) (actor : Actor) (stamp : ℕ) (act : Act) → payload folded past ≤ unit.payload
+    → max stamp (last_stamp past) ≡ 2 ^ 64 - 1 → is_full unit folded past actor stamp act ≡ true
+full-stamps unit folded past actor stamp act within last =
+    full-is unit folded past actor stamp act within
     ∙ (let on : (max stamp (last_stamp past) == 2 ^ 64 - 1) ≡ true = eq-eqb (max stamp (last_stamp past)) (2 ^ 64 - 1) last in rw on refl)
 
-pub full-entries : (unit : UnitConfig) (past : List Deed) (actor : Actor) (stamp : ℕ) (act : Act) → payload 0 past ≤ unit.payload
-    → unit.entries < length past + reserved past + need past actor act → is_full unit 0 past actor stamp act ≡ true
-full-entries unit past actor stamp act within more =
-    let n = length past + reserved past + need past actor act in
-    full-is unit past actor stamp act within
-    ∙ or_left ((max stamp (last_stamp past) == 2 ^ 64 - 1) || nat_lt unit.entries n) (nat_lt unit.payload (payload 0 past + bytes_in act))
+pub full-entries : (unit : UnitConfig) (folded : ℕ) (past : List Deed) (actor : Actor) (stamp : ℕ) (act : Act) → payload folded past ≤ unit.payload
+    → unit.entries < length past - folded + reserved past + need past actor act → is_full unit folded past actor stamp act ≡ true
+full-entries unit folded past actor stamp act within more =
+    let n = length past - folded + reserved past + need past actor act in
+    full-is unit folded past actor stamp act within
+    ∙ or_left ((max stamp (last_stamp past) == 2 ^ 64 - 1) || nat_lt unit.entries n) (nat_lt unit.payload (payload folded past + bytes_in act))
     (or_right (max stamp (last_stamp past) == 2 ^ 64 - 1) (nat_lt unit.entries n) (lt-ltb unit.entries n more))
 
-pub full-bytes : (unit : UnitConfig) (past : List Deed) (actor : Actor) (stamp : ℕ) (act : Act) → payload 0 past ≤ unit.payload
-    → (max stamp (last_stamp past) ≡ 2 ^ 64 - 1 → ⊥) → length past + reserved past + need past actor act ≤ unit.entries
-    → is_full unit 0 past actor stamp act ≡ nat_lt unit.payload (payload 0 past + bytes_in act)
-full-bytes unit past actor stamp act within more room =
-    let n = length past + reserved past + need past actor act in
+pub full-bytes : (unit : UnitConfig) (folded : ℕ) (past : List Deed) (actor : Actor) (stamp : ℕ) (act : Act) → payload folded past ≤ unit.payload
+    → (max stamp (last_stamp past) ≡ 2 ^ 64 - 1 → ⊥) → length past - folded + reserved past + need past actor act ≤ unit.entries
+    → is_full unit folded past actor stamp act ≡ nat_lt unit.payload (payload folded past + bytes_in act)
+full-bytes unit folded past actor stamp act within more room =
+    let n = length past - folded + reserved past + need past actor act in
     let stamps : (max stamp (last_stamp past) == 2 ^ 64 - 1) ≡ false = ne_eqb (max stamp (last_stamp past)) (2 ^ 64 - 1) more in
     let entries : nat_lt unit.entries n ≡ false = le-ltb unit.entries n room in
-    full-is unit past actor stamp act within ∙ rw (stamps, entries) refl
+    full-is unit folded past actor stamp act within ∙ rw (stamps, entries) refl
 
 -- ---- what an act needs
 
@@ -182,9 +176,9 @@ reserved-step config unit past d known asked made = go (would_serve past d.entry
         omega (arith, before, after, now, one)
 
 -- an act that serves an operation finds room, but where stamps are at their end
-pub full-serving : (unit : UnitConfig) (past : List Deed) (actor : Actor) (stamp : ℕ) (act : Act) → payload 0 past ≤ unit.payload → length past + reserved past ≤ unit.entries
-    → is_some (would_serve past actor act) ≡ true → is_full unit 0 past actor stamp act ≡ true → max stamp (last_stamp past) ≡ 2 ^ 64 - 1
-full-serving unit past actor stamp act within room serves full = go (cases_eq (max stamp (last_stamp past)) (2 ^ 64 - 1))
+pub full-serving : (unit : UnitConfig) (folded : ℕ) (past : List Deed) (actor : Actor) (stamp : ℕ) (act : Act) → payload folded past ≤ unit.payload → length past - folded + reserved past ≤ unit.entries
+    → is_some (would_serve past actor act) ≡ true → is_full unit folded past actor stamp act ≡ true → max stamp (last_stamp past) ≡ 2 ^ 64 - 1
+full-serving unit folded past actor stamp act within room serves full = go (cases_eq (max stamp (last_stamp past)) (2 ^ 64 - 1))
   where
     none : need past actor act ≡ 0
     none = of (would_serve past actor act) refl serves
@@ -199,7 +193,7 @@ full-serving unit past actor stamp act within room serves full = go (cases_eq (m
     go : (max stamp (last_stamp past) ≡ 2 ^ 64 - 1) ⊎ (max stamp (last_stamp past) ≡ 2 ^ 64 - 1 → ⊥) → max stamp (last_stamp past) ≡ 2 ^ 64 - 1
     go (inl e) = e
     go (inr differs) =
-        let last : is_full unit 0 past actor stamp act ≡ nat_lt unit.payload (payload 0 past + bytes_in act) = full-bytes unit past actor stamp act within differs (omega (arith, room, none)) in
-        let fits : nat_lt unit.payload (payload 0 past + bytes_in act) ≡ false = (let b = no-bytes in grind (arith, nat_tests)) in
+        let last : is_full unit folded past actor stamp act ≡ nat_lt unit.payload (payload folded past + bytes_in act) = full-bytes unit folded past actor stamp act within differs (omega (arith, room, none)) in
+        let fits : nat_lt unit.payload (payload folded past + bytes_in act) ≡ false = (let b = no-bytes in grind (arith, nat_tests)) in
         let never = sym full ∙ last ∙ fits in
         cc

@@ -13,6 +13,7 @@ use Rattle.lba_ranges.specs.Writings.{Held, Writing as Pair, paired}
 use Rattle.rod_token.specs.TokenText.{token_text, serial_of}
 use Rattle.cm_history.specs.declared.act.Act.{Act}
 use Rattle.cm_history.specs.declared.act.Actor.{Actor}
+use Rattle.cm_history.specs.declared.act.Entry.{Entry}
 use Rattle.cm_history.specs.declared.act.CopyEnd.{CopyEnd}
 use Rattle.cm_history.specs.declared.answer.Answer.{Answer}
 use Rattle.cm_history.specs.declared.answer.OpReport.{OpReport}
@@ -96,17 +97,17 @@ redeem-is config unit past actor at text target =
     ∙ ap (λ o. answer_of (judged_token config unit (max at (moment past)) text target o)) (sym (get-map (kept_of (unit_of config unit)) (tokens past) (serial_of text)))
 
 -- a live token that may be used is given
-pub redeem-given : (s : UnitState) (actor : Actor) (at : ℕ) (text : List ℕ) (target : ℕ) (t : Token) → MayRedeem s at text target t
-    → answer_after s.config s.unit (past_of s.config s.unit s.entries) actor at (Act.Redeem text target) ≡ Answer.Rod (rod (unit_of s.config s.unit) t)
-redeem-given s actor at text target t may =
-    ap (redeemed s.config s.unit (max at (moment (past_of s.config s.unit s.entries))) text target) may.named
+pub redeem-given : (s : UnitState) (entries : List Entry) (actor : Actor) (at : ℕ) (text : List ℕ) (target : ℕ) (t : Token) → MayRedeem s entries at text target t
+    → answer_after s.config s.unit (past_of s.config s.unit entries) actor at (Act.Redeem text target) ≡ Answer.Rod (rod (unit_of s.config s.unit) t)
+redeem-given s entries actor at text target t may =
+    ap (redeemed s.config s.unit (max at (moment (past_of s.config s.unit entries))) text target) may.named
     ∙ ap (λ b. if not b then Answer.Refused remote_token_usage_not_supported else if not (bytes_eq text (token_text s.config s.unit t.serial (total t.ranges))) then Answer.Refused token_corrupt else by_fate t.fate) may.alike
     ∙ ap (λ b. if not b then Answer.Refused token_corrupt else by_fate t.fate) may.unaltered
     ∙ ap by_fate may.live
     ∙ ap (λ b. answer_by_fate (unit_of s.config s.unit) t (if b then Expired else Live)) may.in_time
   where
     by_fate : Fate → Answer
-    by_fate f = answer_by_fate (unit_of s.config s.unit) t (fate_at (max at (moment (past_of s.config s.unit s.entries))) t f)
+    by_fate f = answer_by_fate (unit_of s.config s.unit) t (fate_at (max at (moment (past_of s.config s.unit entries))) t f)
 
 -- ---- a report
 

@@ -1,16 +1,17 @@
 // The ends of operations, which take no memory, and what a unit shows of its tables.
-ghost use Rattle.std.specs.Prelude.{◌≡◌, ◌<◌, ◌+◌, ◌-◌, ◌^◌, ◌++◌, ◌∷◌, ℕ, [], length, max, true};
+ghost use Rattle.std.specs.Prelude.{List, ◌≡◌, ◌<◌, ◌+◌, ◌-◌, ◌^◌, ◌++◌, ◌∷◌, ℕ, [], length, max, true};
 ghost use Rattle.cm_history.specs.declared.act.Act.{Act};
 ghost use Rattle.cm_history.specs.declared.act.Actor.{Actor};
-ghost use Rattle.cm_history.specs.Deeds.{last_stamp};
+ghost use Rattle.cm_history.specs.declared.act.Entry.{Entry};
 ghost use Rattle.cm_history.specs.History.{answer};
 ghost use Rattle.cm_history.specs.Limits.{within_limits};
 ghost use Rattle.cm_history.specs.Legal.{may_ask};
-ghost use Rattle.unit_core.specs.Acting.{past, entry_at, ends_operation_at, is_busy_at, live_at};
+ghost use Rattle.unit_core.specs.UnitState.{Stands};
+ghost use Rattle.unit_core.specs.Acting.{entry_at, ends_operation_at, is_busy_at, live_at};
 
 use crate::room::token_key;
 use crate::unit::UnitOver;
-use cm_history::{Act, Actor, Answer, CopyEnd};
+use cm_history::{Act, Actor, Answer, CopyEnd, standing_law};
 use copy_jobs::Key;
 use lba_ranges::Blocks;
 
@@ -19,12 +20,16 @@ impl<B: Blocks + Drop> UnitOver<B> {
     fn finish(&mut self, actor: Actor, seq: u64, stamp: u64, moment: u64, act: Act) -> Answer
         requires limits { within_limits self.old.config self.old.unit act ≡ true }
         requires asked { may_ask self.old.unit actor act ≡ true }
-        requires runs { ends_operation_at self.old actor act ≡ true }
-        requires stamps { max stamp (last_stamp (past self.old)) < 2 ^ 64 - 1 }
-        ensures answer { result ≡ answer self.old.config self.old.entries self.old.unit actor moment act }
-        ensures added { self.new
-            ≡ record self.old { entries = self.old.entries ++ entry_at self.old actor seq stamp moment act ∷ [] } }
+        requires runs { (h : List Entry) → Stands self.old h → ends_operation_at self.old h actor act ≡ true }
+        requires stamps { max stamp self.old.image.last_stamp < 2 ^ 64 - 1 }
+        ensures answer { (h : List Entry) → Stands self.old h → result ≡ answer self.old.config h self.old.unit actor moment act }
+        ensures stands { (h : List Entry) → Stands self.old h → Stands self.new (h ++ entry_at self.old actor seq stamp moment act ∷ []) }
+        ensures kept { self.new.kept ≡ self.old.kept ++ entry_at self.old actor seq stamp moment act ∷ [] }
+        ensures folded { self.new.folded ≡ self.old.folded }
+        ensures config { self.new.config ≡ self.old.config }
+        ensures unit { self.new.unit ≡ self.old.unit }
     {
+        standing_law(&self.core.config, self.core.unit);
         match self.act(actor, seq, stamp, moment, act) {
             Ok(answer) => answer,
             Err(_) => unreachable!(),
@@ -34,11 +39,14 @@ impl<B: Blocks + Drop> UnitOver<B> {
     /// Ends the foreground operation of the identifier (own profile). It takes no memory.
     pub fn end(&mut self, actor: Actor, seq: u64, stamp: u64, moment: u64, id: u32) -> Answer
         requires asked { may_ask self.old.unit actor (Act.End id) ≡ true }
-        requires runs { ends_operation_at self.old actor (Act.End id) ≡ true }
-        requires stamps { max stamp (last_stamp (past self.old)) < 2 ^ 64 - 1 }
-        ensures answer { result ≡ answer self.old.config self.old.entries self.old.unit actor moment (Act.End id) }
-        ensures added { self.new
-            ≡ record self.old { entries = self.old.entries ++ entry_at self.old actor seq stamp moment (Act.End id) ∷ [] } }
+        requires runs { (h : List Entry) → Stands self.old h → ends_operation_at self.old h actor (Act.End id) ≡ true }
+        requires stamps { max stamp self.old.image.last_stamp < 2 ^ 64 - 1 }
+        ensures answer { (h : List Entry) → Stands self.old h → result ≡ answer self.old.config h self.old.unit actor moment (Act.End id) }
+        ensures stands { (h : List Entry) → Stands self.old h → Stands self.new (h ++ entry_at self.old actor seq stamp moment (Act.End id) ∷ []) }
+        ensures kept { self.new.kept ≡ self.old.kept ++ entry_at self.old actor seq stamp moment (Act.End id) ∷ [] }
+        ensures folded { self.new.folded ≡ self.old.folded }
+        ensures config { self.new.config ≡ self.old.config }
+        ensures unit { self.new.unit ≡ self.old.unit }
     {
         self.finish(actor, seq, stamp, moment, Act::End { id })
     }
@@ -46,11 +54,14 @@ impl<B: Blocks + Drop> UnitOver<B> {
     /// Ends the background operation of the identifier (SPC-4, COPY OPERATION ABORT). It takes no memory.
     pub fn abort(&mut self, actor: Actor, seq: u64, stamp: u64, moment: u64, id: u32) -> Answer
         requires asked { may_ask self.old.unit actor (Act.Abort id) ≡ true }
-        requires runs { ends_operation_at self.old actor (Act.Abort id) ≡ true }
-        requires stamps { max stamp (last_stamp (past self.old)) < 2 ^ 64 - 1 }
-        ensures answer { result ≡ answer self.old.config self.old.entries self.old.unit actor moment (Act.Abort id) }
-        ensures added { self.new
-            ≡ record self.old { entries = self.old.entries ++ entry_at self.old actor seq stamp moment (Act.Abort id) ∷ [] } }
+        requires runs { (h : List Entry) → Stands self.old h → ends_operation_at self.old h actor (Act.Abort id) ≡ true }
+        requires stamps { max stamp self.old.image.last_stamp < 2 ^ 64 - 1 }
+        ensures answer { (h : List Entry) → Stands self.old h → result ≡ answer self.old.config h self.old.unit actor moment (Act.Abort id) }
+        ensures stands { (h : List Entry) → Stands self.old h → Stands self.new (h ++ entry_at self.old actor seq stamp moment (Act.Abort id) ∷ []) }
+        ensures kept { self.new.kept ≡ self.old.kept ++ entry_at self.old actor seq stamp moment (Act.Abort id) ∷ [] }
+        ensures folded { self.new.folded ≡ self.old.folded }
+        ensures config { self.new.config ≡ self.old.config }
+        ensures unit { self.new.unit ≡ self.old.unit }
     {
         self.finish(actor, seq, stamp, moment, Act::Abort { id })
     }
@@ -67,23 +78,27 @@ impl<B: Blocks + Drop> UnitOver<B> {
     ) -> Answer
         requires limits { within_limits self.old.config self.old.unit (Act.Close id end) ≡ true }
         requires asked { may_ask self.old.unit actor (Act.Close id end) ≡ true }
-        requires runs { ends_operation_at self.old actor (Act.Close id end) ≡ true }
-        requires stamps { max stamp (last_stamp (past self.old)) < 2 ^ 64 - 1 }
-        ensures answer { result ≡ answer self.old.config self.old.entries self.old.unit actor moment (Act.Close id end) }
-        ensures added { self.new
-            ≡ record self.old { entries = self.old.entries ++ entry_at self.old actor seq stamp moment (Act.Close id end) ∷ [] } }
+        requires runs { (h : List Entry) → Stands self.old h → ends_operation_at self.old h actor (Act.Close id end) ≡ true }
+        requires stamps { max stamp self.old.image.last_stamp < 2 ^ 64 - 1 }
+        ensures answer { (h : List Entry) → Stands self.old h → result ≡ answer self.old.config h self.old.unit actor moment (Act.Close id end) }
+        ensures stands { (h : List Entry) → Stands self.old h → Stands self.new (h ++ entry_at self.old actor seq stamp moment (Act.Close id end) ∷ []) }
+        ensures kept { self.new.kept ≡ self.old.kept ++ entry_at self.old actor seq stamp moment (Act.Close id end) ∷ [] }
+        ensures folded { self.new.folded ≡ self.old.folded }
+        ensures config { self.new.config ≡ self.old.config }
+        ensures unit { self.new.unit ≡ self.old.unit }
     {
         self.finish(actor, seq, stamp, moment, Act::Close { id, result: end })
     }
 
     /// An operation of the actor and the identifier runs: of a token, or a copy. A pump has none. It takes no memory.
     pub fn runs(&self, actor: Actor, copy: bool, id: u32) -> bool
-        ensures { result ≡ is_busy_at self.now actor copy id }
+        ensures { (h : List Entry) → Stands self.now h → result ≡ is_busy_at self.now h actor copy id }
     {
+        standing_law(&self.core.config, self.core.unit);
         match actor {
             Actor::Nexus(_) => {
                 let key = token_key(actor, id);
-                self.tables.jobs.runs(Key { copy, ..key })
+                self.core.tables.jobs.runs(Key { copy, ..key })
             }
             Actor::Pump(_) => false,
         }
@@ -91,8 +106,9 @@ impl<B: Blocks + Drop> UnitOver<B> {
 
     /// How many tokens are live, at most 64. It takes no memory.
     pub fn live(&self) -> u32
-        ensures { result ≡ live_at self.now }
+        ensures { (h : List Entry) → Stands self.now h → result ≡ live_at self.now h }
     {
-        self.tables.tokens.live()
+        standing_law(&self.core.config, self.core.unit);
+        self.core.tables.tokens.live()
     }
 }

@@ -1,5 +1,5 @@
 // What the acts on operations are answered, and what they are to change.
-ghost use Rattle.std.specs.Prelude.{◌≡◌, ◌<◌, ◌≤◌, ◌+◌, ℕ, length, IfOk, true, false, if◌then◌else◌};
+ghost use Rattle.std.specs.Prelude.{◌≡◌, ◌<◌, ◌≤◌, ◌+◌, ℕ, length, IfOk, true, false, if◌then◌else◌, List};
 ghost use Rattle.cm_base.specs.Units.{unit_of};
 ghost use Rattle.lba_ranges.specs.Denoted.{total, is_within, is_overlapping};
 ghost use Rattle.cm_history.specs.Blocks.{held};
@@ -7,16 +7,17 @@ ghost use Rattle.cm_history.specs.declared.act.Act.{Act};
 ghost use Rattle.cm_history.specs.declared.act.Actor.{Actor};
 ghost use Rattle.cm_history.specs.Limits.{within_limits};
 ghost use Rattle.cm_history.specs.Legal.{may_ask};
-ghost use Rattle.unit_core.specs.Acting.{past};
+ghost use Rattle.cm_history.specs.declared.act.Entry.{Entry};
+ghost use Rattle.cm_history.specs.History.{past_of};
 ghost use Rattle.unit_core.specs.inner.Planning.{IsPlan, WritesPiece, piece_plan};
 
 use crate::block_change::BlockChange;
+use crate::inner::{Core, Reached};
 use crate::job_change::JobChange;
 use crate::plan::Plan;
 use crate::refusals;
 use crate::room::{copy_key, token_key};
 use crate::token_change::TokenChange;
-use crate::unit::UnitOver;
 use cm_base::OutOfMemory;
 use cm_history::{Actor, Answer, CopyEnd, OpState};
 use copy_jobs::{Key, NextPiece};
@@ -35,7 +36,7 @@ fn state_after(is_last: bool) -> OpState
     }
 }
 
-impl<B: Blocks + Drop> UnitOver<B> {
+impl<B: Blocks + Drop> Core<B> {
     /// Keeps an operation that is to write the rod to the ranges.
     pub(crate) fn plan_start(
         &self,
@@ -45,10 +46,11 @@ impl<B: Blocks + Drop> UnitOver<B> {
         ranges: &RangeList,
         rod: &BlockList,
     ) -> Result<Plan, OutOfMemory>
+        requires known { ⟦<Core<B> as Reached>⟧.IsReached self.now }
         requires limits { within_limits self.now.config self.now.unit (Act.Start id background ranges.now rod.now) ≡ true }
         requires asked { may_ask self.now.unit actor (Act.Start id background ranges.now rod.now) ≡ true }
-        ensures { IfOk result (λ p. (at : ℕ)
-            → IsPlan self.now.config self.now.unit (past self.now) actor at (Act.Start id background ranges.now rod.now) p) }
+        ensures { IfOk result (λ p. (h : List Entry) → ⟦<Core<B> as Reached>⟧.IsAfter self.now h → (at : ℕ)
+            → IsPlan self.now.config self.now.unit (past_of self.now.config self.now.unit h) actor at (Act.Start id background ranges.now rod.now) p) }
     {
         let key = token_key(actor, id);
         if self.tables.jobs.runs(key) {
@@ -84,8 +86,9 @@ impl<B: Blocks + Drop> UnitOver<B> {
         key: Option<Key>,
         otherwise: Answer,
     ) -> Result<Plan, OutOfMemory>
-        ensures { IfOk result (λ p. (actor : Actor) (at : ℕ) (act : Act) → WritesPiece self.now.unit actor act key otherwise
-            → IsPlan self.now.config self.now.unit (past self.now) actor at act p) }
+        requires known { ⟦<Core<B> as Reached>⟧.IsReached self.now }
+        ensures { IfOk result (λ p. (h : List Entry) → ⟦<Core<B> as Reached>⟧.IsAfter self.now h → (actor : Actor) (at : ℕ) (act : Act) → WritesPiece self.now.unit actor act key otherwise
+            → IsPlan self.now.config self.now.unit (past_of self.now.config self.now.unit h) actor at act p) }
     {
         match self.tables.jobs.next(key)? {
             Some(piece) => Ok(self.write_piece(piece)),
@@ -95,11 +98,13 @@ impl<B: Blocks + Drop> UnitOver<B> {
 
     /// Writes the piece, if the quota allows it.
     fn write_piece(&self, piece: NextPiece) -> Plan
+        requires known { ⟦<Core<B> as Reached>⟧.IsReached self.now }
         requires within { is_within (unit_of self.now.config self.now.unit).blocks piece.ranges ≡ true }
         requires apart { is_overlapping piece.ranges ≡ false }
         requires total { total piece.ranges ≡ length piece.list.items }
         requires few { piece.written + length piece.list.items ≤ 1_048_576 }
-        ensures { result ≡ piece_plan (unit_of self.now.config self.now.unit) (held (past self.now)) piece }
+        ensures { (h : List Entry) → ⟦<Core<B> as Reached>⟧.IsAfter self.now h
+            → result ≡ piece_plan (unit_of self.now.config self.now.unit) (held (past_of self.now.config self.now.unit h)) piece }
     {
         let quota = self.config.unit(self.unit).quota;
         let NextPiece {
@@ -130,8 +135,10 @@ impl<B: Blocks + Drop> UnitOver<B> {
 
     /// Ends the foreground operation of the key.
     pub(crate) fn plan_end(&self, actor: Actor, id: u32) -> Plan
-        requires { may_ask self.now.unit actor (Act.End id) ≡ true }
-        ensures { (at : ℕ) → IsPlan self.now.config self.now.unit (past self.now) actor at (Act.End id) result }
+        requires known { ⟦<Core<B> as Reached>⟧.IsReached self.now }
+        requires asked { may_ask self.now.unit actor (Act.End id) ≡ true }
+        ensures { (h : List Entry) → ⟦<Core<B> as Reached>⟧.IsAfter self.now h → (at : ℕ)
+            → IsPlan self.now.config self.now.unit (past_of self.now.config self.now.unit h) actor at (Act.End id) result }
     {
         let key = token_key(actor, id);
         if !self.tables.jobs.waits(Some(key)) {
@@ -151,8 +158,10 @@ impl<B: Blocks + Drop> UnitOver<B> {
 
     /// Ends the background operation of the key.
     pub(crate) fn plan_abort(&self, actor: Actor, id: u32) -> Plan
-        requires { may_ask self.now.unit actor (Act.Abort id) ≡ true }
-        ensures { (at : ℕ) → IsPlan self.now.config self.now.unit (past self.now) actor at (Act.Abort id) result }
+        requires known { ⟦<Core<B> as Reached>⟧.IsReached self.now }
+        requires asked { may_ask self.now.unit actor (Act.Abort id) ≡ true }
+        ensures { (h : List Entry) → ⟦<Core<B> as Reached>⟧.IsAfter self.now h → (at : ℕ)
+            → IsPlan self.now.config self.now.unit (past_of self.now.config self.now.unit h) actor at (Act.Abort id) result }
     {
         let key = token_key(actor, id);
         if !self.tables.jobs.runs_in_background(key) {
@@ -163,8 +172,10 @@ impl<B: Blocks + Drop> UnitOver<B> {
 
     /// Tells what is kept of the token operation of the key.
     pub(crate) fn plan_report(&self, actor: Actor, id: u32) -> Plan
-        requires { may_ask self.now.unit actor (Act.Report id) ≡ true }
-        ensures { (at : ℕ) → IsPlan self.now.config self.now.unit (past self.now) actor at (Act.Report id) result }
+        requires known { ⟦<Core<B> as Reached>⟧.IsReached self.now }
+        requires asked { may_ask self.now.unit actor (Act.Report id) ≡ true }
+        ensures { (h : List Entry) → ⟦<Core<B> as Reached>⟧.IsAfter self.now h → (at : ℕ)
+            → IsPlan self.now.config self.now.unit (past_of self.now.config self.now.unit h) actor at (Act.Report id) result }
     {
         match self.tables.jobs.report(token_key(actor, id)) {
             Some(report) => Plan::answered(Answer::Report(report)),
@@ -174,8 +185,10 @@ impl<B: Blocks + Drop> UnitOver<B> {
 
     /// Keeps a copy that its nexus is to carry out.
     pub(crate) fn plan_open(&self, actor: Actor, id: u8) -> Plan
-        requires { may_ask self.now.unit actor (Act.Open id) ≡ true }
-        ensures { (at : ℕ) → IsPlan self.now.config self.now.unit (past self.now) actor at (Act.Open id) result }
+        requires known { ⟦<Core<B> as Reached>⟧.IsReached self.now }
+        requires asked { may_ask self.now.unit actor (Act.Open id) ≡ true }
+        ensures { (h : List Entry) → ⟦<Core<B> as Reached>⟧.IsAfter self.now h → (at : ℕ)
+            → IsPlan self.now.config self.now.unit (past_of self.now.config self.now.unit h) actor at (Act.Open id) result }
     {
         let key = copy_key(actor, id);
         if self.tables.jobs.runs(key) {
@@ -189,9 +202,11 @@ impl<B: Blocks + Drop> UnitOver<B> {
 
     /// Keeps how the copy of the key ended.
     pub(crate) fn plan_close(&self, actor: Actor, id: u8, end: CopyEnd) -> Plan
+        requires known { ⟦<Core<B> as Reached>⟧.IsReached self.now }
         requires limits { within_limits self.now.config self.now.unit (Act.Close id end) ≡ true }
         requires asked { may_ask self.now.unit actor (Act.Close id end) ≡ true }
-        ensures { (at : ℕ) → IsPlan self.now.config self.now.unit (past self.now) actor at (Act.Close id end) result }
+        ensures { (h : List Entry) → ⟦<Core<B> as Reached>⟧.IsAfter self.now h → (at : ℕ)
+            → IsPlan self.now.config self.now.unit (past_of self.now.config self.now.unit h) actor at (Act.Close id end) result }
     {
         let key = copy_key(actor, id);
         if !self.tables.jobs.runs(key) {
@@ -202,8 +217,10 @@ impl<B: Blocks + Drop> UnitOver<B> {
 
     /// Tells how the copy of the key ended.
     pub(crate) fn plan_recall(&self, actor: Actor, id: u8) -> Plan
-        requires { may_ask self.now.unit actor (Act.Recall id) ≡ true }
-        ensures { (at : ℕ) → IsPlan self.now.config self.now.unit (past self.now) actor at (Act.Recall id) result }
+        requires known { ⟦<Core<B> as Reached>⟧.IsReached self.now }
+        requires asked { may_ask self.now.unit actor (Act.Recall id) ≡ true }
+        ensures { (h : List Entry) → ⟦<Core<B> as Reached>⟧.IsAfter self.now h → (at : ℕ)
+            → IsPlan self.now.config self.now.unit (past_of self.now.config self.now.unit h) actor at (Act.Recall id) result }
     {
         match self.tables.jobs.recall(copy_key(actor, id)) {
             Some(end) => Plan::answered(Answer::Copy(end)),

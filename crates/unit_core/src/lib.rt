@@ -4,6 +4,8 @@
 mod block_change;
 mod block_plans;
 mod ends;
+mod folding;
+mod inner;
 mod job_change;
 mod job_plans;
 mod plan;
@@ -17,4 +19,5 @@ mod token_change;
 mod token_plans;
 mod unit;
 
+pub use folding::FoldEnd;
 pub use unit::{Unit, UnitOver};

@@ -1,29 +1,34 @@
 // What each act is answered, and what it is to change.
-ghost use Rattle.std.specs.Prelude.{◌≡◌, ◌<◌, ◌≤◌, ℕ, length, max, IfOk, OnErr, true, false};
+ghost use Rattle.std.specs.Prelude.{◌≡◌, ◌<◌, ◌≤◌, ℕ, length, max, IfOk, OnErr, true, false, List};
 ghost use Rattle.cm_base.specs.Units.{unit_of};
 ghost use Rattle.cm_history.specs.declared.act.Act.{Act};
 ghost use Rattle.cm_history.specs.declared.act.Actor.{Actor};
 ghost use Rattle.cm_history.specs.Limits.{within_limits};
 ghost use Rattle.cm_history.specs.Legal.{may_ask};
-ghost use Rattle.unit_core.specs.Acting.{past, ends_operation_at};
+ghost use Rattle.cm_history.specs.declared.act.Entry.{Entry};
+ghost use Rattle.cm_history.specs.Ends.{ends_operation};
+ghost use Rattle.cm_history.specs.History.{past_of};
 ghost use Rattle.unit_core.specs.inner.Planning.{IsPlan, Reads, Writes};
 
+use crate::inner::{Core, Reached};
 use crate::plan::Plan;
 use crate::room::token_key;
 use crate::token_change::TokenChange;
-use crate::unit::UnitOver;
 use crate::{block_plans as blocks, refusals};
 use cm_base::OutOfMemory;
 use cm_history::{Act, Actor, Answer};
 use lba_ranges::{BlockList, Blocks, RangeList};
 
-impl<B: Blocks + Drop> UnitOver<B> {
+impl<B: Blocks + Drop> Core<B> {
     /// What an act is answered, and what it is to change. One that ends an operation takes no memory.
     pub(crate) fn plan(&self, actor: Actor, moment: u64, act: &Act) -> Result<Plan, OutOfMemory>
+        requires known { ⟦<Core<B> as Reached>⟧.IsReached self.now }
         requires limits { within_limits self.now.config self.now.unit act.now ≡ true }
         requires asked { may_ask self.now.unit actor act.now ≡ true }
-        ensures planned { IfOk result (λ p. IsPlan self.now.config self.now.unit (past self.now) actor moment act.now p) }
-        ensures memory { OnErr result (ends_operation_at self.now actor act.now ≡ false) }
+        ensures planned { IfOk result (λ p. (h : List Entry) → ⟦<Core<B> as Reached>⟧.IsAfter self.now h
+            → IsPlan self.now.config self.now.unit (past_of self.now.config self.now.unit h) actor moment act.now p) }
+        ensures memory { OnErr result ((h : List Entry) → ⟦<Core<B> as Reached>⟧.IsAfter self.now h
+            → ends_operation (past_of self.now.config self.now.unit h) actor act.now ≡ false) }
     {
         match act {
             Act::Read { lba, count } | Act::Capture { lba, count } => self.plan_read(*lba, *count),
@@ -61,8 +66,9 @@ impl<B: Blocks + Drop> UnitOver<B> {
 
     /// Reads blocks as they stand.
     fn plan_read(&self, lba: u64, count: u32) -> Result<Plan, OutOfMemory>
-        ensures { IfOk result (λ p. (actor : Actor) (at : ℕ) (act : Act) → Reads lba count act
-            → IsPlan self.now.config self.now.unit (past self.now) actor at act p) }
+        requires known { ⟦<Core<B> as Reached>⟧.IsReached self.now }
+        ensures { IfOk result (λ p. (h : List Entry) → ⟦<Core<B> as Reached>⟧.IsAfter self.now h → (actor : Actor) (at : ℕ) (act : Act) → Reads lba count act
+            → IsPlan self.now.config self.now.unit (past_of self.now.config self.now.unit h) actor at act p) }
     {
         let unit = self.config.unit(self.unit);
         let plan = blocks::read(self.alloc, &self.tables.blocks, unit, lba, count)?;
@@ -71,10 +77,11 @@ impl<B: Blocks + Drop> UnitOver<B> {
 
     /// Writes the list to the blocks from `lba` on, if the quota allows it.
     fn plan_write(&self, lba: u64, list: &BlockList) -> Result<Plan, OutOfMemory>
+        requires known { ⟦<Core<B> as Reached>⟧.IsReached self.now }
         requires length { list.now.block_length ≡ (unit_of self.now.config self.now.unit).block_length }
         requires few { length list.now.items ≤ 2048 }
-        ensures { IfOk result (λ p. (actor : Actor) (at : ℕ) (act : Act) → Writes lba list.now act
-            → IsPlan self.now.config self.now.unit (past self.now) actor at act p) }
+        ensures { IfOk result (λ p. (h : List Entry) → ⟦<Core<B> as Reached>⟧.IsAfter self.now h → (actor : Actor) (at : ℕ) (act : Act) → Writes lba list.now act
+            → IsPlan self.now.config self.now.unit (past_of self.now.config self.now.unit h) actor at act p) }
     {
         let unit = self.config.unit(self.unit);
         let plan = blocks::write(self.alloc, &self.tables.blocks, unit, lba, list)?;
@@ -83,8 +90,9 @@ impl<B: Blocks + Drop> UnitOver<B> {
 
     /// Unmaps the blocks of the ranges.
     fn plan_unmap(&self, ranges: &RangeList) -> Result<Plan, OutOfMemory>
-        ensures { IfOk result (λ p. (actor : Actor) (at : ℕ)
-            → IsPlan self.now.config self.now.unit (past self.now) actor at (Act.Unmap ranges.now) p) }
+        requires known { ⟦<Core<B> as Reached>⟧.IsReached self.now }
+        ensures { IfOk result (λ p. (h : List Entry) → ⟦<Core<B> as Reached>⟧.IsAfter self.now h → (actor : Actor) (at : ℕ)
+            → IsPlan self.now.config self.now.unit (past_of self.now.config self.now.unit h) actor at (Act.Unmap ranges.now) p) }
     {
         let unit = self.config.unit(self.unit);
         let plan = blocks::unmap(self.alloc, unit, ranges)?;
@@ -93,8 +101,9 @@ impl<B: Blocks + Drop> UnitOver<B> {
 
     /// Which blocks are mapped from `lba` on.
     fn plan_status(&self, lba: u64) -> Result<Plan, OutOfMemory>
-        ensures { IfOk result (λ p. (actor : Actor) (at : ℕ)
-            → IsPlan self.now.config self.now.unit (past self.now) actor at (Act.MapStatus lba) p) }
+        requires known { ⟦<Core<B> as Reached>⟧.IsReached self.now }
+        ensures { IfOk result (λ p. (h : List Entry) → ⟦<Core<B> as Reached>⟧.IsAfter self.now h → (actor : Actor) (at : ℕ)
+            → IsPlan self.now.config self.now.unit (past_of self.now.config self.now.unit h) actor at (Act.MapStatus lba) p) }
     {
         let unit = self.config.unit(self.unit);
         let plan = blocks::status(self.alloc, &self.tables.blocks, unit, lba)?;

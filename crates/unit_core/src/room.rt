@@ -1,15 +1,19 @@
 // Whether the record of a unit has room for one more act.
-ghost use Rattle.std.specs.Prelude.{◌≡◌, ◌≤◌, ◌<◌, ◌+◌, ◌^◌, length, is_some, true, false};
+ghost use Rattle.std.specs.Prelude.{◌≡◌, ◌≤◌, ◌<◌, ◌+◌, ◌^◌, length, is_some, true, false, List};
 ghost use Rattle.cm_history.specs.declared.act.Actor.{Actor};
 ghost use Rattle.cm_history.specs.Limits.{within_limits};
 ghost use Rattle.cm_history.specs.Legal.{may_ask};
 ghost use Rattle.cm_history.specs.Operations.{Form, OfToken, OfCopy, would_serve};
 ghost use Rattle.cm_history.specs.Room.{bytes_in, need};
-ghost use Rattle.unit_core.specs.Acting.{past, is_full_at, serves_operation};
+ghost use Rattle.cm_history.specs.declared.act.Entry.{Entry};
+ghost use Rattle.cm_history.specs.History.{past_of};
+ghost use Rattle.unit_core.specs.UnitState.{Stands};
+ghost use Rattle.unit_core.specs.Acting.{is_full_at, serves_operation};
 ghost use Rattle.unit_core.specs.inner.Tables.{number_of, key_of};
 
+use crate::inner::{Core, Reached};
 use crate::unit::UnitOver;
-use cm_history::{Act, Actor, pieces};
+use cm_history::{Act, Actor, pieces, standing_law};
 use copy_jobs::Key;
 use lba_ranges::Blocks;
 
@@ -56,11 +60,13 @@ pub(crate) fn copy_key(actor: Actor, id: u8) -> Key
     }
 }
 
-impl<B: Blocks + Drop> UnitOver<B> {
+impl<B: Blocks + Drop> Core<B> {
     /// The act serves an operation that runs.
     pub(crate) fn serves(&self, actor: Actor, act: &Act) -> bool
-        requires { may_ask self.now.unit actor act.now ≡ true }
-        ensures { result ≡ serves_operation self.now actor act.now }
+        requires known { ⟦<Core<B> as Reached>⟧.IsReached self.now }
+        requires asked { may_ask self.now.unit actor act.now ≡ true }
+        ensures { (h : List Entry) → ⟦<Core<B> as Reached>⟧.IsAfter self.now h
+            → result ≡ is_some (would_serve (past_of self.now.config self.now.unit h) actor act.now) }
     {
         let jobs = &self.tables.jobs;
         match act {
@@ -74,9 +80,11 @@ impl<B: Blocks + Drop> UnitOver<B> {
 
     /// How many entries the act takes, with those that it keeps free.
     pub(crate) fn need(&self, actor: Actor, act: &Act) -> u64
+        requires known { ⟦<Core<B> as Reached>⟧.IsReached self.now }
         requires limits { within_limits self.now.config self.now.unit act.now ≡ true }
         requires asked { may_ask self.now.unit actor act.now ≡ true }
-        ensures need { result ≡ need (past self.now) actor act.now }
+        ensures need { (h : List Entry) → ⟦<Core<B> as Reached>⟧.IsAfter self.now h
+            → result ≡ need (past_of self.now.config self.now.unit h) actor act.now }
         ensures few { result ≤ 1026 }
     {
         match act {
@@ -86,21 +94,33 @@ impl<B: Blocks + Drop> UnitOver<B> {
             _ => 1,
         }
     }
+}
 
-    /// The record has no room for one more act: of stamps, of entries or of bytes.
-    pub(crate) fn is_full(&self, actor: Actor, stamp: u64, act: &Act) -> bool
+impl<B: Blocks + Drop> UnitOver<B> {
+    /// The record has no room for one more act: of stamps, of entries or of bytes. It takes no memory.
+    pub fn is_full(&self, actor: Actor, stamp: u64, act: &Act) -> bool
         requires limits { within_limits self.now.config self.now.unit act.now ≡ true }
         requires asked { may_ask self.now.unit actor act.now ≡ true }
-        ensures { result ≡ is_full_at self.now actor stamp act.now }
+        ensures { (h : List Entry) → Stands self.now h → result ≡ is_full_at self.now h actor stamp act.now }
     {
-        let unit = self.config.unit(self.unit);
-        if stamp.max(self.last_stamp) == u64::MAX {
+        standing_law(&self.core.config, self.core.unit);
+        let unit = self.core.config.unit(self.core.unit);
+        if stamp.max(self.core.last_stamp) == u64::MAX {
             return true;
         }
-        let kept = self.history.len() as u64 + self.tables.jobs.reserved();
-        if kept + self.need(actor, act) > u64::from(unit.entries) {
+        let kept = self.history.len() as u64 + self.core.tables.jobs.reserved();
+        if kept + self.core.need(actor, act) > u64::from(unit.entries) {
             return true;
         }
         self.payload + bytes_in(act) > u64::from(unit.payload)
+    }
+
+    /// The act serves an operation that runs, for which an entry is kept free. It takes no memory.
+    pub fn serves(&self, actor: Actor, act: &Act) -> bool
+        requires { may_ask self.now.unit actor act.now ≡ true }
+        ensures { (h : List Entry) → Stands self.now h → result ≡ serves_operation self.now h actor act.now }
+    {
+        standing_law(&self.core.config, self.core.unit);
+        self.core.serves(actor, act)
     }
 }

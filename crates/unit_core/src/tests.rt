@@ -4,11 +4,12 @@ mod asking;
 
 use super::*;
 use asking::{
-    Told, abort, advance, ample, ask, close_copy, end, fill, machine, populate, pump, read, redeem,
-    report, start, write,
+    Told, abort, advance, ample, ask, close_copy, end, fill, fold, machine, populate, pump, read,
+    redeem, report, start, write,
 };
-use cm_base::Config;
+use cm_base::{CallList, Config};
 use cm_history::{Act, Actor};
+use recorder::{MemoryRecorder, NoRecorder};
 use std::alloc::Global;
 use std::test::Fail;
 
@@ -287,5 +288,125 @@ fn a_record_is_handed_out(rt: HostRuntime) -> Result<(), Fail> {
     assert!(rt; read(&config, &mut unit, 0) == Told::Blocks(0, 0));
     assert!(rt; read(&config, &mut unit, 0) == Told::Full && unit.last_stamp() == 1);
     assert!(rt; unit.into_history().len() == 1);
+    Ok(())
+}
+
+/// A record of two entries is full, is recorded, and is full again.
+fn folding(
+    alloc: Global,
+    config: &Config,
+    unit: &mut Unit,
+    recorder: &mut MemoryRecorder,
+) -> Result<[Told; 6], Fail>
+    requires config { unit.old.config ≡ config.now }
+    requires unit { unit.old.unit ≡ 0 }
+    requires one { length config.now.units ≡ 1 }
+    ensures config { unit.new.config ≡ unit.old.config }
+    ensures unit { unit.new.unit ≡ unit.old.unit }
+{
+    let first = write(alloc, config, unit, 0x22, 0, 2)?;
+    let second = write(alloc, config, unit, 0x44, 1, 1)?;
+    let third = read(config, unit, 0);
+    let _ = fold(unit, recorder);
+    Ok([
+        first,
+        second,
+        third,
+        read(config, unit, 0),
+        read(config, unit, 1),
+        read(config, unit, 1),
+    ])
+}
+
+/// A full record has room once its entries are recorded, and the unit answers as after all of them.
+#[test]
+fn a_full_record_is_folded(rt: HostRuntime) -> Result<(), Fail> {
+    let alloc = rt.alloc();
+    let config = machine(alloc, 2, 4096, 4096)?;
+    let mut unit = Unit::new(alloc, &config, 0)?;
+    let mut recorder = MemoryRecorder::new(alloc, CallList::empty(alloc));
+    let told = folding(alloc, &config, &mut unit, &mut recorder)?;
+    assert!(rt;
+        told == [
+            Told::Done,
+            Told::Done,
+            Told::Full,
+            Told::Blocks(0x22, 0x44),
+            Told::Blocks(0x44, 0),
+            Told::Full,
+        ]
+    );
+    assert!(rt; unit.kept() == 2 && unit.folded() == 2 && recorder.entries().len() == 2);
+    Ok(())
+}
+
+/// What was begun and what was made before a fold is there after it.
+fn going_on(
+    alloc: Global,
+    config: &Config,
+    unit: &mut Unit,
+    recorder: &mut MemoryRecorder,
+) -> Result<[Told; 5], Fail>
+    requires config { unit.old.config ≡ config.now }
+    requires unit { unit.old.unit ≡ 0 }
+    requires one { length config.now.units ≡ 1 }
+    ensures config { unit.new.config ≡ unit.old.config }
+    ensures unit { unit.new.unit ≡ unit.old.unit }
+{
+    let token = populate(alloc, config, unit, 100, 10, 5)?;
+    let started = start(alloc, config, unit, false, 2048)?;
+    let _ = fold(unit, recorder);
+    Ok([
+        token,
+        started,
+        advance(config, unit),
+        end(unit),
+        redeem(alloc, config, unit, 105, 0)?,
+    ])
+}
+
+/// An operation goes on and ends, and a token is redeemed, whose entries were dropped.
+#[test]
+fn a_fold_leaves_what_was_begun(rt: HostRuntime) -> Result<(), Fail> {
+    let alloc = rt.alloc();
+    let config = ample(alloc)?;
+    let mut unit = Unit::new(alloc, &config, 0)?;
+    let mut recorder = MemoryRecorder::new(alloc, CallList::empty(alloc));
+    let told = going_on(alloc, &config, &mut unit, &mut recorder)?;
+    assert!(rt;
+        told == [
+            Told::Made(0),
+            Told::Running(0),
+            Told::Running(1024),
+            Told::Ended(1024),
+            Told::Rod(0),
+        ]
+    );
+    Ok(())
+}
+
+/// A fold stops at the entry that the recorder refuses; the next goes on there.
+#[test]
+fn a_fold_stops_at_a_failure(rt: HostRuntime) -> Result<(), Fail> {
+    let alloc = rt.alloc();
+    let config = ample(alloc)?;
+    let mut unit = Unit::new(alloc, &config, 0)?;
+    assert!(rt; read(&config, &mut unit, 0) == Told::Blocks(0, 0));
+    assert!(rt; read(&config, &mut unit, 1) == Told::Blocks(0, 0));
+    let mut recorder = MemoryRecorder::new(alloc, CallList::copy(alloc, &[2])?);
+    assert!(rt; fold(&mut unit, &mut recorder) == (FoldEnd::Failed, 1, 1));
+    assert!(rt; fold(&mut unit, &mut recorder) == (FoldEnd::All, 0, 2));
+    assert!(rt; recorder.entries().len() == 2);
+    Ok(())
+}
+
+/// Where there is no recorder each entry is kept.
+#[test]
+fn nothing_is_folded_without_a_recorder(rt: HostRuntime) -> Result<(), Fail> {
+    let alloc = rt.alloc();
+    let config = ample(alloc)?;
+    let mut unit = Unit::new(alloc, &config, 0)?;
+    assert!(rt; read(&config, &mut unit, 0) == Told::Blocks(0, 0));
+    assert!(rt; unit.fold(&mut NoRecorder) == FoldEnd::Absent && unit.kept() == 1);
     Ok(())
 }

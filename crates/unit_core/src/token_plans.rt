@@ -1,19 +1,20 @@
 // What the acts on tokens are answered, and what they are to change.
-ghost use Rattle.std.specs.Prelude.{◌≡◌, ◌<◌, ℕ, length, IfOk, true};
+ghost use Rattle.std.specs.Prelude.{◌≡◌, ◌<◌, ℕ, length, IfOk, true, List};
 ghost use Rattle.cm_history.specs.declared.act.Act.{Act};
 ghost use Rattle.cm_history.specs.declared.act.Actor.{Actor};
 ghost use Rattle.cm_history.specs.Limits.{within_limits};
 ghost use Rattle.cm_history.specs.Legal.{may_ask};
-ghost use Rattle.unit_core.specs.Acting.{past};
+ghost use Rattle.cm_history.specs.declared.act.Entry.{Entry};
+ghost use Rattle.cm_history.specs.History.{past_of};
 ghost use Rattle.unit_core.specs.inner.Planning.{IsPlan};
 
 use crate::block_change::BlockChange;
+use crate::inner::{Core, Reached};
 use crate::job_change::JobChange;
 use crate::plan::Plan;
 use crate::refusals;
 use crate::room::token_key;
 use crate::token_change::TokenChange;
-use crate::unit::UnitOver;
 use cm_base::OutOfMemory;
 use cm_history::{Actor, Answer};
 use lba_ranges::{Blocks, RangeList};
@@ -21,7 +22,7 @@ use lba_ranges::{Blocks, RangeList};
 /// Serials that a unit makes.
 const SERIALS: u64 = 1 << 48;
 
-impl<B: Blocks + Drop> UnitOver<B> {
+impl<B: Blocks + Drop> Core<B> {
     /// Makes a token of the blocks of the ranges, as they stand.
     pub(crate) fn plan_populate(
         &self,
@@ -30,10 +31,11 @@ impl<B: Blocks + Drop> UnitOver<B> {
         timeout: u32,
         ranges: &RangeList,
     ) -> Result<Plan, OutOfMemory>
+        requires known { ⟦<Core<B> as Reached>⟧.IsReached self.now }
         requires limits { within_limits self.now.config self.now.unit (Act.Populate id timeout ranges.now) ≡ true }
         requires asked { may_ask self.now.unit actor (Act.Populate id timeout ranges.now) ≡ true }
-        ensures { IfOk result (λ p. (at : ℕ)
-            → IsPlan self.now.config self.now.unit (past self.now) actor at (Act.Populate id timeout ranges.now) p) }
+        ensures { IfOk result (λ p. (h : List Entry) → ⟦<Core<B> as Reached>⟧.IsAfter self.now h → (at : ℕ)
+            → IsPlan self.now.config self.now.unit (past_of self.now.config self.now.unit h) actor at (Act.Populate id timeout ranges.now) p) }
     {
         let key = token_key(actor, id);
         if self.tables.jobs.runs(key) {
@@ -71,9 +73,10 @@ impl<B: Blocks + Drop> UnitOver<B> {
         text: &[u8; 512],
         target: u16,
     ) -> Result<Plan, OutOfMemory>
-        requires { within_limits self.now.config self.now.unit (Act.Redeem text.now target) ≡ true }
-        ensures { IfOk result (λ p. (actor : Actor)
-            → IsPlan self.now.config self.now.unit (past self.now) actor moment (Act.Redeem text.now target) p) }
+        requires known { ⟦<Core<B> as Reached>⟧.IsReached self.now }
+        requires limits { within_limits self.now.config self.now.unit (Act.Redeem text.now target) ≡ true }
+        ensures { IfOk result (λ p. (h : List Entry) → ⟦<Core<B> as Reached>⟧.IsAfter self.now h → (actor : Actor)
+            → IsPlan self.now.config self.now.unit (past_of self.now.config self.now.unit h) actor moment (Act.Redeem text.now target) p) }
     {
         let now = moment.max(self.moment);
         match self.tables.tokens.peek(&self.config, now, text, target) {

@@ -1,5 +1,8 @@
 ghost use Rattle.std.specs.Prelude.{◌≡◌, ℕ, List, ◌+◌, ◌-◌, ◌<◌, ◌≤◌, ◌^◌, ◌++◌, ◌∷◌, [], length, max, IfOk, IfErr, OnOk, OnErr, true, false};
 ghost use Rattle.cm_base.specs.Units.{unit_of};
+ghost use Rattle.cm_history.specs.declared.act.Act.{Act};
+ghost use Rattle.cm_history.specs.declared.act.Entry.{Entry};
+ghost use Rattle.cm_history.specs.declared.answer.Answer.{Answer};
 ghost use Rattle.cm_history.specs.declared.refused.ActRefused.{ActRefused};
 ghost use Rattle.cm_history.specs.Limits.{within_limits};
 ghost use Rattle.cm_history.specs.Legal.{may_ask};
@@ -7,29 +10,29 @@ ghost use Rattle.cm_history.specs.Deeds.{last_stamp};
 ghost use Rattle.cm_history.specs.Blocks.{mapped};
 ghost use Rattle.cm_history.specs.History.{on, answer};
 ghost use Rattle.cm_history.specs.Forms.{HasForm};
-ghost use Rattle.unit_core.specs.UnitState.{UnitState};
 ghost use Rattle.cm_history.specs.Tokens.{Token, rod};
+ghost use Rattle.unit_core.specs.UnitState.{UnitState, Stands};
 ghost use Rattle.unit_core.specs.Acting.{past, is_full_at, entry_at, serves_operation, ends_operation_at, MayRedeem};
 
+use crate::inner::Core;
 use crate::room::bytes_in;
 use crate::tables::Tables;
 use cm_base::{Config, OutOfMemory};
-use cm_history::{Act, ActRefused, Actor, Answer, Entry, History};
+use cm_history::{Act, ActRefused, Actor, Answer, Entry, History, standing_law};
 use lba_ranges::Blocks;
 use lun_extents::ExtentUnit;
 use std::alloc::Global;
 use std::marker::Model;
 
-/// One unit over blocks of some kind. Contracts see its configuration, its number and its record.
+/// One unit over blocks of some kind. Contracts see its configuration and its number, the entries that it keeps, how
+/// many older ones were recorded elsewhere and dropped, and all that its answers depend on. It answers as after each
+/// list of entries for which it stands.
 #[derive(Drop)]
 pub struct UnitOver<B: Blocks + Drop> {
-    pub(crate) alloc: Global,
-    pub(crate) config: Config,
-    pub(crate) unit: u16,
-    pub(crate) tables: Tables<B>,
+    pub(crate) core: Core<B>,
     pub(crate) history: History,
-    pub(crate) last_stamp: u64,
-    pub(crate) moment: u64,
+    pub(crate) folded: u64,
+    /// The bytes of the Writes in the record.
     pub(crate) payload: u64,
 }
 
@@ -37,42 +40,62 @@ pub struct UnitOver<B: Blocks + Drop> {
 pub type Unit = UnitOver<ExtentUnit>;
 
 impl<B: Blocks + Drop> Model for UnitOver<B> {
+    ghost use Rattle.std.specs.Prelude.{List, ◌+◌, length};
+    ghost use Rattle.cm_history.specs.declared.act.Entry.{Entry};
     ghost use Rattle.unit_core.specs.UnitState.{UnitState};
-    ghost use Rattle.unit_core.specs.inner.Agreeing.{Agrees};
+    ghost use Rattle.unit_core.specs.inner.Shown.{image_shown};
+    ghost use Rattle.unit_core.specs.inner.Agreeing.{TablesAgree, RecordAgrees};
 
     ghost Value = { UnitState };
 
-    ghost view = { λ u. record { config = u.config; unit = u.unit; entries = u.history.entries } };
+    ghost view = { λ u. record {
+        config = u.core.config;
+        unit = u.core.unit;
+        kept = u.history.entries;
+        folded = u.folded;
+        image = image_shown u.core.moment u.core.last_stamp (u.folded + length u.history.entries)
+            (B.blocks u.core.tables.blocks) (B.holds u.core.tables.blocks) u.core.tables.tokens.tokens u.core.tables.jobs;
+    } };
 
-    ghost invariant = { λ u. Agrees u.config u.unit u.history.entries u.history.spare
-        (B.blocks u.tables.blocks) (B.block_length u.tables.blocks) (B.holds u.tables.blocks)
-        u.tables.tokens u.tables.jobs u.last_stamp u.moment u.payload };
+    // a list of entries that makes the unit as it is
+    ghost invariant = { λ u. (whole : List Entry)
+        × TablesAgree u.core.config u.core.unit
+            (B.blocks u.core.tables.blocks) (B.block_length u.core.tables.blocks) (B.holds u.core.tables.blocks)
+            u.core.tables.tokens u.core.tables.jobs u.core.last_stamp u.core.moment whole
+        × RecordAgrees u.core.config u.core.unit u.history.entries u.folded u.history.spare u.payload whole };
 }
 
 impl<B: Blocks + Drop> UnitOver<B> {
     /// A unit that nothing was asked of yet.
     pub fn new(alloc: Global, config: &Config, unit: u16) -> Result<UnitOver<B>, OutOfMemory>
         requires { unit < length config.now.units }
-        ensures { IfOk result (λ u. u ≡ record { config = config.now; unit = unit; entries = [] }) }
+        ensures config { IfOk result (λ u. u.config ≡ config.now) }
+        ensures unit { IfOk result (λ u. u.unit ≡ unit) }
+        ensures stands { IfOk result (λ u. Stands u []) }
+        ensures kept { IfOk result (λ u. u.kept ≡ []) }
+        ensures folded { IfOk result (λ u. u.folded ≡ 0) }
     {
         let tables = Tables::new(alloc, config, unit)?;
         let config = config.copy(alloc)?;
         Ok(UnitOver {
-            alloc,
-            config,
-            unit,
-            tables,
+            core: Core {
+                alloc,
+                config,
+                unit,
+                tables,
+                last_stamp: 0,
+                moment: 0,
+            },
             history: History::empty(alloc),
-            last_stamp: 0,
-            moment: 0,
+            folded: 0,
             payload: 0,
         })
     }
 
-    /// Does an act, and keeps it as one more entry of the record. `stamp` is the caller's last stamp, `seq` the
-    /// number of acts that the actor has done, and `moment` is in seconds. After either refusal the unit is as
-    /// before. An act that serves a running operation finds its entry kept free, one that ends an operation takes no
-    /// memory, and a live token that may be used at the target is never refused.
+    /// Does an act, and keeps it as one more entry of each list for which the unit stands. `stamp` is the caller's last
+    /// stamp, `seq` the number of acts that the actor has done, and `moment` is in seconds. After either refusal the unit
+    /// is as before. An act that serves a running operation finds its entry kept free, one that ends an operation takes
+    /// no memory, and a live token that may be used at the target is never refused.
     pub fn act(
         &mut self,
         actor: Actor,
@@ -83,33 +106,43 @@ impl<B: Blocks + Drop> UnitOver<B> {
     ) -> Result<Answer, ActRefused>
         requires limits { within_limits self.old.config self.old.unit act ≡ true }
         requires asked { may_ask self.old.unit actor act ≡ true }
-        ensures answer { IfOk result (λ a. a ≡ answer self.old.config self.old.entries self.old.unit actor moment act) }
+        ensures answer { IfOk result (λ a. (h : List Entry) → Stands self.old h
+            → a ≡ answer self.old.config h self.old.unit actor moment act) }
         ensures form { IfOk result (λ a. HasForm self.old.config self.old.unit act a) }
-        ensures added { OnOk result (self.new
-            ≡ record self.old { entries = self.old.entries ++ entry_at self.old actor seq stamp moment act ∷ [] }) }
-        ensures room { OnOk result (is_full_at self.old actor stamp act ≡ false) }
-        ensures full { IfErr result (λ e. e ≡ ActRefused.Full → is_full_at self.old actor stamp act ≡ true) }
-        ensures serves { IfErr result (λ e. e ≡ ActRefused.Full → serves_operation self.old actor act ≡ true
-            → max stamp (last_stamp (past self.old)) ≡ 2 ^ 64 - 1) }
-        ensures redeems { IfOk result (λ a. (text : List ℕ) (target : ℕ) (t : Token) → act ≡ Act.Redeem text target
-            → MayRedeem self.old moment text target t → a ≡ Answer.Rod (rod (unit_of self.old.config self.old.unit) t)) }
+        ensures stands { OnOk result ((h : List Entry) → Stands self.old h
+            → Stands self.new (h ++ entry_at self.old actor seq stamp moment act ∷ [])) }
+        ensures kept { OnOk result (self.new.kept ≡ self.old.kept ++ entry_at self.old actor seq stamp moment act ∷ []) }
+        ensures room { OnOk result ((h : List Entry) → Stands self.old h → is_full_at self.old h actor stamp act ≡ false) }
+        ensures full { IfErr result (λ e. e ≡ ActRefused.Full
+            → (h : List Entry) → Stands self.old h → is_full_at self.old h actor stamp act ≡ true) }
+        ensures serves { IfErr result (λ e. e ≡ ActRefused.Full
+            → (h : List Entry) → Stands self.old h → serves_operation self.old h actor act ≡ true
+            → max stamp self.old.image.last_stamp ≡ 2 ^ 64 - 1) }
+        ensures redeems { IfOk result (λ a. (h : List Entry) → Stands self.old h
+            → (text : List ℕ) (target : ℕ) (t : Token) → act ≡ Act.Redeem text target
+            → MayRedeem self.old h moment text target t → a ≡ Answer.Rod (rod (unit_of self.old.config self.old.unit) t)) }
         ensures refused { OnErr result (self.new ≡ self.old) }
-        ensures ends { IfErr result (λ e. e ≡ ActRefused.OutOfMemory → ends_operation_at self.old actor act ≡ false) }
+        ensures ends { IfErr result (λ e. e ≡ ActRefused.OutOfMemory
+            → (h : List Entry) → Stands self.old h → ends_operation_at self.old h actor act ≡ false) }
+        ensures folded { self.new.folded ≡ self.old.folded }
+        ensures config { self.new.config ≡ self.old.config }
+        ensures unit { self.new.unit ≡ self.old.unit }
     {
+        standing_law(&self.core.config, self.core.unit);
         if self.is_full(actor, stamp, &act) {
             return Err(ActRefused::Full);
         }
-        let plan = self.plan(actor, moment, &act)?;
-        let room = self.tables.jobs.reserved() + self.need(actor, &act);
+        let plan = self.core.plan(actor, moment, &act)?;
+        let room = self.core.tables.jobs.reserved() + self.core.need(actor, &act);
         self.history.reserve(room)?;
-        let now = moment.max(self.moment);
-        let answer = self.tables.change(now, plan)?;
-        self.last_stamp = stamp.max(self.last_stamp) + 1;
-        self.moment = now;
+        let now = moment.max(self.core.moment);
+        let answer = self.core.tables.change(now, plan)?;
+        self.core.last_stamp = stamp.max(self.core.last_stamp) + 1;
+        self.core.moment = now;
         self.payload += bytes_in(&act);
         self.history.append(Entry {
-            stamp: self.last_stamp,
-            unit: self.unit,
+            stamp: self.core.last_stamp,
+            unit: self.core.unit,
             actor,
             seq,
             moment,
@@ -120,47 +153,46 @@ impl<B: Blocks + Drop> UnitOver<B> {
 
     /// The stamp of the latest entry, and 0 where there is none. It takes no memory.
     pub fn last_stamp(&self) -> u64
-        ensures { result ≡ last_stamp (past self.now) }
+        ensures shown { result ≡ self.now.image.last_stamp }
+        ensures told { (h : List Entry) → Stands self.now h → result ≡ last_stamp (past self.now h) }
     {
-        self.last_stamp
+        self.core.last_stamp
     }
 
     /// How many entries the record has. It takes no memory.
     pub fn kept(&self) -> u64
-        ensures { result ≡ length self.now.entries }
+        ensures { result ≡ length self.now.kept }
     {
         self.history.len() as u64
     }
 
     /// How many blocks are mapped, at most the unit's quota. It takes no memory.
     pub fn mapped(&self) -> u64
-        ensures mapped { result ≡ mapped (unit_of self.now.config self.now.unit) (past self.now) }
+        ensures mapped { (h : List Entry) → Stands self.now h
+            → result ≡ mapped (unit_of self.now.config self.now.unit) (past self.now h) }
         ensures quota { result ≤ (unit_of self.now.config self.now.unit).quota }
     {
-        self.tables.blocks.mapped()
+        standing_law(&self.core.config, self.core.unit);
+        self.core.tables.blocks.mapped()
     }
 
-    /// The record, all of it the unit's own. It takes no memory.
+    /// The kept entries, all of them the unit's own. It takes no memory.
     pub fn history(&self) -> &History
-        ensures record { result.now.entries ≡ self.now.entries }
-        ensures own { on self.now.unit self.now.entries ≡ self.now.entries }
+        ensures record { result.now.entries ≡ self.now.kept }
+        ensures own { on self.now.unit self.now.kept ≡ self.now.kept }
     {
         &self.history
     }
 
-    /// The record of a unit that is done with. It takes no memory.
+    /// The kept entries of a unit that is done with. It takes no memory.
     pub fn into_history(self) -> History
-        ensures record { result.entries ≡ self.entries }
-        ensures own { on self.unit self.entries ≡ self.entries }
+        ensures record { result.entries ≡ self.kept }
+        ensures own { on self.unit self.kept ≡ self.kept }
     {
         let UnitOver {
-            alloc: _,
-            config: _,
-            unit: _,
-            tables: _,
+            core: _,
             history,
-            last_stamp: _,
-            moment: _,
+            folded: _,
             payload: _,
         } = self;
         history

@@ -4,12 +4,13 @@ ghost use Rattle.cm_history.specs.Legal.{may_ask};
 ghost use Rattle.plain_model.specs.Holds.{AreWithin};
 
 use crate::random_acts::{Numbers, Style, random_act};
-use cm_base::{Config, UnitConfig, UnitList};
+use cm_base::{CallList, Config, UnitConfig, UnitList};
 use cm_history::{
     Act, ActRefused, Actor, Answer, CopyState, Entry, History, OpState, within_limits,
 };
 use lba_ranges::BlockList;
 use plain_model::plain_answer;
+use recorder::MemoryRecorder;
 use scsi_sense::Sense;
 use std::alloc::Global;
 use std::test::Fail;
@@ -18,19 +19,27 @@ use unit_core::Unit;
 /// Acts of a history.
 const ACTS: u32 = 40;
 
-/// Two units of so many blocks of 512 bytes, of which a quota may be mapped.
-fn machine(alloc: Global, blocks: u64, quota: u64) -> Result<Config, Fail>
+/// Two units of so many blocks of 512 bytes, of which a quota may be mapped, with room for so many entries and bytes.
+fn machine(
+    alloc: Global,
+    blocks: u64,
+    quota: u64,
+    entries: u32,
+    payload: u32,
+) -> Result<Config, Fail>
     requires blocks { 1 ≤ blocks }
     requires few { blocks ≤ 2 ^ 32 }
     requires quota { quota ≤ blocks }
+    requires entries { (1 ≤ entries) × (entries ≤ 4096) }
+    requires payload { (1 ≤ payload) × (payload ≤ 1_048_576) }
     ensures { IfOk result (λ config. length config.units ≡ 2) }
 {
     let unit = UnitConfig {
         blocks,
         block_length: 512,
-        entries: 4096,
+        entries,
         quota,
-        payload: 1_048_576,
+        payload,
         group: 0,
     };
     let mut units = UnitList::empty(alloc);
@@ -132,11 +141,13 @@ fn is_answered_so(told: Result<Answer, ActRefused>, plain: &Answer) -> bool {
 }
 
 /// Asks a unit for an act, and says whether it is answered as by the plain model, which goes through all that was asked
-/// before. An act beyond its limits is not asked.
+/// before. Where the record is full its entries are recorded elsewhere first. An act beyond its limits is not asked, nor
+/// one for which the operations that run leave no room.
 fn is_as_plain(
     alloc: Global,
     config: &Config,
     unit: &mut Unit,
+    recorder: &mut MemoryRecorder,
     asked: &mut History,
     next: Entry,
 ) -> Result<bool, Fail>
@@ -151,6 +162,12 @@ fn is_as_plain(
 {
     if !within_limits(config, next.unit, &next.act) {
         return Ok(true);
+    }
+    if unit.is_full(next.actor, 0, &next.act) {
+        unit.fold(recorder);
+        if unit.is_full(next.actor, 0, &next.act) {
+            return Ok(true);
+        }
     }
     let plain = plain_answer(
         alloc,
@@ -202,13 +219,15 @@ fn next_entry(
     Ok(entry(number, actor, moment, act))
 }
 
-/// Plays a random history on a unit. Whether each answer was that of the plain model.
+/// Plays a random history on a unit, whose entries go to a recorder where the record is full. Whether each answer was that
+/// of the plain model, and no entry is lost.
 fn history_is_as_plain(
     alloc: Global,
     config: &Config,
     number: u16,
     style: Style,
     numbers: &mut Numbers,
+    recorder: &mut MemoryRecorder,
 ) -> Result<bool, Fail>
     requires { number < length config.now.units }
 {
@@ -216,22 +235,31 @@ fn history_is_as_plain(
     let mut asked = History::empty(alloc);
     for _ in 0..ACTS {
         let next = next_entry(alloc, config, number, style, numbers)?;
-        if !is_as_plain(alloc, config, &mut unit, &mut asked, next)? {
+        if !is_as_plain(alloc, config, &mut unit, recorder, &mut asked, next)? {
             return Ok(false);
         }
     }
-    Ok(true)
+    let all = unit.folded().saturating_add(unit.kept());
+    Ok(unit.folded() == recorder.entries().len() as u64 && all == asked.len() as u64)
 }
 
 #[test]
 fn random_histories(rt: HostRuntime) -> Result<(), Fail> {
     let alloc = rt.alloc();
-    let config = machine(alloc, 40, 25)?;
+    let config = machine(alloc, 40, 25, 4096, 1_048_576)?;
     for seed in 0..4 {
         let mut numbers = Numbers::new(seed);
         for number in 0..2 {
-            let same = history_is_as_plain(alloc, &config, number, Style::Mixed, &mut numbers)?;
-            assert!(rt; same, "unit {number} of seed {seed}");
+            let mut recorder = MemoryRecorder::new(alloc, CallList::empty(alloc));
+            let same = history_is_as_plain(
+                alloc,
+                &config,
+                number,
+                Style::Mixed,
+                &mut numbers,
+                &mut recorder,
+            )?;
+            assert!(rt; same && recorder.entries().is_empty(), "unit {number} of seed {seed}");
         }
     }
     Ok(())
@@ -241,11 +269,62 @@ fn random_histories(rt: HostRuntime) -> Result<(), Fail> {
 #[test]
 fn histories_of_long_operations(rt: HostRuntime) -> Result<(), Fail> {
     let alloc = rt.alloc();
-    let config = machine(alloc, 1100, 3)?;
+    let config = machine(alloc, 1100, 3, 4096, 1_048_576)?;
     for seed in 0..4 {
         let mut numbers = Numbers::new(seed);
-        let same = history_is_as_plain(alloc, &config, 0, Style::Long, &mut numbers)?;
+        let mut recorder = MemoryRecorder::new(alloc, CallList::empty(alloc));
+        let same = history_is_as_plain(
+            alloc,
+            &config,
+            0,
+            Style::Long,
+            &mut numbers,
+            &mut recorder,
+        )?;
         assert!(rt; same, "seed {seed}");
     }
+    Ok(())
+}
+
+/// Plays histories on a unit of a small record. Whether each answer was that of the plain model, which goes through all
+/// entries, and the record was full in each.
+fn folded_histories(alloc: Global, config: &Config, style: Style) -> Result<bool, Fail>
+    requires { 1 ≤ length config.now.units }
+{
+    for seed in 0..3 {
+        let mut numbers = Numbers::new(seed);
+        let mut recorder = MemoryRecorder::new(alloc, CallList::empty(alloc));
+        let same = history_is_as_plain(alloc, config, 0, style, &mut numbers, &mut recorder)?;
+        if !same || recorder.entries().is_empty() {
+            return Ok(false);
+        }
+    }
+    Ok(true)
+}
+
+/// A record that is full by its entries.
+#[test]
+fn histories_whose_entries_are_folded(rt: HostRuntime) -> Result<(), Fail> {
+    let alloc = rt.alloc();
+    let config = machine(alloc, 40, 25, 16, 1_048_576)?;
+    assert!(rt; folded_histories(alloc, &config, Style::Mixed)?);
+    Ok(())
+}
+
+/// A record that is full by the bytes of its Writes.
+#[test]
+fn histories_whose_payload_is_folded(rt: HostRuntime) -> Result<(), Fail> {
+    let alloc = rt.alloc();
+    let config = machine(alloc, 40, 25, 4096, 2048)?;
+    assert!(rt; folded_histories(alloc, &config, Style::Mixed)?);
+    Ok(())
+}
+
+/// Operations of several pieces, whose first entries are folded.
+#[test]
+fn histories_of_long_operations_that_are_folded(rt: HostRuntime) -> Result<(), Fail> {
+    let alloc = rt.alloc();
+    let config = machine(alloc, 1100, 3, 24, 1_048_576)?;
+    assert!(rt; folded_histories(alloc, &config, Style::Long)?);
     Ok(())
 }

@@ -19,20 +19,22 @@ pub struct UnitRuns {
 }
 
 impl Model for UnitRuns {
-    ghost use Rattle.std.specs.Prelude.{◌≤◌};
+    ghost use Rattle.std.specs.Prelude.{◌≤◌, map};
+    ghost use Rattle.unit_core.specs.Unfolded.{unfolded};
     ghost use Rattle.unit_runs.specs.Places.{Place, AreUnitsOf};
+    ghost use Rattle.unit_runs.specs.inner.Keeping.{KeepAll};
 
     ghost Value = { Place };
 
     ghost view = { λ r. record {
       config = r.config;
       nexus = r.nexus;
-      units = r.units.items;
+      units = map unfolded r.units.items;
       stamp = r.stamp;
       seq = r.seq;
     } };
 
-    ghost invariant = { λ r. AreUnitsOf r.config r.units.items × (r.seq ≤ r.stamp) };
+    ghost invariant = { λ r. AreUnitsOf r.config (map unfolded r.units.items) × KeepAll r.units.items × (r.seq ≤ r.stamp) };
 }
 
 impl UnitRuns {

@@ -12,6 +12,7 @@ use Rattle.cm_history.specs.Ends.{ends_operation}
 use Rattle.cm_history.specs.History.{on, past_of, answer}
 use Rattle.cm_history.specs.declared.refused.ActRefused.{ActRefused}
 use Rattle.unit_core.specs.UnitState as unit
+use Rattle.unit_core.specs.Unfolded.{IsUnfolded, unfolded}
 use Rattle.std.specs.Ordering.{nat_cmp}
 use Rattle.std.specs.BTreeMap.{get}
 use Rattle.cm_frame.specs.declared.frame.Request.{Request}
@@ -37,12 +38,13 @@ use Rattle.trace_replay.specs.Shortages.{is_no_shortage, allowed_at_act, is_allo
 
 -- ---- units
 
--- each unit has done its part of the entries, and the latest stamp is their number
+-- each unit has done its part of the entries and keeps all of it, and the latest stamp is their number
 pub record HaveDone (config : Configuration) (entries : List Entry) (units : Units) : Type 0 where
   pub limits : AreUnits config.units
   pub count : length units.units.items ≡ length config.units
   pub each : (u : ℕ) (value : unit.UnitState) → slice_get units.units.items u ≡ Some value
-      → value ≡ record { config = config; unit = u; entries = on u entries }
+      → unfolded value ≡ record { config = config; unit = u; entries = on u entries }
+  pub keeps : (u : ℕ) (value : unit.UnitState) → slice_get units.units.items u ≡ Some value → IsUnfolded value
   pub stamp : units.stamp ≡ length entries
   pub legal : IsLegal config entries
   pub low : All (λ (e : Entry). e.stamp ≤ length entries) entries

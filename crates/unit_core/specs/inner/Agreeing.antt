@@ -1,5 +1,5 @@
--- What a unit keeps beside its record, and how that agrees with the record
-use Rattle.std.specs.Prelude.{◌≡◌, ℕ, ◌+◌, ◌<◌, ◌≤◌, List, length}
+-- What a unit keeps, and how that agrees with a list of entries
+use Rattle.std.specs.Prelude.{◌≡◌, ℕ, ◌+◌, ◌-◌, ◌<◌, ◌≤◌, List, length, drop, sum_by}
 use Rattle.cm_base.specs.Configuration.{Configuration, IsUnit}
 use Rattle.cm_base.specs.Units.{unit_of}
 use Rattle.cm_base.specs.declared.config.UnitConfig.{UnitConfig}
@@ -8,7 +8,7 @@ use Rattle.lba_ranges.specs.HeldBlocks.{HeldBlocks}
 use Rattle.lba_ranges.specs.Writings.{Held}
 use Rattle.cm_history.specs.Deeds.{Deed, last_stamp, moment}
 use Rattle.cm_history.specs.Blocks.{held, mapped}
-use Rattle.cm_history.specs.Room.{payload, reserved}
+use Rattle.cm_history.specs.Room.{bytes_in, reserved}
 use Rattle.cm_history.specs.History.{on, past_of}
 use Rattle.cm_history.specs.Asked.{AllAsked}
 use Rattle.rod_store.specs.Store.{Store}
@@ -26,23 +26,6 @@ pub record TokensAgree (told : UnitConfig) (number : ℕ) (past : List Deed) (ow
   pub unit : own.unit ≡ number
   pub tokens : own.tokens ≡ tokens_of told past
 
--- the jobs are the operations that the past keeps, and the entries that they need are free
-pub record JobsAgree (past : List Deed) (own : List Job) (spare : ℕ) : Type 0 where
-  pub jobs : own ≡ jobs_of past
-  pub free : reserved past ≤ spare
-
--- the counters are those of the past
-pub record CountersAgree (past : List Deed) (own_stamp own_moment own_payload : ℕ) : Type 0 where
-  pub stamp : own_stamp ≡ last_stamp past
-  pub moment : own_moment ≡ moment past
-  pub payload : own_payload ≡ payload 0 past
-
--- the record has no more than the unit may keep
-pub record KeepsRoom (unit : UnitConfig) (past : List Deed) : Type 0 where
-  pub entries : length past + reserved past ≤ unit.entries
-  pub payload : payload 0 past ≤ unit.payload
-  pub quota : mapped unit past ≤ unit.quota
-
 -- the entries are the unit's own, and may have been asked
 pub record IsRecord (config : Configuration) (unit : ℕ) (entries : List Entry) : Type 0 where
   pub configured : unit < length config.units
@@ -50,11 +33,27 @@ pub record IsRecord (config : Configuration) (unit : ℕ) (entries : List Entry)
   pub own : on unit entries ≡ entries
   pub asked : AllAsked config unit (past_of config unit entries)
 
--- all that a unit keeps agrees with its record
-pub record Agrees (config : Configuration) (unit : ℕ) (entries : List Entry) (spare : ℕ) (own_blocks own_length : ℕ) (holds : ℕ → Held) (own_tokens : Store HeldBlocks) (own_jobs : List Job) (own_stamp own_moment own_payload : ℕ) : Type 0 where
+-- the tables and the counters are those that these entries make
+pub record TablesAgree (config : Configuration) (unit : ℕ) (own_blocks own_length : ℕ) (holds : ℕ → Held) (own_tokens : Store HeldBlocks) (own_jobs : List Job) (own_stamp own_moment : ℕ) (entries : List Entry) : Type 0 where
   pub record_is : IsRecord config unit entries
   pub blocks : BlocksAgree (unit_of config unit) (past_of config unit entries) own_blocks own_length holds
   pub tokens : TokensAgree (unit_of config unit) unit (past_of config unit entries) own_tokens
-  pub jobs : JobsAgree (past_of config unit entries) own_jobs spare
-  pub counters : CountersAgree (past_of config unit entries) own_stamp own_moment own_payload
-  pub room : KeepsRoom (unit_of config unit) (past_of config unit entries)
+  pub jobs : own_jobs ≡ jobs_of (past_of config unit entries)
+  pub stamp : own_stamp ≡ last_stamp (past_of config unit entries)
+  pub moment : own_moment ≡ moment (past_of config unit entries)
+  pub quota : mapped (unit_of config unit) (past_of config unit entries) ≤ (unit_of config unit).quota
+
+-- the bytes of all Writes among the entries
+abbrev pub payload_in : List Entry → ℕ
+payload_in entries = sum_by (λ (e : Entry). bytes_in e.act) entries
+
+-- the record has the later ones of these entries, no more than the unit may keep, and room for what the operations need
+pub record RecordAgrees (config : Configuration) (unit : ℕ) (kept : List Entry) (folded spare own_payload : ℕ) (entries : List Entry) : Type 0 where
+  pub keeps : drop folded entries ≡ kept
+  pub few : folded ≤ length entries
+  -- each entry has a stamp of its own, so they can be counted
+  pub stamps : length entries ≤ last_stamp (past_of config unit entries)
+  pub free : reserved (past_of config unit entries) ≤ spare
+  pub payload : own_payload ≡ payload_in kept
+  pub room : length kept + reserved (past_of config unit entries) ≤ (unit_of config unit).entries
+  pub bytes : payload_in kept ≤ (unit_of config unit).payload

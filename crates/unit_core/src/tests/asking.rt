@@ -4,12 +4,13 @@ ghost use Rattle.cm_history.specs.declared.act.Act.{Act};
 ghost use Rattle.cm_history.specs.declared.act.Actor.{Actor};
 ghost use Rattle.cm_history.specs.Legal.{may_ask};
 
-use crate::Unit;
+use crate::{FoldEnd, Unit};
 use cm_base::{Config, Payload, UnitConfig, UnitList};
 use cm_history::{
     Act, ActRefused, Actor, Answer, CopyEnd, CopyState, OpState, TokenText, within_limits,
 };
 use lba_ranges::{BlockList, Range, RangeList};
+use recorder::MemoryRecorder;
 use std::alloc::Global;
 use std::test::Fail;
 
@@ -320,4 +321,13 @@ pub(crate) fn close_copy(unit: &mut Unit) -> Told
         return Told::Other;
     }
     answered(unit.close_copy(actor, 0, 0, 0, 3, result))
+}
+
+/// Records the kept entries: how that ended, how many are kept, and how many were dropped.
+pub(crate) fn fold(unit: &mut Unit, recorder: &mut MemoryRecorder) -> (FoldEnd, u64, u64)
+    ensures config { unit.new.config ≡ unit.old.config }
+    ensures unit { unit.new.unit ≡ unit.old.unit }
+{
+    let end = unit.fold(recorder);
+    (end, unit.kept(), unit.folded())
 }

@@ -20,7 +20,8 @@ returns-clause-done c = λ config entries h.
       room-left config entries c.args.self.now c.args.unit c.index_mut.result.now c.args.actor c.args.act h at c.in_ok-answer.ensures.room,
       answer-is config entries c.args.self.now c.args.unit c.index_mut.result.now c.args.actor c.args.act h at c.args.moment _ c.in_ok-answer.ensures.answer,
       λ right. done-more config entries c.args.self.now c.args.unit c.index_mut.result.now c.args.actor c.args.act h at _ c.act.new.self c.args.seq c.args.moment
-          (ap (λ i. slice_set c.args.self.now.units.items i c.act.new.self) c.from.ensures) refl c.in_ok-answer.ensures.added
+          (ap (λ i. slice_set c.args.self.now.units.items i c.act.new.self) c.from.ensures) refl
+          c.in_ok-answer.ensures.stands c.in_ok-answer.ensures.kept c.act.ensures.folded c.act.ensures.config c.act.ensures.unit
           (subst (λ k. c.args.unit < length k.units) same c.requires.configured) (subst (λ k. within_limits k c.args.unit c.args.act ≡ true) same c.requires.limits) c.requires.asked right,
       λ right. seq-below c.args.actor entries c.args.seq c.args.self.now.stamp _ right h.stamp
           (stamp-fits config entries c.args.self.now c.args.unit c.index_mut.result.now c.args.actor c.args.act h at (omega arith) c.in_ok-answer.ensures.room),

@@ -1,6 +1,8 @@
 use Rattle.std.proofs.Common.{◌≡◌, ℕ, [], ◌∷◌, ap, sym, ◌∙◌, arith, length, length-append}
 use Rattle.std.specs.Prelude.{slice_get}
 use Rattle.unit_core.specs.UnitState as unit
+use Rattle.unit_core.specs.Unfolded.{IsUnfolded, unfolded}
+use Rattle.unit_core.proofs.PublicLaws.{unfolded-first}
 use Rattle.trace_replay.proofs.UnitActs.{pushed-each}
 use Rattle.trace_replay.proofs.units.Units.new.Goals as goal
 
@@ -8,8 +10,8 @@ pub loop-unit-preserved : goal.loop-unit-preserved
 loop-unit-preserved c =
     let new = c.in_ok-push.ensures.items in (
       omega (arith, ap length new, length-append c.loop-unit.units.items (c.in_ok-new.field-0 ∷ []), c.loop-unit.invariant.0),
-      λ u value e. pushed-each c.loop-unit.units.items c.in_ok-new.field-0 (λ (n : ℕ) (v : unit.UnitState). v ≡ record { config = c.args.config.now; unit = n; entries = [] })
+      λ u value e. pushed-each c.loop-unit.units.items c.in_ok-new.field-0 (λ (n : ℕ) (v : unit.UnitState). (unfolded v ≡ record { config = c.args.config.now; unit = n; entries = [] }) × IsUnfolded v)
           c.loop-unit.invariant.1
-          (c.in_ok-new.ensures ∙ ap (λ (n : ℕ). record { config = c.args.config.now; unit = n; entries = [] }) (sym c.loop-unit.invariant.0)) u value
+          (unfolded-first c.in_ok-new.field-0 c.args.config.now (length c.loop-unit.units.items) c.in_ok-new.ensures.config (c.in_ok-new.ensures.unit ∙ sym c.loop-unit.invariant.0) c.in_ok-new.ensures.kept c.in_ok-new.ensures.folded c.in_ok-new.ensures.stands) u value
           (sym (ap (λ l. slice_get l u) new) ∙ e),
     )

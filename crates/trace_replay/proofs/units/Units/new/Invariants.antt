@@ -1,9 +1,10 @@
 use Rattle.std.proofs.Common.{◌≡◌, ℕ, [], length}
 use Rattle.std.specs.Prelude.{Some, slice_get}
 use Rattle.unit_core.specs.UnitState as unit
+use Rattle.unit_core.specs.Unfolded.{IsUnfolded, unfolded}
 use Rattle.trace_replay.proofs.units.Units.new.Given as goal
 
 abbrev pub invariant-loop-unit : goal.invariant-loop-unit
 invariant-loop-unit l =
     (length l.units.items ≡ l.unit)
-    × ((u : ℕ) (value : unit.UnitState) → slice_get l.units.items u ≡ Some value → value ≡ record { config = l.config; unit = u; entries = [] })
+    × ((u : ℕ) (value : unit.UnitState) → slice_get l.units.items u ≡ Some value → (unfolded value ≡ record { config = l.config; unit = u; entries = [] }) × IsUnfolded value)

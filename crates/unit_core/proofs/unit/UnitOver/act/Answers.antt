@@ -1,62 +1,97 @@
-use Rattle.std.proofs.Common.{◌≡◌, ◌≤◌, ◌<◌, ◌+◌, ℕ, List, true, false, Bool, ◌∙◌, ap, refl, sym, subst, arith}
+use Rattle.std.proofs.Common.{◌≡◌, ◌≤◌, ◌<◌, ◌+◌, ◌-◌, ◌++◌, ◌∷◌, [], ℕ, List, length, true, false, Bool, ◌∙◌, ap, refl, sym, subst, arith}
 use Rattle.std.specs.Prelude.{is_some, max}
 use Rattle.cm_base.specs.Units.{unit_of}
+use Rattle.cm_history.specs.Folding.{StandsFor}
+use Rattle.cm_history.specs.History.{past_of}
+use Rattle.unit_core.specs.UnitState.{Stands}
+use Rattle.unit_core.specs.inner.Agreeing.{TablesAgree}
+use Rattle.unit_core.specs.inner.Shown.{image_shown}
+use Rattle.unit_core.proofs.Standing.{stands-own}
+use Rattle.unit_core.proofs.Steps.{known-of}
+use Rattle.std.specs.Prelude.{Result, Ok, Err, IfErr, IfOk, ◌-◌, ◌^◌}
+use Rattle.cm_base.specs.Configuration.{Configuration}
 use Rattle.lba_ranges.specs.HeldBlocks.{HeldBlocks}
 use Rattle.cm_history.specs.declared.act.Act.{Act}
-use Rattle.cm_history.specs.Operations.{would_serve}
-use Rattle.cm_history.specs.History.{past_of}
-use Rattle.copy_jobs.specs.Jobs as jobs
-use Rattle.unit_core.specs.inner.Tables.{tokens_of}
-use Rattle.unit_core.specs.inner.Planning.{IsPlan}
-use Rattle.unit_core.proofs.Steps.{known-of}
-use Rattle.std.specs.Prelude.{Result, Ok, Err, IfErr}
-use Rattle.cm_base.specs.Configuration.{Configuration}
 use Rattle.cm_history.specs.declared.act.Actor.{Actor}
 use Rattle.cm_history.specs.declared.act.Entry.{Entry}
-use Rattle.cm_history.specs.Deeds.{Deed, moment}
-use Rattle.cm_history.specs.Answers.{deed}
-use Rattle.cm_history.specs.Room.{is_full, reserved, need}
-use Rattle.rod_store.specs.declared.kept.Kept.{Kept}
-use Rattle.cm_history.specs.Answers.{answer_after}
-use Rattle.cm_history.specs.Ends.{ends_operation}
-use Rattle.unit_core.specs.Acting.{MayRedeem}
+use Rattle.cm_history.specs.Operations.{would_serve}
 use Rattle.cm_history.specs.Asked.{IsAsked}
+use Rattle.cm_history.specs.Deeds.{Deed, last_stamp, moment}
+use Rattle.cm_history.specs.Answers.{answer_after, deed}
+use Rattle.cm_history.specs.Ends.{ends_operation}
+use Rattle.cm_history.specs.Forms.{HasForm}
+use Rattle.cm_history.specs.Room.{is_full, reserved, need, payload}
+use Rattle.copy_jobs.specs.Jobs as jobs
+use Rattle.rod_store.specs.declared.kept.Kept.{Kept}
+use Rattle.unit_core.specs.UnitState.{UnitState}
+use Rattle.unit_core.specs.Acting.{MayRedeem}
+use Rattle.unit_core.specs.inner.Agreeing.{RecordAgrees, payload_in}
+use Rattle.unit_core.specs.inner.Planning.{IsPlan}
+use Rattle.unit_core.specs.inner.Tables.{tokens_of}
 use Rattle.unit_core.specs.inner.TokenChanges.{MayToken, tokens_after}
+use Rattle.unit_core.proofs.Forming.{answer-formed}
+use Rattle.unit_core.proofs.Planned.{ends-serves}
 use Rattle.unit_core.proofs.Reserving.{reserved-is}
 use Rattle.unit_core.proofs.Rooms.{full-serving, need-served, reserved-step}
-use Rattle.unit_core.proofs.Planned.{ends-serves}
+use Rattle.unit_core.proofs.Standing.{ends-alike, shown-same}
+use Rattle.unit_core.proofs.Steps.{Done, length-kept, payload-kept, record-more, record-step, tables-same, tables-step}
 use Rattle.unit_core.proofs.TableAnswers.{some-there, redeem-given}
-use Rattle.unit_core.proofs.Steps.{Done, agrees-step}
-use Rattle.unit_core.proofs.Forming.{answer-formed}
-use Rattle.cm_history.specs.Forms.{HasForm}
 use Rattle.unit_core.proofs.unit.UnitOver.act.Goals as goal
 
 if-err : {T F : Type 0} (r : Result T F) (P : F → Type 0) → ((e : F) → P e) → IfErr r P
 if-err (Ok x) P h = tt
 if-err (Err e) P h = h e
 
+pub plan-requires-clause-known : goal.plan-requires-clause-known
+plan-requires-clause-known g c = (c.self.invariant.0, c.self.invariant.1)
+
+pub need-requires-clause-known : goal.need-requires-clause-known
+need-requires-clause-known g c = (c.self.invariant.0, c.self.invariant.1)
+
+pub returns-then-is_full-clause-full : goal.returns-then-is_full-clause-full
+returns-then-is_full-clause-full g c = λ e h s. sym (c.is_full.ensures h s) ∙ c.if-is_full.true
+
 pub returns-then-is_full-clause-serves : goal.returns-then-is_full-clause-serves
-returns-then-is_full-clause-serves g c =
+returns-then-is_full-clause-serves g c = λ e h s serves.
     let u = c.self.inside in
-    let entries = u.history.entries in
-    let past = past_of u.config u.unit entries in
-    let known = known-of u.config u.unit entries c.self.invariant.record_is in
-    let limit = unit_of u.config u.unit in
-    let full : is_full limit 0 past c.args.actor c.args.stamp c.args.act ≡ true = rw (← c.self.view_is) at (sym c.is_full.ensures ∙ c.if-is_full.true) in
-    λ e s. (let serves : is_some (would_serve past c.args.actor c.args.act) ≡ true = rw (← c.self.view_is) at s in
-    rw (← c.self.view_is) (full-serving limit past c.args.actor c.args.stamp c.args.act c.self.invariant.room.payload c.self.invariant.room.entries serves full))
+    let o = u.core in
+    let w = c.self.invariant.0 in
+    let t : TablesAgree o.config o.unit (g.B.Blocks.blocks o.tables.blocks) (g.B.Blocks.block_length o.tables.blocks) (g.B.Blocks.holds o.tables.blocks) o.tables.tokens o.tables.jobs o.last_stamp o.moment w = c.self.invariant.1 in
+    let r = c.self.invariant.2 in
+    let past = past_of o.config o.unit w in
+    let known = known-of o.config o.unit w t.record_is in
+    let limit = unit_of o.config o.unit in
+    let own = stands-own o.config o.unit u.history.entries u.folded u.history.spare u.payload (g.B.Blocks.blocks o.tables.blocks) (g.B.Blocks.block_length o.tables.blocks) (g.B.Blocks.holds o.tables.blocks) o.tables.tokens o.tables.jobs o.last_stamp o.moment w t r in
+    let shown = image_shown o.moment o.last_stamp (u.folded + length u.history.entries) (g.B.Blocks.blocks o.tables.blocks) (g.B.Blocks.holds o.tables.blocks) o.tables.tokens.tokens o.tables.jobs in
+    let stood : StandsFor o.config o.unit shown u.history.entries u.folded h = rw (← c.self.view_is) at s in
+    let p = c.standing_law.ensures shown u.history.entries u.folded h w stood own in
+    let standing : Stands c.args.self.now w = rw (← c.self.view_is) own in
+    let full : is_full limit u.folded past c.args.actor c.args.stamp c.args.act ≡ true = rw (← c.self.view_is) at (sym (c.is_full.ensures w standing) ∙ c.if-is_full.true) in
+    let count : length past - u.folded ≡ length u.history.entries = length-kept o.config o.unit u.history.entries u.folded w t.record_is.own r.keeps in
+    let bytes : payload u.folded past ≡ payload_in u.history.entries = payload-kept o.config o.unit u.history.entries u.folded w t.record_is.own r.keeps in
+    let served : is_some (would_serve past c.args.actor c.args.act) ≡ true = sym (p.serves c.args.actor c.args.act) ∙ (rw (← c.self.view_is) at serves) in
+    rw (← c.self.view_is) (ap (max c.args.stamp) t.stamp
+    ∙ full-serving limit u.folded past c.args.actor c.args.stamp c.args.act (omega (arith, bytes, r.bytes)) (omega (arith, count, r.room)) served full)
 
 pub returns-in_err-reserve-clause-ends : goal.returns-in_err-reserve-clause-ends
 returns-in_err-reserve-clause-ends g c =
     let u = c.self.inside in
-    let entries = u.history.entries in
-    let past = past_of u.config u.unit entries in
-    let known = known-of u.config u.unit entries c.self.invariant.record_is in
-    let limit = unit_of u.config u.unit in
-    let free : c.reserved.result ≡ reserved past = c.reserved.ensures.reserved ∙ ap jobs.reserved c.self.invariant.jobs.jobs ∙ reserved-is u.config u.unit past known.is in
-    let needed : c.need.result ≡ need past c.args.actor c.args.act = rw (← c.self.view_is) at c.need.ensures.need in
-    let never : ends_operation past c.args.actor c.args.act ≡ false = go u.config u.unit past c.args.actor c.args.act u.history.spare c.reserved.result c.need.result free needed c.self.invariant.jobs.free c.in_err-reserve.ensures.needed (ends_operation past c.args.actor c.args.act) refl in
-    if-err c.from_residual-in_err-reserve.result _ (λ f same. rw (← c.self.view_is) never)
+    let o = u.core in
+    let w = c.self.invariant.0 in
+    let t : TablesAgree o.config o.unit (g.B.Blocks.blocks o.tables.blocks) (g.B.Blocks.block_length o.tables.blocks) (g.B.Blocks.holds o.tables.blocks) o.tables.tokens o.tables.jobs o.last_stamp o.moment w = c.self.invariant.1 in
+    let r = c.self.invariant.2 in
+    let past = past_of o.config o.unit w in
+    let known = known-of o.config o.unit w t.record_is in
+    let limit = unit_of o.config o.unit in
+    let own = stands-own o.config o.unit u.history.entries u.folded u.history.spare u.payload (g.B.Blocks.blocks o.tables.blocks) (g.B.Blocks.block_length o.tables.blocks) (g.B.Blocks.holds o.tables.blocks) o.tables.tokens o.tables.jobs o.last_stamp o.moment w t r in
+    let free : c.reserved.result ≡ reserved past = c.reserved.ensures.reserved ∙ ap jobs.reserved t.jobs ∙ reserved-is o.config o.unit past known.is in
+    let needed : c.need.result ≡ need past c.args.actor c.args.act = c.need.ensures.need w t in
+    let never : ends_operation past c.args.actor c.args.act ≡ false = go o.config o.unit past c.args.actor c.args.act u.history.spare c.reserved.result c.need.result free needed r.free c.in_err-reserve.ensures.needed (ends_operation past c.args.actor c.args.act) refl in
+    if-err c.from_residual-in_err-reserve.result _ (λ f same h s.
+        let shown = image_shown o.moment o.last_stamp (u.folded + length u.history.entries) (g.B.Blocks.blocks o.tables.blocks) (g.B.Blocks.holds o.tables.blocks) o.tables.tokens.tokens o.tables.jobs in
+        let stood : StandsFor o.config o.unit shown u.history.entries u.folded h = rw (← c.self.view_is) at s in
+        let p = c.standing_law.ensures shown u.history.entries u.folded h w stood own in
+        rw (← c.self.view_is) (ends-alike (past_of o.config o.unit h) past c.args.actor c.args.act (p.serves c.args.actor c.args.act) ∙ never))
   where
     go : (config : Configuration) (unit : ℕ) (past : List Deed) (actor : Actor) (act : Act) (spare own more : ℕ) → own ≡ reserved past → more ≡ need past actor act → reserved past ≤ spare → spare < own + more
         → (t : Bool) → ends_operation past actor act ≡ t → t ≡ false
@@ -70,77 +105,182 @@ returns-in_err-reserve-clause-ends g c =
 pub change-requires-clause-tokens : goal.change-requires-clause-tokens
 change-requires-clause-tokens g c =
     let u = c.self.inside in
-    let entries = u.history.entries in
-    let past = past_of u.config u.unit entries in
-    let known = known-of u.config u.unit entries c.self.invariant.record_is in
-    let limit = unit_of u.config u.unit in
-    let planned : IsPlan u.config u.unit past c.args.actor c.args.moment c.args.act c.in_ok-plan.plan = rw (← c.self.view_is) at c.in_ok-plan.ensures.planned in
-    let now : c.max-now.result ≡ max c.args.moment (moment past) = c.max-now.ensures ∙ ap (max c.args.moment) c.self.invariant.counters.moment in
-    let p = c.in_ok-plan.plan.tokens in
+    let o = u.core in
+    let w = c.self.invariant.0 in
+    let t : TablesAgree o.config o.unit (g.B.Blocks.blocks o.tables.blocks) (g.B.Blocks.block_length o.tables.blocks) (g.B.Blocks.holds o.tables.blocks) o.tables.tokens o.tables.jobs o.last_stamp o.moment w = c.self.invariant.1 in
+    let r = c.self.invariant.2 in
+    let past = past_of o.config o.unit w in
+    let known = known-of o.config o.unit w t.record_is in
+    let limit = unit_of o.config o.unit in
+    let planned : IsPlan o.config o.unit past c.args.actor c.args.moment c.args.act c.in_ok-plan.plan = c.in_ok-plan.ensures.planned w t in
+    let now : c.max-now.result ≡ max c.args.moment (moment past) = c.max-now.ensures ∙ ap (max c.args.moment) t.moment in
+    let k = c.in_ok-plan.plan.tokens in
     λ spare h. (let may = planned.may_tokens spare h in
-    let moved = subst (λ (n : ℕ). MayToken (record { unit = u.unit; tokens = tokens_of limit past; spare = spare }) n p) (sym now) may in
-    let owned = subst (λ (n : ℕ). MayToken (record { unit = n; tokens = tokens_of limit past; spare = spare }) c.max-now.result p) (sym c.self.invariant.tokens.unit) moved in
-    subst (λ (l : List (Kept HeldBlocks)). MayToken (record { unit = u.tables.tokens.unit; tokens = l; spare = spare }) c.max-now.result p) (sym c.self.invariant.tokens.tokens) owned)
+    let moved = subst (λ (n : ℕ). MayToken (record { unit = o.unit; tokens = tokens_of limit past; spare = spare }) n k) (sym now) may in
+    let owned = subst (λ (n : ℕ). MayToken (record { unit = n; tokens = tokens_of limit past; spare = spare }) c.max-now.result k) (sym t.tokens.unit) moved in
+    subst (λ (l : List (Kept HeldBlocks)). MayToken (record { unit = o.tables.tokens.unit; tokens = l; spare = spare }) c.max-now.result k) (sym t.tokens.tokens) owned)
 
 pub append-requires : goal.append-requires
 append-requires g c =
     let u = c.self.inside in
-    let entries = u.history.entries in
-    let past = past_of u.config u.unit entries in
-    let known = known-of u.config u.unit entries c.self.invariant.record_is in
-    let limit = unit_of u.config u.unit in
-    let e : Entry = record { stamp = c.max.result + 1; unit = u.unit; actor = c.args.actor; seq = c.args.seq; moment = c.args.moment; act = c.args.act } in
-    let asked : IsAsked u.config u.unit (deed u.config u.unit past e) = record { limits = rw (← c.self.view_is) at c.requires.limits; asked = rw (← c.self.view_is) at c.requires.asked } in
-    let free : c.reserved.result ≡ reserved past = c.reserved.ensures.reserved ∙ ap jobs.reserved c.self.invariant.jobs.jobs ∙ reserved-is u.config u.unit past known.is in
-    let needed : c.need.result ≡ need past c.args.actor c.args.act = rw (← c.self.view_is) at c.need.ensures.need in
-    let takes = reserved-step u.config u.unit past (deed u.config u.unit past e) known asked refl in
+    let o = u.core in
+    let w = c.self.invariant.0 in
+    let t : TablesAgree o.config o.unit (g.B.Blocks.blocks o.tables.blocks) (g.B.Blocks.block_length o.tables.blocks) (g.B.Blocks.holds o.tables.blocks) o.tables.tokens o.tables.jobs o.last_stamp o.moment w = c.self.invariant.1 in
+    let r = c.self.invariant.2 in
+    let past = past_of o.config o.unit w in
+    let known = known-of o.config o.unit w t.record_is in
+    let limit = unit_of o.config o.unit in
+    let e : Entry = record { stamp = c.max.result + 1; unit = o.unit; actor = c.args.actor; seq = c.args.seq; moment = c.args.moment; act = c.args.act } in
+    let asked : IsAsked o.config o.unit (deed o.config o.unit past e) = record { limits = rw (← c.self.view_is) at c.requires.limits; asked = rw (← c.self.view_is) at c.requires.asked } in
+    let free : c.reserved.result ≡ reserved past = c.reserved.ensures.reserved ∙ ap jobs.reserved t.jobs ∙ reserved-is o.config o.unit past known.is in
+    let needed : c.need.result ≡ need past c.args.actor c.args.act = c.need.ensures.need w t in
+    let takes = reserved-step o.config o.unit past (deed o.config o.unit past e) known asked refl in
     omega (arith, free, needed, takes, c.in_ok-reserve.ensures.room)
 
 pub invariant_of-self-2 : goal.invariant_of-self-2
 invariant_of-self-2 g c =
     let u = c.self.inside in
-    let entries = u.history.entries in
-    let past = past_of u.config u.unit entries in
-    let known = known-of u.config u.unit entries c.self.invariant.record_is in
-    let limit = unit_of u.config u.unit in
-    let e : Entry = record { stamp = c.max.result + 1; unit = u.unit; actor = c.args.actor; seq = c.args.seq; moment = c.args.moment; act = c.args.act } in
-    let asked : IsAsked u.config u.unit (deed u.config u.unit past e) = record { limits = rw (← c.self.view_is) at c.requires.limits; asked = rw (← c.self.view_is) at c.requires.asked } in
-    let free : c.reserved.result ≡ reserved past = c.reserved.ensures.reserved ∙ ap jobs.reserved c.self.invariant.jobs.jobs ∙ reserved-is u.config u.unit past known.is in
-    let needed : c.need.result ≡ need past c.args.actor c.args.act = rw (← c.self.view_is) at c.need.ensures.need in
-    let planned : IsPlan u.config u.unit past c.args.actor c.args.moment c.args.act c.in_ok-plan.plan = rw (← c.self.view_is) at c.in_ok-plan.ensures.planned in
-    let now : c.max-now.result ≡ max c.args.moment (moment past) = c.max-now.ensures ∙ ap (max c.args.moment) c.self.invariant.counters.moment in
-    let full : is_full limit 0 past c.args.actor c.args.stamp c.args.act ≡ false = rw (← c.self.view_is) at (sym c.is_full.ensures ∙ c.if-is_full.false) in
-    let t = c.change.new.self in
-    let done : Done u.config u.unit entries e c.in_ok-plan.plan (g.B.Blocks.blocks u.tables.blocks) (g.B.Blocks.block_length u.tables.blocks) (g.B.Blocks.blocks t.blocks) (g.B.Blocks.block_length t.blocks)
-    (g.B.Blocks.holds u.tables.blocks) (g.B.Blocks.holds t.blocks) u.tables.tokens t.tokens u.tables.jobs t.jobs = record {
+    let o = u.core in
+    let w = c.self.invariant.0 in
+    let t : TablesAgree o.config o.unit (g.B.Blocks.blocks o.tables.blocks) (g.B.Blocks.block_length o.tables.blocks) (g.B.Blocks.holds o.tables.blocks) o.tables.tokens o.tables.jobs o.last_stamp o.moment w = c.self.invariant.1 in
+    let r = c.self.invariant.2 in
+    let past = past_of o.config o.unit w in
+    let known = known-of o.config o.unit w t.record_is in
+    let limit = unit_of o.config o.unit in
+    let own = stands-own o.config o.unit u.history.entries u.folded u.history.spare u.payload (g.B.Blocks.blocks o.tables.blocks) (g.B.Blocks.block_length o.tables.blocks) (g.B.Blocks.holds o.tables.blocks) o.tables.tokens o.tables.jobs o.last_stamp o.moment w t r in
+    let standing : Stands c.args.self.now w = rw (← c.self.view_is) own in
+    let e : Entry = record { stamp = c.max.result + 1; unit = o.unit; actor = c.args.actor; seq = c.args.seq; moment = c.args.moment; act = c.args.act } in
+    let asked : IsAsked o.config o.unit (deed o.config o.unit past e) = record { limits = rw (← c.self.view_is) at c.requires.limits; asked = rw (← c.self.view_is) at c.requires.asked } in
+    let free : c.reserved.result ≡ reserved past = c.reserved.ensures.reserved ∙ ap jobs.reserved t.jobs ∙ reserved-is o.config o.unit past known.is in
+    let needed : c.need.result ≡ need past c.args.actor c.args.act = c.need.ensures.need w t in
+    let planned : IsPlan o.config o.unit past c.args.actor c.args.moment c.args.act c.in_ok-plan.plan = c.in_ok-plan.ensures.planned w t in
+    let now : c.max-now.result ≡ max c.args.moment (moment past) = c.max-now.ensures ∙ ap (max c.args.moment) t.moment in
+    let full : is_full limit u.folded past c.args.actor c.args.stamp c.args.act ≡ false = rw (← c.self.view_is) at (sym (c.is_full.ensures w standing) ∙ c.if-is_full.false) in
+    let k = c.change.new.self in
+    let done : Done o.config o.unit w e c.in_ok-plan.plan (g.B.Blocks.blocks o.tables.blocks) (g.B.Blocks.block_length o.tables.blocks) (g.B.Blocks.blocks k.blocks) (g.B.Blocks.block_length k.blocks)
+    (g.B.Blocks.holds o.tables.blocks) (g.B.Blocks.holds k.blocks) o.tables.tokens k.tokens o.tables.jobs k.jobs = record {
       planned = planned;
       count = c.change.ensures.blocks;
       long = c.change.ensures.length;
       put = c.in_ok-answer.ensures.wrote;
       own = c.change.ensures.unit;
-      kept = c.in_ok-answer.ensures.tokens ∙ ap (λ n. tokens_after c.in_ok-plan.plan.tokens n u.tables.tokens.tokens) now;
+      kept = c.in_ok-answer.ensures.tokens ∙ ap (λ n. tokens_after c.in_ok-plan.plan.tokens n o.tables.tokens.tokens) now;
       changed = c.in_ok-answer.ensures.jobs;
     } in
+    let tables = tables-step o.config o.unit w e c.in_ok-plan.plan
+    (g.B.Blocks.blocks o.tables.blocks) (g.B.Blocks.block_length o.tables.blocks) (g.B.Blocks.blocks k.blocks) (g.B.Blocks.block_length k.blocks) (g.B.Blocks.holds o.tables.blocks) (g.B.Blocks.holds k.blocks) o.tables.tokens k.tokens o.tables.jobs k.jobs
+    o.last_stamp o.moment c.max-now.result t refl asked done c.max-now.ensures in
     let spare : reserved past + need past c.args.actor c.args.act ≤ c.append.new.self.spare + 1 = omega (arith, free, needed, c.in_ok-reserve.ensures.room, c.append.ensures.room) in
-    rw (c.append.ensures.added, c.in_ok-reserve.ensures.same)
-    (agrees-step u.config u.unit entries e c.args.stamp c.in_ok-plan.plan u.history.spare c.append.new.self.spare
-    (g.B.Blocks.blocks u.tables.blocks) (g.B.Blocks.block_length u.tables.blocks) (g.B.Blocks.blocks t.blocks) (g.B.Blocks.block_length t.blocks)
-    (g.B.Blocks.holds u.tables.blocks) (g.B.Blocks.holds t.blocks) u.tables.tokens t.tokens u.tables.jobs t.jobs u.last_stamp u.moment u.payload c.max-now.result (u.payload + c.bytes_in.result)
-    c.self.invariant refl asked full done spare c.max-now.ensures (ap (λ n. u.payload + n) c.bytes_in.ensures))
+    let later : last_stamp past + 1 ≤ c.max.result + 1 = omega (arith, c.max.ensures, t.stamp) in
+    let kept : c.append.new.self.entries ≡ u.history.entries ++ e ∷ [] = c.append.ensures.added ∙ ap (λ l. l ++ e ∷ []) c.in_ok-reserve.ensures.same in
+    let record_now = record-step o.config o.unit u.history.entries u.folded u.history.spare c.append.new.self.spare u.payload (u.payload + c.bytes_in.result) w e c.args.stamp
+    r t.record_is refl asked later full spare (ap (λ n. u.payload + n) c.bytes_in.ensures) in
+    rw kept (w ++ e ∷ [], tables, record_now)
+
+pub returns-clause-answer : goal.returns-clause-answer
+returns-clause-answer g c = λ h s.
+    let u = c.self.inside in
+    let o = u.core in
+    let w = c.self.invariant.0 in
+    let t : TablesAgree o.config o.unit (g.B.Blocks.blocks o.tables.blocks) (g.B.Blocks.block_length o.tables.blocks) (g.B.Blocks.holds o.tables.blocks) o.tables.tokens o.tables.jobs o.last_stamp o.moment w = c.self.invariant.1 in
+    let r = c.self.invariant.2 in
+    let past = past_of o.config o.unit w in
+    let known = known-of o.config o.unit w t.record_is in
+    let limit = unit_of o.config o.unit in
+    let own = stands-own o.config o.unit u.history.entries u.folded u.history.spare u.payload (g.B.Blocks.blocks o.tables.blocks) (g.B.Blocks.block_length o.tables.blocks) (g.B.Blocks.holds o.tables.blocks) o.tables.tokens o.tables.jobs o.last_stamp o.moment w t r in
+    let shown = image_shown o.moment o.last_stamp (u.folded + length u.history.entries) (g.B.Blocks.blocks o.tables.blocks) (g.B.Blocks.holds o.tables.blocks) o.tables.tokens.tokens o.tables.jobs in
+    let stood : StandsFor o.config o.unit shown u.history.entries u.folded h = rw (← c.self.view_is) at s in
+    let p = c.standing_law.ensures shown u.history.entries u.folded h w stood own in
+    let planned : IsPlan o.config o.unit past c.args.actor c.args.moment c.args.act c.in_ok-plan.plan = c.in_ok-plan.ensures.planned w t in
+    rw (← c.self.view_is) (c.in_ok-answer.ensures.answer ∙ planned.answer ∙ sym (p.alike c.args.actor c.args.moment c.args.act))
+
+pub returns-clause-room : goal.returns-clause-room
+returns-clause-room g c = λ h s. sym (c.is_full.ensures h s) ∙ c.if-is_full.false
+
+pub returns-clause-kept : goal.returns-clause-kept
+returns-clause-kept g c =
+    let o = c.self.inside.core in
+    rw (← c.self.view_is, ← c.max.ensures) (c.append.ensures.added ∙ ap (λ l. l ++ _ ∷ []) c.in_ok-reserve.ensures.same)
+
+pub returns-clause-stands : goal.returns-clause-stands
+returns-clause-stands g c = λ h s.
+    let u = c.self.inside in
+    let o = u.core in
+    let w = c.self.invariant.0 in
+    let t : TablesAgree o.config o.unit (g.B.Blocks.blocks o.tables.blocks) (g.B.Blocks.block_length o.tables.blocks) (g.B.Blocks.holds o.tables.blocks) o.tables.tokens o.tables.jobs o.last_stamp o.moment w = c.self.invariant.1 in
+    let r = c.self.invariant.2 in
+    let past = past_of o.config o.unit w in
+    let known = known-of o.config o.unit w t.record_is in
+    let limit = unit_of o.config o.unit in
+    let own = stands-own o.config o.unit u.history.entries u.folded u.history.spare u.payload (g.B.Blocks.blocks o.tables.blocks) (g.B.Blocks.block_length o.tables.blocks) (g.B.Blocks.holds o.tables.blocks) o.tables.tokens o.tables.jobs o.last_stamp o.moment w t r in
+    let shown = image_shown o.moment o.last_stamp (u.folded + length u.history.entries) (g.B.Blocks.blocks o.tables.blocks) (g.B.Blocks.holds o.tables.blocks) o.tables.tokens.tokens o.tables.jobs in
+    let stood : StandsFor o.config o.unit shown u.history.entries u.folded h = rw (← c.self.view_is) at s in
+    let p = c.standing_law.ensures shown u.history.entries u.folded h w stood own in
+    let standing : Stands c.args.self.now w = rw (← c.self.view_is) own in
+    let e : Entry = record { stamp = c.max.result + 1; unit = o.unit; actor = c.args.actor; seq = c.args.seq; moment = c.args.moment; act = c.args.act } in
+    let asked : IsAsked o.config o.unit (deed o.config o.unit past e) = record { limits = rw (← c.self.view_is) at c.requires.limits; asked = rw (← c.self.view_is) at c.requires.asked } in
+    let free : c.reserved.result ≡ reserved past = c.reserved.ensures.reserved ∙ ap jobs.reserved t.jobs ∙ reserved-is o.config o.unit past known.is in
+    let needed : c.need.result ≡ need past c.args.actor c.args.act = c.need.ensures.need w t in
+    let planned : IsPlan o.config o.unit past c.args.actor c.args.moment c.args.act c.in_ok-plan.plan = c.in_ok-plan.ensures.planned w t in
+    let now : c.max-now.result ≡ max c.args.moment (moment past) = c.max-now.ensures ∙ ap (max c.args.moment) t.moment in
+    let full : is_full limit u.folded past c.args.actor c.args.stamp c.args.act ≡ false = rw (← c.self.view_is) at (sym (c.is_full.ensures w standing) ∙ c.if-is_full.false) in
+    let k = c.change.new.self in
+    let done : Done o.config o.unit w e c.in_ok-plan.plan (g.B.Blocks.blocks o.tables.blocks) (g.B.Blocks.block_length o.tables.blocks) (g.B.Blocks.blocks k.blocks) (g.B.Blocks.block_length k.blocks)
+    (g.B.Blocks.holds o.tables.blocks) (g.B.Blocks.holds k.blocks) o.tables.tokens k.tokens o.tables.jobs k.jobs = record {
+      planned = planned;
+      count = c.change.ensures.blocks;
+      long = c.change.ensures.length;
+      put = c.in_ok-answer.ensures.wrote;
+      own = c.change.ensures.unit;
+      kept = c.in_ok-answer.ensures.tokens ∙ ap (λ n. tokens_after c.in_ok-plan.plan.tokens n o.tables.tokens.tokens) now;
+      changed = c.in_ok-answer.ensures.jobs;
+    } in
+    let tables = tables-step o.config o.unit w e c.in_ok-plan.plan
+    (g.B.Blocks.blocks o.tables.blocks) (g.B.Blocks.block_length o.tables.blocks) (g.B.Blocks.blocks k.blocks) (g.B.Blocks.block_length k.blocks) (g.B.Blocks.holds o.tables.blocks) (g.B.Blocks.holds k.blocks) o.tables.tokens k.tokens o.tables.jobs k.jobs
+    o.last_stamp o.moment c.max-now.result t refl asked done c.max-now.ensures in
+    let spare : reserved past + need past c.args.actor c.args.act ≤ c.append.new.self.spare + 1 = omega (arith, free, needed, c.in_ok-reserve.ensures.room, c.append.ensures.room) in
+    let later : last_stamp past + 1 ≤ c.max.result + 1 = omega (arith, c.max.ensures, t.stamp) in
+    let kept : c.append.new.self.entries ≡ u.history.entries ++ e ∷ [] = c.append.ensures.added ∙ ap (λ l. l ++ e ∷ []) c.in_ok-reserve.ensures.same in
+    let record_now = record-step o.config o.unit u.history.entries u.folded u.history.spare c.append.new.self.spare u.payload (u.payload + c.bytes_in.result) w e c.args.stamp
+    r t.record_is refl asked later full spare (ap (λ n. u.payload + n) c.bytes_in.ensures) in
+    let q = c.standing_law.ensures shown u.history.entries u.folded w h own stood in
+    let own-now = stands-own o.config o.unit (u.history.entries ++ e ∷ []) u.folded c.append.new.self.spare (u.payload + c.bytes_in.result) (g.B.Blocks.blocks k.blocks) (g.B.Blocks.block_length k.blocks) (g.B.Blocks.holds k.blocks)
+    k.tokens k.jobs (c.max.result + 1) c.max-now.result (w ++ e ∷ []) tables record_now in
+    let all = subst (λ j. StandsFor o.config o.unit j (u.history.entries ++ e ∷ []) u.folded (h ++ e ∷ [])) own-now.image (q.more e refl asked.limits asked.asked) in
+    rw (← c.self.view_is, ← c.max.ensures, kept) all
 
 pub returns-clause-redeems : goal.returns-clause-redeems
-returns-clause-redeems g c =
+returns-clause-redeems g c = λ h s text target x e may.
     let u = c.self.inside in
-    let past = past_of u.config u.unit u.history.entries in
-    let planned : IsPlan u.config u.unit past c.args.actor c.args.moment c.args.act c.in_ok-plan.plan = rw (← c.self.view_is) at c.in_ok-plan.ensures.planned in
-    λ text target t e may. (let may' : MayRedeem (record { config = u.config; unit = u.unit; entries = u.history.entries }) c.args.moment text target t = rw (← c.self.view_is) at may in
-    rw (← c.self.view_is) (c.in_ok-answer.ensures.answer ∙ planned.answer ∙ ap (answer_after u.config u.unit past c.args.actor c.args.moment) e
-    ∙ redeem-given (record { config = u.config; unit = u.unit; entries = u.history.entries }) c.args.actor c.args.moment text target t may'))
+    let o = u.core in
+    let w = c.self.invariant.0 in
+    let t : TablesAgree o.config o.unit (g.B.Blocks.blocks o.tables.blocks) (g.B.Blocks.block_length o.tables.blocks) (g.B.Blocks.holds o.tables.blocks) o.tables.tokens o.tables.jobs o.last_stamp o.moment w = c.self.invariant.1 in
+    let r = c.self.invariant.2 in
+    let past = past_of o.config o.unit w in
+    let known = known-of o.config o.unit w t.record_is in
+    let limit = unit_of o.config o.unit in
+    let own = stands-own o.config o.unit u.history.entries u.folded u.history.spare u.payload (g.B.Blocks.blocks o.tables.blocks) (g.B.Blocks.block_length o.tables.blocks) (g.B.Blocks.holds o.tables.blocks) o.tables.tokens o.tables.jobs o.last_stamp o.moment w t r in
+    let shown = image_shown o.moment o.last_stamp (u.folded + length u.history.entries) (g.B.Blocks.blocks o.tables.blocks) (g.B.Blocks.holds o.tables.blocks) o.tables.tokens.tokens o.tables.jobs in
+    let stood : StandsFor o.config o.unit shown u.history.entries u.folded h = rw (← c.self.view_is) at s in
+    let p = c.standing_law.ensures shown u.history.entries u.folded h w stood own in
+    let planned : IsPlan o.config o.unit past c.args.actor c.args.moment c.args.act c.in_ok-plan.plan = c.in_ok-plan.ensures.planned w t in
+    let seen : UnitState = record { config = o.config; unit = o.unit; kept = u.history.entries; folded = u.folded; image = shown } in
+    let may' : MayRedeem seen h c.args.moment text target x = rw (← c.self.view_is) at may in
+    rw (← c.self.view_is) (c.in_ok-answer.ensures.answer ∙ planned.answer ∙ sym (p.alike c.args.actor c.args.moment c.args.act)
+    ∙ ap (answer_after o.config o.unit (past_of o.config o.unit h) c.args.actor c.args.moment) e
+    ∙ redeem-given seen h c.args.actor c.args.moment text target x may')
 
 pub returns-clause-form : goal.returns-clause-form
 returns-clause-form g c =
     let u = c.self.inside in
-    let past = past_of u.config u.unit u.history.entries in
-    let planned : IsPlan u.config u.unit past c.args.actor c.args.moment c.args.act c.in_ok-plan.plan = rw (← c.self.view_is) at c.in_ok-plan.ensures.planned in
-    let told : c.in_ok-answer.answer ≡ answer_after u.config u.unit past c.args.actor c.args.moment c.args.act = c.in_ok-answer.ensures.answer ∙ planned.answer in
-    rw (← c.self.view_is) (subst (HasForm u.config u.unit c.args.act) (sym told) (answer-formed u.config u.history.entries u.unit c.args.actor c.args.moment c.args.act c.self.invariant.record_is))
+    let o = u.core in
+    let w = c.self.invariant.0 in
+    let t : TablesAgree o.config o.unit (g.B.Blocks.blocks o.tables.blocks) (g.B.Blocks.block_length o.tables.blocks) (g.B.Blocks.holds o.tables.blocks) o.tables.tokens o.tables.jobs o.last_stamp o.moment w = c.self.invariant.1 in
+    let r = c.self.invariant.2 in
+    let past = past_of o.config o.unit w in
+    let known = known-of o.config o.unit w t.record_is in
+    let limit = unit_of o.config o.unit in
+    let planned : IsPlan o.config o.unit past c.args.actor c.args.moment c.args.act c.in_ok-plan.plan = c.in_ok-plan.ensures.planned w t in
+    let told : c.in_ok-answer.answer ≡ answer_after o.config o.unit past c.args.actor c.args.moment c.args.act = c.in_ok-answer.ensures.answer ∙ planned.answer in
+    rw (← c.self.view_is) (subst (HasForm o.config o.unit c.args.act) (sym told) (answer-formed o.config w o.unit c.args.actor c.args.moment c.args.act t.record_is))
+

@@ -1,9 +1,29 @@
-use Rattle.unit_core.proofs.Steps.{agrees-start}
+use Rattle.std.proofs.Common.{◌≡◌, ◌≤◌, ◌<◌, ◌+◌, ◌-◌, ◌++◌, ◌∷◌, [], ℕ, List, length, true, false, Bool, ◌∙◌, ap, refl, sym, subst, arith}
+use Rattle.std.specs.Prelude.{is_some, max}
+use Rattle.cm_base.specs.Units.{unit_of}
+use Rattle.cm_history.specs.Folding.{StandsFor}
+use Rattle.cm_history.specs.History.{past_of}
+use Rattle.unit_core.specs.UnitState.{Stands}
+use Rattle.unit_core.specs.inner.Agreeing.{TablesAgree}
+use Rattle.unit_core.specs.inner.Shown.{image_shown}
+use Rattle.unit_core.proofs.Standing.{stands-own}
+use Rattle.unit_core.proofs.Steps.{known-of}
+use Rattle.unit_core.proofs.Steps.{tables-start, record-start}
 use Rattle.unit_core.proofs.unit.UnitOver.new.Goals as goal
 
 pub invariant_of-result : goal.invariant_of-result
 invariant_of-result g c =
-    let t = c.in_ok-tables.tables in
-    rw (c.in_ok-config.ensures, c.empty.ensures)
-    (agrees-start c.args.config.now c.args.unit (g.B.Blocks.blocks t.blocks) (g.B.Blocks.block_length t.blocks) (g.B.Blocks.holds t.blocks) t.tokens t.jobs
-    c.requires c.in_ok-tables.ensures.limits c.in_ok-tables.ensures.blocks c.in_ok-tables.ensures.length c.in_ok-tables.ensures.unmapped c.in_ok-tables.ensures.unit c.in_ok-tables.ensures.tokens c.in_ok-tables.ensures.jobs)
+    let k = c.in_ok-tables.tables in
+    let t : TablesAgree c.args.config.now c.args.unit (g.B.Blocks.blocks k.blocks) (g.B.Blocks.block_length k.blocks) (g.B.Blocks.holds k.blocks) k.tokens k.jobs 0 0 [] =
+    tables-start c.args.config.now c.args.unit (g.B.Blocks.blocks k.blocks) (g.B.Blocks.block_length k.blocks) (g.B.Blocks.holds k.blocks) k.tokens k.jobs
+    c.requires c.in_ok-tables.ensures.limits c.in_ok-tables.ensures.blocks c.in_ok-tables.ensures.length c.in_ok-tables.ensures.unmapped c.in_ok-tables.ensures.unit c.in_ok-tables.ensures.tokens c.in_ok-tables.ensures.jobs in
+    rw (c.in_ok-config.ensures, c.empty.ensures) ([], t, record-start c.args.config.now c.args.unit)
+
+pub returns-clause-stands : goal.returns-clause-stands
+returns-clause-stands g c =
+    let k = c.in_ok-tables.tables in
+    let t : TablesAgree c.args.config.now c.args.unit (g.B.Blocks.blocks k.blocks) (g.B.Blocks.block_length k.blocks) (g.B.Blocks.holds k.blocks) k.tokens k.jobs 0 0 [] =
+    tables-start c.args.config.now c.args.unit (g.B.Blocks.blocks k.blocks) (g.B.Blocks.block_length k.blocks) (g.B.Blocks.holds k.blocks) k.tokens k.jobs
+    c.requires c.in_ok-tables.ensures.limits c.in_ok-tables.ensures.blocks c.in_ok-tables.ensures.length c.in_ok-tables.ensures.unmapped c.in_ok-tables.ensures.unit c.in_ok-tables.ensures.tokens c.in_ok-tables.ensures.jobs in
+    rw (c.in_ok-config.ensures, c.empty.ensures) (stands-own c.args.config.now c.args.unit [] 0 0 0 (g.B.Blocks.blocks k.blocks) (g.B.Blocks.block_length k.blocks) (g.B.Blocks.holds k.blocks) k.tokens k.jobs 0 0 [] t (record-start c.args.config.now c.args.unit))
+

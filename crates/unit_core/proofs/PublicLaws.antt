@@ -1,0 +1,3 @@
+-- The lemmas of unit_core that other crates may cite
+pub use Rattle.unit_core.proofs.UnfoldedActs.{unfolded-after, unfolded-entry, unfolded-first, unfolded-full, unfolded-grown}
+pub use Rattle.unit_core.proofs.Folds.{first-any}

@@ -1,0 +1,44 @@
+// What a unit answers from. It has no record: its clauses speak of each list of entries that makes it so.
+ghost use Rattle.std.specs.Prelude.{ℕ, List};
+
+use crate::tables::Tables;
+use cm_base::Config;
+use lba_ranges::Blocks;
+use std::alloc::Global;
+
+/// The tables and the counters of a unit.
+#[derive(Drop)]
+pub(crate) struct Core<B: Blocks + Drop> {
+    pub alloc: Global,
+    pub config: Config,
+    pub unit: u16,
+    pub tables: Tables<B>,
+    pub last_stamp: u64,
+    pub moment: u64,
+}
+
+/// How tables agree with lists of entries.
+pub(crate) trait Reached {
+    ghost use Rattle.std.specs.Prelude.{List};
+    ghost use Rattle.cm_history.specs.declared.act.Entry.{Entry};
+
+    // These entries make the tables as they are.
+    ghost IsAfter: { Self → List Entry → Type 0 };
+
+    // Some entries do.
+    ghost IsReached: { Self → Type 0 };
+}
+
+impl<B: Blocks + Drop> Reached for Core<B> {
+    ghost use Rattle.std.specs.Prelude.{List};
+    ghost use Rattle.cm_history.specs.declared.act.Entry.{Entry};
+    ghost use Rattle.unit_core.specs.inner.Agreeing.{TablesAgree};
+
+    ghost IsAfter = { λ c entries. TablesAgree c.config c.unit
+        (B.blocks c.tables.blocks) (B.block_length c.tables.blocks) (B.holds c.tables.blocks)
+        c.tables.tokens c.tables.jobs c.last_stamp c.moment entries };
+
+    ghost IsReached = { λ c. (entries : List Entry) × TablesAgree c.config c.unit
+        (B.blocks c.tables.blocks) (B.block_length c.tables.blocks) (B.holds c.tables.blocks)
+        c.tables.tokens c.tables.jobs c.last_stamp c.moment entries };
+}
