@@ -1,6 +1,6 @@
 -- The tables and the record of a unit agree with a list of entries, also with one more entry, and when kept ones are dropped
-use Rattle.std.proofs.Common.{◌≡◌, ℕ, zero, suc, ◌+◌, ◌-◌, ◌<◌, ◌≤◌, List, [], ◌∷◌, ◌++◌, length, drop, take, refl, ap, sym, ◌∙◌, subst, arith, false, true, Bool, append_assoc, append-nil, length-append, inl, inr}
-use Rattle.std.specs.Prelude.{max, None, fold, nat_le, sum_by, if◌then◌else◌, ◌⊎◌, Option, Some}
+use Rattle.std.proofs.Common.{◌≡◌, ℕ, zero, suc, ◌+◌, ◌-◌, ◌^◌, ◌<◌, ◌≤◌, List, [], ◌∷◌, ◌++◌, length, drop, take, refl, ap, sym, ◌∙◌, subst, arith, false, true, Bool, append_assoc, append-nil, length-append, inl, inr}
+use Rattle.std.specs.Prelude.{◌==◌, max, None, fold, nat_le, sum_by, if◌then◌else◌, ◌⊎◌, Option, Some}
 use Rattle.std.proofs.lemmas.Bool.{cases_lt}
 use Rattle.std.proofs.lemmas.Bool.Decides.{nat_tests}
 use Rattle.std.proofs.lemmas.List.{drop-append-le, drop-drop, drop_at, length-drop}
@@ -165,11 +165,16 @@ pub length-kept : (config : Configuration) (unit : ℕ) (kept : List Entry) (fol
 length-kept config unit kept folded entries own keeps =
     ap (λ n. n - folded) (length-past config unit entries own) ∙ sym (length-drop folded entries) ∙ ap length keeps
 
+-- a stamp that is not the last has one behind it
+pub stamp-next : (n : ℕ) → n < 2 ^ 64 → (n == 2 ^ 64 - 1) ≡ false → n + 1 < 2 ^ 64
+stamp-next n low off = grind (arith, nat_tests)
+
 pub record-start : (config : Configuration) (unit : ℕ) → RecordAgrees config unit [] 0 0 0 []
 record-start config unit = record {
   keeps = refl;
   few = omega arith;
   stamps = omega arith;
+  last = omega arith;
   free = omega arith;
   payload = refl;
   room = omega arith;
@@ -183,6 +188,7 @@ record-more config unit kept folded spare spare' own_payload entries r more = re
   keeps = r.keeps;
   few = r.few;
   stamps = r.stamps;
+  last = r.last;
   free = omega (arith, r.free, more);
   payload = r.payload;
   room = r.room;
@@ -193,12 +199,12 @@ record-more config unit kept folded spare spare' own_payload entries r more = re
 pub record-step : (config : Configuration) (unit : ℕ) (kept : List Entry) (folded spare spare' own_payload payload' : ℕ) (entries : List Entry) (e : Entry) (stamp : ℕ)
     → RecordAgrees config unit kept folded spare own_payload entries → IsRecord config unit entries
     → e.unit ≡ unit → IsAsked config unit (deed config unit (past_of config unit entries) e)
-    → last_stamp (past_of config unit entries) + 1 ≤ e.stamp
+    → last_stamp (past_of config unit entries) + 1 ≤ e.stamp → e.stamp < 2 ^ 64
     → is_full (unit_of config unit) folded (past_of config unit entries) e.actor stamp e.act ≡ false
     → reserved (past_of config unit entries) + need (past_of config unit entries) e.actor e.act ≤ spare' + 1
     → payload' ≡ own_payload + bytes_in e.act
     → RecordAgrees config unit (kept ++ e ∷ []) folded spare' payload' (entries ++ e ∷ [])
-record-step config unit kept folded spare spare' own_payload payload' entries e stamp r is here asked later room free p =
+record-step config unit kept folded spare spare' own_payload payload' entries e stamp r is here asked later fits room free p =
     let past = past_of config unit entries in
     let u = unit_of config unit in
     let d = deed config unit past e in
@@ -219,6 +225,7 @@ record-step config unit kept folded spare spare' own_payload payload' entries e 
       keeps = drop-append-le folded entries (e ∷ []) r.few ∙ ap (λ l. l ++ e ∷ []) r.keeps;
       few = omega (arith, r.few, longer);
       stamps = rw next (omega (arith, r.stamps, later, longer));
+      last = rw next fits;
       free = rw next free-now;
       payload = omega (arith, p, r.payload, sums, one);
       room = rw next room-now;
@@ -236,6 +243,7 @@ record-fold config unit kept kept' done folded spare own_payload payload' entrie
       keeps = sym (drop-drop (length done) folded entries) ∙ ap (drop (length done)) (r.keeps ∙ sym parts) ∙ drop_at done kept' (length done) refl;
       few = omega (arith, r.few, all, long);
       stamps = r.stamps;
+      last = r.last;
       free = r.free;
       payload = p;
       room = omega (arith, r.room, long);

@@ -1,5 +1,5 @@
 -- What a unit keeps, and how that agrees with a list of entries
-use Rattle.std.specs.Prelude.{◌≡◌, ℕ, ◌+◌, ◌-◌, ◌<◌, ◌≤◌, List, length, drop, sum_by}
+use Rattle.std.specs.Prelude.{◌≡◌, ℕ, ◌+◌, ◌-◌, ◌^◌, ◌<◌, ◌≤◌, List, length, drop, sum_by}
 use Rattle.cm_base.specs.Configuration.{Configuration, IsUnit}
 use Rattle.cm_base.specs.Units.{unit_of}
 use Rattle.cm_base.specs.declared.config.UnitConfig.{UnitConfig}
@@ -53,6 +53,7 @@ pub record RecordAgrees (config : Configuration) (unit : ℕ) (kept : List Entry
   pub few : folded ≤ length entries
   -- each entry has a stamp of its own, so they can be counted
   pub stamps : length entries ≤ last_stamp (past_of config unit entries)
+  pub last : last_stamp (past_of config unit entries) < 2 ^ 64
   pub free : reserved (past_of config unit entries) ≤ spare
   pub payload : own_payload ≡ payload_in kept
   pub room : length kept + reserved (past_of config unit entries) ≤ (unit_of config unit).entries

@@ -8,7 +8,7 @@ use Rattle.unit_core.specs.inner.Agreeing.{TablesAgree}
 use Rattle.unit_core.specs.inner.Shown.{image_shown}
 use Rattle.unit_core.proofs.Standing.{stands-own}
 use Rattle.unit_core.proofs.Steps.{known-of}
-use Rattle.std.specs.Prelude.{Result, Ok, Err, IfErr, IfOk, ◌-◌, ◌^◌}
+use Rattle.std.specs.Prelude.{Result, Ok, Err, IfErr, ◌^◌, ◌==◌}
 use Rattle.cm_base.specs.Configuration.{Configuration}
 use Rattle.lba_ranges.specs.HeldBlocks.{HeldBlocks}
 use Rattle.cm_history.specs.declared.act.Act.{Act}
@@ -26,15 +26,15 @@ use Rattle.rod_store.specs.declared.kept.Kept.{Kept}
 use Rattle.unit_core.specs.UnitState.{UnitState}
 use Rattle.unit_core.specs.Acting.{MayRedeem}
 use Rattle.unit_core.specs.inner.Agreeing.{RecordAgrees, payload_in}
-use Rattle.unit_core.specs.inner.Planning.{IsPlan}
+use Rattle.unit_core.specs.inner.Planning.{IsPlan, takes_none}
 use Rattle.unit_core.specs.inner.Tables.{tokens_of}
 use Rattle.unit_core.specs.inner.TokenChanges.{MayToken, tokens_after}
 use Rattle.unit_core.proofs.Forming.{answer-formed}
 use Rattle.unit_core.proofs.Planned.{ends-serves}
 use Rattle.unit_core.proofs.Reserving.{reserved-is}
-use Rattle.unit_core.proofs.Rooms.{full-serving, need-served, reserved-step}
+use Rattle.unit_core.proofs.Rooms.{full-serving, need-served, reserved-step, room-of}
 use Rattle.unit_core.proofs.Standing.{ends-alike, shown-same}
-use Rattle.unit_core.proofs.Steps.{Done, length-kept, payload-kept, record-more, record-step, tables-same, tables-step}
+use Rattle.unit_core.proofs.Steps.{Done, length-kept, payload-kept, record-more, record-step, stamp-next, tables-same, tables-step}
 use Rattle.unit_core.proofs.TableAnswers.{some-there, redeem-given}
 use Rattle.unit_core.proofs.unit.UnitOver.act.Goals as goal
 
@@ -172,9 +172,14 @@ invariant_of-self-2 g c =
     o.last_stamp o.moment c.max-now.result t refl asked done c.max-now.ensures in
     let spare : reserved past + need past c.args.actor c.args.act ≤ c.append.new.self.spare + 1 = omega (arith, free, needed, c.in_ok-reserve.ensures.room, c.append.ensures.room) in
     let later : last_stamp past + 1 ≤ c.max.result + 1 = omega (arith, c.max.ensures, t.stamp) in
+    let count : length past - u.folded ≡ length u.history.entries = length-kept o.config o.unit u.history.entries u.folded w t.record_is.own r.keeps in
+    let bytes : payload u.folded past ≡ payload_in u.history.entries = payload-kept o.config o.unit u.history.entries u.folded w t.record_is.own r.keeps in
+    let within : payload u.folded past ≤ limit.payload = omega (arith, bytes, r.bytes) in
+    let has = room-of limit u.folded past c.args.actor c.args.stamp c.args.act within full in
+    let fits : c.max.result + 1 < 2 ^ 64 = stamp-next c.max.result c.max.type_inv (ap (λ (n : ℕ). n == 2 ^ 64 - 1) (c.max.ensures ∙ ap (max c.args.stamp) t.stamp) ∙ has.stamps) in
     let kept : c.append.new.self.entries ≡ u.history.entries ++ e ∷ [] = c.append.ensures.added ∙ ap (λ l. l ++ e ∷ []) c.in_ok-reserve.ensures.same in
     let record_now = record-step o.config o.unit u.history.entries u.folded u.history.spare c.append.new.self.spare u.payload (u.payload + c.bytes_in.result) w e c.args.stamp
-    r t.record_is refl asked later full spare (ap (λ n. u.payload + n) c.bytes_in.ensures) in
+    r t.record_is refl asked later fits full spare (ap (λ n. u.payload + n) c.bytes_in.ensures) in
     rw kept (w ++ e ∷ [], tables, record_now)
 
 pub returns-clause-answer : goal.returns-clause-answer
@@ -200,7 +205,70 @@ returns-clause-room g c = λ h s. sym (c.is_full.ensures h s) ∙ c.if-is_full.f
 pub returns-clause-kept : goal.returns-clause-kept
 returns-clause-kept g c =
     let o = c.self.inside.core in
-    rw (← c.self.view_is, ← c.max.ensures) (c.append.ensures.added ∙ ap (λ l. l ++ _ ∷ []) c.in_ok-reserve.ensures.same)
+    let e : Entry = record { stamp = c.max.result + 1; unit = o.unit; actor = c.args.actor; seq = c.args.seq; moment = c.args.moment; act = c.args.act } in
+    let added : c.append.new.self.entries ≡ c.self.inside.history.entries ++ e ∷ [] = c.append.ensures.added ∙ ap (λ l. l ++ e ∷ []) c.in_ok-reserve.ensures.same in
+    rw (← c.self.view_is, ← c.max.ensures) added
+
+pub overflow_add-self : goal.overflow_add-self
+overflow_add-self g c =
+    let u = c.self.inside in
+    let o = u.core in
+    let w = c.self.invariant.0 in
+    let t : TablesAgree o.config o.unit (g.B.Blocks.blocks o.tables.blocks) (g.B.Blocks.block_length o.tables.blocks) (g.B.Blocks.holds o.tables.blocks) o.tables.tokens o.tables.jobs o.last_stamp o.moment w = c.self.invariant.1 in
+    let r = c.self.invariant.2 in
+    let past = past_of o.config o.unit w in
+    let known = known-of o.config o.unit w t.record_is in
+    let limit = unit_of o.config o.unit in
+    let own = stands-own o.config o.unit u.history.entries u.folded u.history.spare u.payload (g.B.Blocks.blocks o.tables.blocks) (g.B.Blocks.block_length o.tables.blocks) (g.B.Blocks.holds o.tables.blocks) o.tables.tokens o.tables.jobs o.last_stamp o.moment w t r in
+    let standing : Stands c.args.self.now w = rw (← c.self.view_is) own in
+    let full : is_full limit u.folded past c.args.actor c.args.stamp c.args.act ≡ false = rw (← c.self.view_is) at (sym (c.is_full.ensures w standing) ∙ c.if-is_full.false) in
+    let count : length past - u.folded ≡ length u.history.entries = length-kept o.config o.unit u.history.entries u.folded w t.record_is.own r.keeps in
+    let bytes : payload u.folded past ≡ payload_in u.history.entries = payload-kept o.config o.unit u.history.entries u.folded w t.record_is.own r.keeps in
+    let within : payload u.folded past ≤ limit.payload = omega (arith, bytes, r.bytes) in
+    let has = room-of limit u.folded past c.args.actor c.args.stamp c.args.act within full in
+    let fits : c.max.result + 1 < 2 ^ 64 = stamp-next c.max.result c.max.type_inv (ap (λ (n : ℕ). n == 2 ^ 64 - 1) (c.max.ensures ∙ ap (max c.args.stamp) t.stamp) ∙ has.stamps) in
+    omega (arith, fits)
+
+pub returns-in_err-plan-clause-ends : goal.returns-in_err-plan-clause-ends
+returns-in_err-plan-clause-ends g c =
+    let u = c.self.inside in
+    let o = u.core in
+    let w = c.self.invariant.0 in
+    let t : TablesAgree o.config o.unit (g.B.Blocks.blocks o.tables.blocks) (g.B.Blocks.block_length o.tables.blocks) (g.B.Blocks.holds o.tables.blocks) o.tables.tokens o.tables.jobs o.last_stamp o.moment w = c.self.invariant.1 in
+    let r = c.self.invariant.2 in
+    let past = past_of o.config o.unit w in
+    let known = known-of o.config o.unit w t.record_is in
+    let limit = unit_of o.config o.unit in
+    let own = stands-own o.config o.unit u.history.entries u.folded u.history.spare u.payload (g.B.Blocks.blocks o.tables.blocks) (g.B.Blocks.block_length o.tables.blocks) (g.B.Blocks.holds o.tables.blocks) o.tables.tokens o.tables.jobs o.last_stamp o.moment w t r in
+    let never : ends_operation past c.args.actor c.args.act ≡ false = c.in_err-plan.ensures.memory w t in
+    if-err c.from_residual.result _ (λ f same h s.
+        let shown = image_shown o.moment o.last_stamp (u.folded + length u.history.entries) (g.B.Blocks.blocks o.tables.blocks) (g.B.Blocks.holds o.tables.blocks) o.tables.tokens.tokens o.tables.jobs in
+        let stood : StandsFor o.config o.unit shown u.history.entries u.folded h = rw (← c.self.view_is) at s in
+        let p = c.standing_law.ensures shown u.history.entries u.folded h w stood own in
+        rw (← c.self.view_is) (ends-alike (past_of o.config o.unit h) past c.args.actor c.args.act (p.serves c.args.actor c.args.act) ∙ never))
+
+off-unless : (t u : Bool) → (t ≡ true → u ≡ true) → u ≡ false → t ≡ false
+off-unless true u h e = let no = sym (h refl) ∙ e in cc
+off-unless false u h e = refl
+
+pub returns-in_err-answer-clause-ends : goal.returns-in_err-answer-clause-ends
+returns-in_err-answer-clause-ends g c =
+    let u = c.self.inside in
+    let o = u.core in
+    let w = c.self.invariant.0 in
+    let t : TablesAgree o.config o.unit (g.B.Blocks.blocks o.tables.blocks) (g.B.Blocks.block_length o.tables.blocks) (g.B.Blocks.holds o.tables.blocks) o.tables.tokens o.tables.jobs o.last_stamp o.moment w = c.self.invariant.1 in
+    let r = c.self.invariant.2 in
+    let past = past_of o.config o.unit w in
+    let known = known-of o.config o.unit w t.record_is in
+    let limit = unit_of o.config o.unit in
+    let own = stands-own o.config o.unit u.history.entries u.folded u.history.spare u.payload (g.B.Blocks.blocks o.tables.blocks) (g.B.Blocks.block_length o.tables.blocks) (g.B.Blocks.holds o.tables.blocks) o.tables.tokens o.tables.jobs o.last_stamp o.moment w t r in
+    let planned : IsPlan o.config o.unit past c.args.actor c.args.moment c.args.act c.in_ok-plan.plan = c.in_ok-plan.ensures.planned w t in
+    let never : ends_operation past c.args.actor c.args.act ≡ false = off-unless (ends_operation past c.args.actor c.args.act) (takes_none c.in_ok-plan.plan) planned.ends c.in_err-answer.ensures.memory in
+    if-err c.from_residual-in_err-answer.result _ (λ f same h s.
+        let shown = image_shown o.moment o.last_stamp (u.folded + length u.history.entries) (g.B.Blocks.blocks o.tables.blocks) (g.B.Blocks.holds o.tables.blocks) o.tables.tokens.tokens o.tables.jobs in
+        let stood : StandsFor o.config o.unit shown u.history.entries u.folded h = rw (← c.self.view_is) at s in
+        let p = c.standing_law.ensures shown u.history.entries u.folded h w stood own in
+        rw (← c.self.view_is) (ends-alike (past_of o.config o.unit h) past c.args.actor c.args.act (p.serves c.args.actor c.args.act) ∙ never))
 
 pub returns-clause-stands : goal.returns-clause-stands
 returns-clause-stands g c = λ h s.
@@ -240,9 +308,14 @@ returns-clause-stands g c = λ h s.
     o.last_stamp o.moment c.max-now.result t refl asked done c.max-now.ensures in
     let spare : reserved past + need past c.args.actor c.args.act ≤ c.append.new.self.spare + 1 = omega (arith, free, needed, c.in_ok-reserve.ensures.room, c.append.ensures.room) in
     let later : last_stamp past + 1 ≤ c.max.result + 1 = omega (arith, c.max.ensures, t.stamp) in
+    let count : length past - u.folded ≡ length u.history.entries = length-kept o.config o.unit u.history.entries u.folded w t.record_is.own r.keeps in
+    let bytes : payload u.folded past ≡ payload_in u.history.entries = payload-kept o.config o.unit u.history.entries u.folded w t.record_is.own r.keeps in
+    let within : payload u.folded past ≤ limit.payload = omega (arith, bytes, r.bytes) in
+    let has = room-of limit u.folded past c.args.actor c.args.stamp c.args.act within full in
+    let fits : c.max.result + 1 < 2 ^ 64 = stamp-next c.max.result c.max.type_inv (ap (λ (n : ℕ). n == 2 ^ 64 - 1) (c.max.ensures ∙ ap (max c.args.stamp) t.stamp) ∙ has.stamps) in
     let kept : c.append.new.self.entries ≡ u.history.entries ++ e ∷ [] = c.append.ensures.added ∙ ap (λ l. l ++ e ∷ []) c.in_ok-reserve.ensures.same in
     let record_now = record-step o.config o.unit u.history.entries u.folded u.history.spare c.append.new.self.spare u.payload (u.payload + c.bytes_in.result) w e c.args.stamp
-    r t.record_is refl asked later full spare (ap (λ n. u.payload + n) c.bytes_in.ensures) in
+    r t.record_is refl asked later fits full spare (ap (λ n. u.payload + n) c.bytes_in.ensures) in
     let q = c.standing_law.ensures shown u.history.entries u.folded w h own stood in
     let own-now = stands-own o.config o.unit (u.history.entries ++ e ∷ []) u.folded c.append.new.self.spare (u.payload + c.bytes_in.result) (g.B.Blocks.blocks k.blocks) (g.B.Blocks.block_length k.blocks) (g.B.Blocks.holds k.blocks)
     k.tokens k.jobs (c.max.result + 1) c.max-now.result (w ++ e ∷ []) tables record_now in

@@ -41,18 +41,12 @@ record_all-end-requires-clause-few g c =
 pub overflow_add-self : goal.overflow_add-self
 overflow_add-self g c =
     let u = c.self.inside in
-    let o = u.core in
     let w = c.self.invariant.0 in
-    let t : TablesAgree o.config o.unit (g.B.Blocks.blocks o.tables.blocks) (g.B.Blocks.block_length o.tables.blocks) (g.B.Blocks.holds o.tables.blocks) o.tables.tokens o.tables.jobs o.last_stamp o.moment w = c.self.invariant.1 in
     let r = c.self.invariant.2 in
-    let past = past_of o.config o.unit w in
-    let known = known-of o.config o.unit w t.record_is in
-    let limit = unit_of o.config o.unit in
     let m = c.record_all-end.ensures.moved in
     let long : length u.history.entries ≡ length m.0 + length c.record_all-end.new.history.entries = ap length (sym m.1) ∙ length-append m.0 c.record_all-end.new.history.entries in
-    let gone : c.len-before.result - c.len.result ≡ length m.0 = omega (arith, c.len-before.ensures, c.len.ensures, long) in
     let all : length u.history.entries ≡ length w - u.folded = ap length (sym r.keeps) ∙ length-drop u.folded w in
-    omega (arith, gone, long, all, r.few, r.stamps, t.stamp)
+    omega (arith, c.len-before.ensures, c.len.ensures, long, all, r.few, r.stamps, r.last)
 
 pub invariant_of-self : goal.invariant_of-self
 invariant_of-self g c =

@@ -1,4 +1,4 @@
-use Rattle.std.proofs.Common.{◌≡◌, ◌≤◌, ◌<◌, ◌+◌, ◌-◌, ◌++◌, ◌∷◌, [], ℕ, List, length, true, false, Bool, ◌∙◌, ap, refl, sym, subst, arith}
+use Rattle.std.proofs.Common.{◌≡◌, ◌^◌, ◌≤◌, ◌<◌, ◌+◌, ◌-◌, ◌++◌, ◌∷◌, [], ℕ, List, length, true, false, Bool, ◌∙◌, ap, refl, sym, subst, arith}
 use Rattle.std.specs.Prelude.{is_some, max}
 use Rattle.cm_base.specs.Units.{unit_of}
 use Rattle.cm_history.specs.Folding.{StandsFor}
@@ -48,19 +48,6 @@ overflow_add-kept-2 g c =
     let free : c.reserved.result ≡ reserved past = c.reserved.ensures.reserved ∙ ap jobs.reserved t.jobs ∙ reserved-is o.config o.unit past known.is in
     let few = t.record_is.limits.entries.1 in
     omega (arith, c.len.ensures, free, few, r.room, c.need.ensures.few)
-
-pub overflow_add-payload-bytes_in : goal.overflow_add-payload-bytes_in
-overflow_add-payload-bytes_in g c =
-    let u = c.self.inside in
-    let o = u.core in
-    let w = c.self.invariant.0 in
-    let t : TablesAgree o.config o.unit (g.B.Blocks.blocks o.tables.blocks) (g.B.Blocks.block_length o.tables.blocks) (g.B.Blocks.holds o.tables.blocks) o.tables.tokens o.tables.jobs o.last_stamp o.moment w = c.self.invariant.1 in
-    let r = c.self.invariant.2 in
-    let past = past_of o.config o.unit w in
-    let known = known-of o.config o.unit w t.record_is in
-    let limit = unit_of o.config o.unit in
-    let few = t.record_is.limits.payload.1 in
-    omega (arith, r.payload, r.bytes, few, c.bytes_in.ensures)
 
 pub returns-then-max : goal.returns-then-max
 returns-then-max g c = λ h s.
