@@ -49,19 +49,19 @@ impl<B: Blocks + Drop> Model for UnitOver<B> {
     ghost Value = { UnitState };
 
     ghost view = { λ u. record {
-        config = u.core.config;
-        unit = u.core.unit;
-        kept = u.history.entries;
-        folded = u.folded;
-        image = image_shown u.core.moment u.core.last_stamp (u.folded + length u.history.entries)
-            (B.blocks u.core.tables.blocks) (B.holds u.core.tables.blocks) u.core.tables.tokens.tokens u.core.tables.jobs;
+      config = u.core.config;
+      unit = u.core.unit;
+      kept = u.history.entries;
+      folded = u.folded;
+      image = image_shown u.core.moment u.core.last_stamp (u.folded + length u.history.entries)
+          (B.blocks u.core.tables.blocks) (B.holds u.core.tables.blocks) u.core.tables.tokens.tokens u.core.tables.jobs;
     } };
 
     // a list of entries that makes the unit as it is
     ghost invariant = { λ u. (whole : List Entry)
         × TablesAgree u.core.config u.core.unit
-            (B.blocks u.core.tables.blocks) (B.block_length u.core.tables.blocks) (B.holds u.core.tables.blocks)
-            u.core.tables.tokens u.core.tables.jobs u.core.last_stamp u.core.moment whole
+        (B.blocks u.core.tables.blocks) (B.block_length u.core.tables.blocks) (B.holds u.core.tables.blocks)
+        u.core.tables.tokens u.core.tables.jobs u.core.last_stamp u.core.moment whole
         × RecordAgrees u.core.config u.core.unit u.history.entries u.folded u.history.spare u.payload whole };
 }
 

@@ -259,7 +259,10 @@ fn random_histories(rt: HostRuntime) -> Result<(), Fail> {
                 &mut numbers,
                 &mut recorder,
             )?;
-            assert!(rt; same && recorder.entries().is_empty(), "unit {number} of seed {seed}");
+            assert!(rt;
+                same && recorder.entries().is_empty(),
+                "unit {number} of seed {seed}"
+            );
         }
     }
     Ok(())

@@ -20,7 +20,7 @@ write_piece-requires-clause-within g c =
     let known = known-of u.config u.unit h a.record_is in
     let told : IsNextPiece c.args.key u.tables.jobs c.in-Some.piece = (rw c.in-Some.is at c.in_ok-piece.ensures.piece) in
     let is : IsNextPiece c.args.key (jobs_of past) c.in-Some.piece = subst (λ js. IsNextPiece c.args.key js c.in-Some.piece) a.jobs told in
-     (piece-found u.config u.unit past c.args.key c.in-Some.piece known is).piece.put.within
+    (piece-found u.config u.unit past c.args.key c.in-Some.piece known is).piece.put.within
 
 pub write_piece-requires-clause-few : goal.write_piece-requires-clause-few
 write_piece-requires-clause-few g c =

@@ -88,10 +88,10 @@ returns-in_err-reserve-clause-ends g c =
     let needed : c.need.result ≡ need past c.args.actor c.args.act = c.need.ensures.need w t in
     let never : ends_operation past c.args.actor c.args.act ≡ false = go o.config o.unit past c.args.actor c.args.act u.history.spare c.reserved.result c.need.result free needed r.free c.in_err-reserve.ensures.needed (ends_operation past c.args.actor c.args.act) refl in
     if-err c.from_residual-in_err-reserve.result _ (λ f same h s.
-        let shown = image_shown o.moment o.last_stamp (u.folded + length u.history.entries) (g.B.Blocks.blocks o.tables.blocks) (g.B.Blocks.holds o.tables.blocks) o.tables.tokens.tokens o.tables.jobs in
-        let stood : StandsFor o.config o.unit shown u.history.entries u.folded h = rw (← c.self.view_is) at s in
-        let p = c.standing_law.ensures shown u.history.entries u.folded h w stood own in
-        rw (← c.self.view_is) (ends-alike (past_of o.config o.unit h) past c.args.actor c.args.act (p.serves c.args.actor c.args.act) ∙ never))
+    let shown = image_shown o.moment o.last_stamp (u.folded + length u.history.entries) (g.B.Blocks.blocks o.tables.blocks) (g.B.Blocks.holds o.tables.blocks) o.tables.tokens.tokens o.tables.jobs in
+    let stood : StandsFor o.config o.unit shown u.history.entries u.folded h = rw (← c.self.view_is) at s in
+    let p = c.standing_law.ensures shown u.history.entries u.folded h w stood own in
+    rw (← c.self.view_is) (ends-alike (past_of o.config o.unit h) past c.args.actor c.args.act (p.serves c.args.actor c.args.act) ∙ never))
   where
     go : (config : Configuration) (unit : ℕ) (past : List Deed) (actor : Actor) (act : Act) (spare own more : ℕ) → own ≡ reserved past → more ≡ need past actor act → reserved past ≤ spare → spare < own + more
         → (t : Bool) → ends_operation past actor act ≡ t → t ≡ false
@@ -242,10 +242,10 @@ returns-in_err-plan-clause-ends g c =
     let own = stands-own o.config o.unit u.history.entries u.folded u.history.spare u.payload (g.B.Blocks.blocks o.tables.blocks) (g.B.Blocks.block_length o.tables.blocks) (g.B.Blocks.holds o.tables.blocks) o.tables.tokens o.tables.jobs o.last_stamp o.moment w t r in
     let never : ends_operation past c.args.actor c.args.act ≡ false = c.in_err-plan.ensures.memory w t in
     if-err c.from_residual.result _ (λ f same h s.
-        let shown = image_shown o.moment o.last_stamp (u.folded + length u.history.entries) (g.B.Blocks.blocks o.tables.blocks) (g.B.Blocks.holds o.tables.blocks) o.tables.tokens.tokens o.tables.jobs in
-        let stood : StandsFor o.config o.unit shown u.history.entries u.folded h = rw (← c.self.view_is) at s in
-        let p = c.standing_law.ensures shown u.history.entries u.folded h w stood own in
-        rw (← c.self.view_is) (ends-alike (past_of o.config o.unit h) past c.args.actor c.args.act (p.serves c.args.actor c.args.act) ∙ never))
+    let shown = image_shown o.moment o.last_stamp (u.folded + length u.history.entries) (g.B.Blocks.blocks o.tables.blocks) (g.B.Blocks.holds o.tables.blocks) o.tables.tokens.tokens o.tables.jobs in
+    let stood : StandsFor o.config o.unit shown u.history.entries u.folded h = rw (← c.self.view_is) at s in
+    let p = c.standing_law.ensures shown u.history.entries u.folded h w stood own in
+    rw (← c.self.view_is) (ends-alike (past_of o.config o.unit h) past c.args.actor c.args.act (p.serves c.args.actor c.args.act) ∙ never))
 
 off-unless : (t u : Bool) → (t ≡ true → u ≡ true) → u ≡ false → t ≡ false
 off-unless true u h e = let no = sym (h refl) ∙ e in cc
@@ -265,10 +265,10 @@ returns-in_err-answer-clause-ends g c =
     let planned : IsPlan o.config o.unit past c.args.actor c.args.moment c.args.act c.in_ok-plan.plan = c.in_ok-plan.ensures.planned w t in
     let never : ends_operation past c.args.actor c.args.act ≡ false = off-unless (ends_operation past c.args.actor c.args.act) (takes_none c.in_ok-plan.plan) planned.ends c.in_err-answer.ensures.memory in
     if-err c.from_residual-in_err-answer.result _ (λ f same h s.
-        let shown = image_shown o.moment o.last_stamp (u.folded + length u.history.entries) (g.B.Blocks.blocks o.tables.blocks) (g.B.Blocks.holds o.tables.blocks) o.tables.tokens.tokens o.tables.jobs in
-        let stood : StandsFor o.config o.unit shown u.history.entries u.folded h = rw (← c.self.view_is) at s in
-        let p = c.standing_law.ensures shown u.history.entries u.folded h w stood own in
-        rw (← c.self.view_is) (ends-alike (past_of o.config o.unit h) past c.args.actor c.args.act (p.serves c.args.actor c.args.act) ∙ never))
+    let shown = image_shown o.moment o.last_stamp (u.folded + length u.history.entries) (g.B.Blocks.blocks o.tables.blocks) (g.B.Blocks.holds o.tables.blocks) o.tables.tokens.tokens o.tables.jobs in
+    let stood : StandsFor o.config o.unit shown u.history.entries u.folded h = rw (← c.self.view_is) at s in
+    let p = c.standing_law.ensures shown u.history.entries u.folded h w stood own in
+    rw (← c.self.view_is) (ends-alike (past_of o.config o.unit h) past c.args.actor c.args.act (p.serves c.args.actor c.args.act) ∙ never))
 
 pub returns-clause-stands : goal.returns-clause-stands
 returns-clause-stands g c = λ h s.
@@ -356,4 +356,3 @@ returns-clause-form g c =
     let planned : IsPlan o.config o.unit past c.args.actor c.args.moment c.args.act c.in_ok-plan.plan = c.in_ok-plan.ensures.planned w t in
     let told : c.in_ok-answer.answer ≡ answer_after o.config o.unit past c.args.actor c.args.moment c.args.act = c.in_ok-answer.ensures.answer ∙ planned.answer in
     rw (← c.self.view_is) (subst (HasForm o.config o.unit c.args.act) (sym told) (answer-formed o.config w o.unit c.args.actor c.args.moment c.args.act t.record_is))
-

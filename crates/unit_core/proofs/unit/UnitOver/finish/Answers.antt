@@ -37,4 +37,3 @@ unreachable-requires g c =
     let standing : Stands c.args.self.now w = rw (← c.self.view_is) own in
     never c.args.self.now w c.args.actor c.args.act c.args.stamp c.in-Err.field-0 (c.requires.runs w standing) c.requires.stamps
     (λ e served. c.in-Err.ensures.serves e w standing served) (λ e. c.in-Err.ensures.ends e w standing)
-

@@ -135,4 +135,3 @@ returns-clause-told g c = λ h start s told.
     let folded : c.args.self.now.folded ≡ u.folded = rw (← c.self.view_is) refl in
     rw gone (told-fold h m.0 c.record_all-end.new.history.entries u.history.entries u.folded start (g.R.Recorder.recorded c.args.recorder.now) (g.R.Recorder.recorded c.record_all-end.new.recorder)
     stood.keeps m.1 m.2 (told ∙ ap (λ n. with_more start (take n h)) folded))
-

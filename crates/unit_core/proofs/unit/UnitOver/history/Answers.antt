@@ -22,4 +22,3 @@ returns-clause-own g c =
     let known = known-of o.config o.unit w t.record_is in
     let limit = unit_of o.config o.unit in
     rw (← c.self.view_is) (own-drop o.unit u.folded w u.history.entries t.record_is.own r.keeps)
-

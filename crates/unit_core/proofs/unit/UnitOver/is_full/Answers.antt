@@ -118,4 +118,3 @@ returns g c = λ h s.
     let last : max c.args.stamp (last_stamp past) ≡ c.max.result = ap (max c.args.stamp) (sym t.stamp) ∙ sym c.max.ensures in
     rw (← c.self.view_is, sums, limit-bytes)
     (sym (full-bytes limit u.folded past c.args.actor c.args.stamp c.args.act.now within (λ e. c.if-max.false (sym last ∙ e)) room) ∙ sym (p.full c.args.actor c.args.stamp c.args.act.now))
-

@@ -18,4 +18,3 @@ returns-clause-told g c = λ h s.
     let shown = image_shown o.moment o.last_stamp (u.folded + length u.history.entries) (g.B.Blocks.blocks o.tables.blocks) (g.B.Blocks.holds o.tables.blocks) o.tables.tokens.tokens o.tables.jobs in
     let stood : StandsFor o.config o.unit shown u.history.entries u.folded h = rw (← c.self.view_is) at s in
     rw (← c.self.view_is) (sym (ap (λ (j : Image). j.last_stamp) stood.image))
-

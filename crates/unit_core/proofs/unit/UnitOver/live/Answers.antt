@@ -28,4 +28,3 @@ returns g c = λ h s.
     let stood : StandsFor o.config o.unit shown u.history.entries u.folded h = rw (← c.self.view_is) at s in
     let p = c.standing_law.ensures shown u.history.entries u.folded h w stood own in
     rw (← c.self.view_is) (c.live.ensures.count ∙ ap (λ l. length (live l)) t.tokens.tokens ∙ live-count limit (tokens past) ∙ sym p.live)
-

@@ -39,4 +39,3 @@ returns-clause-quota g c =
     let limit = unit_of o.config o.unit in
     let same = c.mapped.ensures.mapped ∙ mapped-agrees limit past (g.B.Blocks.blocks o.tables.blocks) (g.B.Blocks.block_length o.tables.blocks) (g.B.Blocks.holds o.tables.blocks) t.blocks in
     rw (← c.self.view_is, same) t.quota
-

@@ -26,4 +26,3 @@ returns-clause-stands g c =
     tables-start c.args.config.now c.args.unit (g.B.Blocks.blocks k.blocks) (g.B.Blocks.block_length k.blocks) (g.B.Blocks.holds k.blocks) k.tokens k.jobs
     c.requires c.in_ok-tables.ensures.limits c.in_ok-tables.ensures.blocks c.in_ok-tables.ensures.length c.in_ok-tables.ensures.unmapped c.in_ok-tables.ensures.unit c.in_ok-tables.ensures.tokens c.in_ok-tables.ensures.jobs in
     rw (c.in_ok-config.ensures, c.empty.ensures) (stands-own c.args.config.now c.args.unit [] 0 0 0 (g.B.Blocks.blocks k.blocks) (g.B.Blocks.block_length k.blocks) (g.B.Blocks.holds k.blocks) k.tokens k.jobs 0 0 [] t (record-start c.args.config.now c.args.unit))
-

@@ -72,4 +72,3 @@ returns-in-Pump g c = λ h s.
     let p = c.standing_law.ensures shown u.history.entries u.folded h w stood own in
     let seen : UnitState = record { config = o.config; unit = o.unit; kept = u.history.entries; folded = u.folded; image = shown } in
     rw (← c.self.view_is, c.in-Pump.is) (idle o.config o.unit past seen h _ c.args.id known (λ form. p.busy _ form c.args.id) c.args.copy)
-
