@@ -1,0 +1,9 @@
+pub mod Chains
+pub mod Units
+pub mod Segments
+pub mod GivenUp
+pub mod Versioned
+pub mod ShownParts
+pub mod Splits
+pub mod Adding
+pub mod Planned

@@ -1,0 +1,13 @@
+// The blocks of a unit, with what live pins show of them.
+#![tactic(auto)]
+
+mod earlier;
+mod pinned;
+mod plan;
+mod segment;
+mod segment_map;
+#[cfg(test)]
+mod tests;
+mod unit;
+
+pub use unit::{Pin, VersionUnit};
