@@ -16,7 +16,7 @@ use Rattle.cmd_program.specs.Running.{Call, outcome_of}
 use Rattle.unit_core.specs.UnitState.{UnitState}
 use Rattle.unit_core.specs.Unfolded.{IsUnfolded, UnfoldedUnit, unfolded, past, is_full_at}
 use Rattle.unit_runs.specs.inner.Keeping.{KeepAll}
-use Rattle.unit_runs.specs.Places.{Place, AreUnitsOf, with_entry, after_act, Leads, Led, StandsFor}
+use Rattle.unit_runs.specs.Places.{Place, AreUnitsOf, IsFirst, with_entry, after_act, Leads, Led, StandsFor}
 
 -- one more call
 led-more : (p between after : Place) (calls : List Call) (c : Call) → Led p calls between → Leads between c after → Led p (calls ++ c ∷ []) after
@@ -151,3 +151,32 @@ pushed-each [] x F h one zero v e = let is : x ≡ v = cc in subst (F 0) is one
 pushed-each [] x F h one (suc u) v e = cc
 pushed-each (y ∷ ys) x F h one zero v e = h zero v e
 pushed-each (y ∷ ys) x F h one (suc u) v e = pushed-each ys x (λ n. F (suc n)) (λ n w. h (suc n) w) one u v e
+
+-- ---- units of which nothing was asked
+
+abbrev pub AreNew : Configuration → List UnitState → Type 0
+AreNew config units = (u : ℕ) (s : UnitState) → slice_get units u ≡ Some s → (unfolded s ≡ record { config = config; unit = u; entries = [] }) × IsUnfolded s
+
+pub new-units : (config : Configuration) (units : List UnitState) → length units ≡ length config.units → AreNew config units → AreUnitsOf config (map unfolded units)
+new-units config units count new = record {
+  count = length-map units unfolded ∙ count;
+  each = shown-each units (λ u s. (s.config ≡ config) × (s.unit ≡ u))
+      (λ u s e. (ap (λ (x : UnfoldedUnit). x.config) (new u s e).0, ap (λ (x : UnfoldedUnit). x.unit) (new u s e).0));
+}
+
+pub first-place : (config : Configuration) (nexus : ℕ) (units : List UnitState) → length units ≡ length config.units → AreNew config units
+    → IsFirst (record { config = config; nexus = nexus; units = map unfolded units; stamp = 0; seq = 0 })
+first-place config nexus units count new = record {
+  units = new-units config units count new;
+  none = shown-each units (λ u s. s.entries ≡ []) (λ u s e. ap (λ (x : UnfoldedUnit). x.entries) (new u s e).0);
+  stamp = refl;
+  seq = refl;
+}
+
+-- a number of 64 bits that is not the last one has a next
+pub next-fits : (n : ℕ) → n < 2 ^ 64 → (n ≡ 2 ^ 64 - 1 → ⊥) → n + 1 < 2 ^ 64
+next-fits n below other = go (cases_eq n (2 ^ 64 - 1))
+  where
+    go : ((n ≡ 2 ^ 64 - 1) ⊎ (n ≡ 2 ^ 64 - 1 → ⊥)) → n + 1 < 2 ^ 64
+    go (inl last) = absurd (other last)
+    go (inr not) = omega (arith, below, not)
