@@ -19,7 +19,7 @@ loop-unit-preserved c =
 pub invariant_of-result : goal.invariant_of-result
 invariant_of-result c =
     let count : length c.loop-unit.units.items ≡ length c.args.config.units =
-        omega (arith, c.loop-unit.invariant.0, c.loop-unit-test.false, c.loop-unit.auto.unit-end, c.units-unit-end.ensures.count) in (
+    omega (arith, c.loop-unit.invariant.0, c.loop-unit-test.false, c.loop-unit.auto.unit-end, c.units-unit-end.ensures.count) in (
       new-units c.args.config c.loop-unit.units.items count c.loop-unit.invariant.1,
       λ u s e. (c.loop-unit.invariant.1 u s e).1,
       omega arith,
@@ -28,11 +28,11 @@ invariant_of-result c =
 pub returns-clause-first : goal.returns-clause-first
 returns-clause-first c =
     let count : length c.loop-unit.units.items ≡ length c.args.config.units =
-        omega (arith, c.loop-unit.invariant.0, c.loop-unit-test.false, c.loop-unit.auto.unit-end, c.units-unit-end.ensures.count) in
+    omega (arith, c.loop-unit.invariant.0, c.loop-unit-test.false, c.loop-unit.auto.unit-end, c.units-unit-end.ensures.count) in
     first-place c.args.config c.args.nexus c.loop-unit.units.items count c.loop-unit.invariant.1
 
 pub returns-clause-none : goal.returns-clause-none
 returns-clause-none c =
     let count : length c.loop-unit.units.items ≡ length c.args.config.units =
-        omega (arith, c.loop-unit.invariant.0, c.loop-unit-test.false, c.loop-unit.auto.unit-end, c.units-unit-end.ensures.count) in
+    omega (arith, c.loop-unit.invariant.0, c.loop-unit-test.false, c.loop-unit.auto.unit-end, c.units-unit-end.ensures.count) in
     (_, first-place c.args.config c.args.nexus c.loop-unit.units.items count c.loop-unit.invariant.1, refl)
