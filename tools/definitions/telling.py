@@ -80,7 +80,7 @@ class Headline:
 
     def unreached(self):
         tree, lines, total = self.tree, [], 0
-        public = self.reached | tree.reached(tree.public())
+        public = self.reached | tree.reached([*tree.public(), *tree.shared()])
         named = {where: tree.reached(roots()) for where, roots in self.places()}
         for crate in tree.crates:
             files = [file for file in tree.files if file.crate == crate and file.is_specs and not file.is_inner]
@@ -90,7 +90,7 @@ class Headline:
                 lines.append(f"{crate}: {len(items)} definitions, {lines_of(items)} lines")
                 lines += [line for file, some in found for line in unreached_of(file, some, named)]
             total += lines_of(items)
-        return [*lines, "", f"{total} lines of definitions that no public clause reaches"]
+        return [*lines, "", f"{total} lines of definitions that no public clause reaches, nor the code of another crate"]
 
     def misplaced(self):
         """Those of specs/inner/ that a public clause reaches: they belong beside the others."""

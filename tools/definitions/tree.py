@@ -132,6 +132,12 @@ class Tree:
             if not file.is_specs:
                 yield from file.inner + file.functions + file.items + [item for _, item in file.members]
 
+    def shared(self):
+        """The definitions that the code of one crate names of another, as its views and invariants do."""
+        files = [file for file in self.files if file.is_inner or not file.is_specs]
+        paths = [path for file in files for path in file.imports.values() if self.is_specs_path(path) and path[1] != file.crate]
+        return filter(None, map(self.imported_item, paths))
+
     def proved(self):
         """The definitions that proofs name."""
         return self.named_in("proofs/**/*.antt")

@@ -313,14 +313,14 @@ class Here(unittest.TestCase):
             ("crates/cm_history/specs/Laws.antt", "CountPromise"),
             ("crates/cm_history/src/act.rt", "Act"),
             ("crates/cm_base/src/source.rt", "Source"),
-            ("crates/scsi_cdb/specs/Decoded.antt", "table"),
+            ("crates/scsi_cdb/specs/Decoded.antt", "plain_rows"),
         ]:
             self.assertIn((path, name), self.reached)
 
     def test_what_is_not_reached(self):
         for path, name in [
             ("crates/trace_replay/specs/inner/Counting.antt", "with_item"),
-            ("crates/unit_core/specs/inner/Agreeing.antt", "Agrees"),
+            ("crates/unit_core/specs/inner/Agreeing.antt", "TablesAgree"),
             ("crates/lba_ranges/specs/inner/HeldBlocks.antt", "items_of"),
         ]:
             self.assertIn(name, {item.name for file in self.tree.files if file.path == path for item in file.items})
@@ -334,7 +334,7 @@ class Here(unittest.TestCase):
                     self.assertIsNotNone(self.tree.imported_item(path), (file.path, path))
 
     def test_helpers_stand_apart(self):
-        self.assertEqual(self.headline.unreached()[-1], "0 lines of definitions that no public clause reaches")
+        self.assertEqual(self.headline.unreached()[-1], "0 lines of definitions that no public clause reaches, nor the code of another crate")
         self.assertEqual(self.headline.misplaced(), [])
 
 
