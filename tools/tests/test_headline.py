@@ -278,6 +278,13 @@ class MadeUp(unittest.TestCase):
         self.tree = Tree(self.tree.top)
         self.assertIn("crates/high/specs/inner/Paints.antt: IsPainted", self.headline().misplaced())
 
+    def test_what_another_crate_names(self):
+        code = self.tree.top / "crates/high/src/lib.rt"
+        code.write_text("ghost use Rattle.low.specs.Pots.{tight};\n" + code.read_text(encoding="utf-8"), encoding="utf-8")
+        self.assertTrue(any("tight" in line for line in self.headline().unreached()))
+        self.tree = Tree(self.tree.top)
+        self.assertFalse(any("tight" in line for line in self.headline().unreached()))
+
     def test_what_no_public_clause_reaches(self):
         self.assertEqual(
             self.headline().unreached(),
@@ -289,7 +296,7 @@ class MadeUp(unittest.TestCase):
                 "high: 1 definitions, 2 lines",
                 "  crates/high/specs/Paints.antt, named inside the crate: painted_so",
                 "",
-                "10 lines of definitions that no public clause reaches",
+                "10 lines of definitions that no public clause reaches, nor the code of another crate",
             ],
         )
 
