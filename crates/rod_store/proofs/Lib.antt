@@ -5,3 +5,6 @@ pub mod Oldest
 pub mod Stored
 pub mod Expiring
 pub mod Redeemed
+pub mod Ended
+pub mod Values
+pub mod PublicLaws

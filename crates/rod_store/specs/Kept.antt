@@ -112,3 +112,15 @@ module _ {T : Type 0} where
   -- the token was used at the moment
   abbrev pub used : ℕ → ℕ → List (Kept T) → List (Kept T)
   used serial moment tokens = map (use_at serial moment) tokens
+
+-- ---- tokens with other values
+
+module _ {K T : Type 0} (f : K → T) where
+  abbrev pub state_with : TokenState K → TokenState T
+  state_with (Live timeout last_use value) = Live timeout last_use (f value)
+  state_with Expired = Expired
+  state_with Evicted = Evicted
+  state_with Deleted = Deleted
+
+  abbrev pub kept_with : Kept K → Kept T
+  kept_with t = record { serial = t.serial; blocks = t.blocks; state = state_with t.state }
