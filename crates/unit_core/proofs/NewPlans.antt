@@ -22,7 +22,7 @@ use Rattle.cm_history.specs.Answers.{is_busy, is_crowded, wrote_of}
 use Rattle.cm_history.proofs.PublicLaws.{find-none}
 use Rattle.unit_core.specs.declared.block_change.BlockChange.{BlockChange}
 use Rattle.unit_core.specs.declared.job_change.JobChange.{JobChange}
-use Rattle.unit_core.specs.declared.token_change.TokenChange.{TokenChange}
+use Rattle.token_pins.specs.declared.token_change.TokenChange.{TokenChange}
 use Rattle.unit_core.specs.inner.JobChanges.{MayJob}
 use Rattle.copy_jobs.specs.Jobs as jobs
 use Rattle.unit_core.specs.inner.Tables.{key_of, jobs_of}
@@ -49,17 +49,21 @@ populate-many config unit past actor at id timeout ranges idle inside many =
     refused-plan config unit past actor at (Act.Populate id timeout ranges) insufficient_resources (rw (idle, inside, test) refl) (λ s. refl) (find-none (running past))
 
 pub populate-made : (config : Configuration) (unit : ℕ) (past : List Deed) (actor : Actor) (at id timeout : ℕ) (ranges : List Range) → IsKnown config unit past → IsNexus actor
-    → is_busy past actor OfToken id ≡ false → is_within (unit_of config unit).blocks ranges ≡ true → length (tokens past) < 2 ^ 48
+    → is_busy past actor OfToken id ≡ false → is_within (unit_of config unit).blocks ranges ≡ true → length (tokens past) < 2 ^ 48 → within_limits config unit (Act.Populate id timeout ranges) ≡ true
     → IsPlan config unit past actor at (Act.Populate id timeout ranges) (record {
       answer = Answer.Made (length (tokens past));
       blocks = BlockChange.Nothing;
       jobs = JobChange.Make (key_of actor OfToken id) (length (tokens past)) (total ranges);
-      tokens = TokenChange.Make timeout (total ranges) (cut (unit_of config unit) (held past) (blocks_of ranges));
+      tokens = TokenChange.Make timeout (total ranges) ranges;
     })
-populate-made config unit past actor at id timeout ranges known nexus idle inside few =
+populate-made config unit past actor at id timeout ranges known nexus idle inside few limits =
     let test : nat_le (2 ^ 48) (length (tokens past)) ≡ false = grind (arith, nat_tests) in
     populate-plan config unit past actor at id timeout ranges known nexus (rw (idle, inside, test) refl) few
-    (busy-is config unit past actor OfToken id known.is (own-of config unit past known) nexus ∙ idle)
+    (busy-is config unit past actor OfToken id known.is (own-of config unit past known) nexus ∙ idle) inside (go (is_overlapping ranges) limits)
+  where
+    go : (t : Bool) → (not t && nat_le (total ranges) 1_048_576 && nat_le 1 timeout && nat_le timeout 3600) ≡ true → t ≡ false
+    go true e = cc
+    go false e = refl
 
 -- ---- Start
 

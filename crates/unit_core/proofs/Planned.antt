@@ -8,7 +8,7 @@ use Rattle.cm_base.specs.declared.config.UnitConfig.{UnitConfig}
 use Rattle.cm_base.specs.Units.{unit_of}
 use Rattle.scsi_sense.specs.SenseCode.{SenseCode}
 use Rattle.lba_ranges.specs.declared.ranges.Range.{Range}
-use Rattle.lba_ranges.specs.Denoted.{blocks_of, total}
+use Rattle.lba_ranges.specs.Denoted.{blocks_of, total, is_within, is_overlapping}
 use Rattle.lba_ranges.specs.HeldBlocks.{HeldBlocks}
 use Rattle.rod_token.specs.TokenText.{serial_of}
 use Rattle.cm_history.specs.declared.act.Act.{Act}
@@ -29,7 +29,7 @@ use Rattle.copy_jobs.specs.Keeping.{keep}
 use Rattle.rod_store.specs.Kept.{value_at, expired, populated, used, deleted}
 use Rattle.unit_core.specs.declared.block_change.BlockChange.{BlockChange}
 use Rattle.unit_core.specs.declared.job_change.JobChange.{JobChange}
-use Rattle.unit_core.specs.declared.token_change.TokenChange.{TokenChange}
+use Rattle.token_pins.specs.declared.token_change.TokenChange.{TokenChange}
 use Rattle.cm_history.specs.Ends.{ends_operation}
 use Rattle.cm_history.specs.Asked.{AllAsked}
 use Rattle.unit_core.specs.inner.BlockChanges.{writings_of, MayChange}
@@ -126,6 +126,7 @@ plain-plan config unit past actor at act answer blocks told wrote may leaves non
   may_blocks = may;
   may_jobs = tt;
   may_tokens = λ spare h. tt;
+  may_pin = tt;
   apart = λ e. cc;
   ends = λ e. let no : is_some (would_serve past actor act) ≡ false = ap is_some none in let yes = ends-serves past actor act e in let never = sym yes ∙ no in cc;
 }
@@ -160,6 +161,7 @@ delete-plan config unit past actor at serial = record {
   may_blocks = tt;
   may_jobs = tt;
   may_tokens = λ spare h. tt;
+  may_pin = tt;
   apart = λ e. cc;
   ends = λ e. cc;
 }
@@ -179,6 +181,7 @@ redeem-plan config unit past actor at text target list told lives = record {
   may_blocks = tt;
   may_jobs = tt;
   may_tokens = λ spare h. lives;
+  may_pin = tt;
   apart = λ e. cc;
   ends = λ e. cc;
 }
@@ -194,14 +197,14 @@ new-step config unit past actor at act answer job known nexus told making d is s
 
 pub populate-plan : (config : Configuration) (unit : ℕ) (past : List Deed) (actor : Actor) (at id timeout : ℕ) (ranges : List Range) → IsKnown config unit past → IsNexus actor
     → Answer.Made (length (tokens past)) ≡ answer_after config unit past actor at (Act.Populate id timeout ranges) → length (tokens past) < 2 ^ 48
-    → jobs.is_busy (key_of actor OfToken id) (jobs_of past) ≡ false
+    → jobs.is_busy (key_of actor OfToken id) (jobs_of past) ≡ false → is_within (unit_of config unit).blocks ranges ≡ true → is_overlapping ranges ≡ false
     → IsPlan config unit past actor at (Act.Populate id timeout ranges) (record {
       answer = Answer.Made (length (tokens past));
       blocks = BlockChange.Nothing;
       jobs = JobChange.Make (key_of actor OfToken id) (length (tokens past)) (total ranges);
-      tokens = TokenChange.Make timeout (total ranges) (cut (unit_of config unit) (held past) (blocks_of ranges));
+      tokens = TokenChange.Make timeout (total ranges) ranges;
     })
-populate-plan config unit past actor at id timeout ranges known nexus told few idle = record {
+populate-plan config unit past actor at id timeout ranges known nexus told few idle inside alone = record {
   answer = told;
   wrote = refl;
   jobs = λ d is.
@@ -215,6 +218,7 @@ populate-plan config unit past actor at id timeout ranges known nexus told few i
   may_blocks = tt;
   may_jobs = (refl, idle);
   may_tokens = λ spare h. (h refl, (let e = length-map (tokens past) (kept_of u) in omega (arith, few, e)));
+  may_pin = (inside, alone);
   apart = λ e. refl;
   ends = λ e. cc;
 }
@@ -244,6 +248,7 @@ start-plan config unit past actor at id background ranges rod state known nexus 
   may_blocks = tt;
   may_jobs = may;
   may_tokens = λ spare h. tt;
+  may_pin = tt;
   apart = λ e. refl;
   ends = λ e. cc;
 }
@@ -277,6 +282,7 @@ open-plan config unit past actor at id known nexus told idle few = record {
   may_blocks = tt;
   may_jobs = (refl, idle, few);
   may_tokens = λ spare h. tt;
+  may_pin = tt;
   apart = λ e. refl;
   ends = λ e. cc;
 }

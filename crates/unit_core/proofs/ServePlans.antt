@@ -1,6 +1,6 @@
 -- Plans of acts that serve an operation
 use Rattle.std.proofs.Common.{◌≡◌, ℕ, ◌+◌, ◌≤◌, List, [], ◌∷◌, length, refl, ap, sym, ◌∙◌, subst, true, false, Bool}
-use Rattle.std.specs.Prelude.{Some, ◌==◌, ◌&&◌, ◌||◌, not, nat_lt, if◌then◌else◌}
+use Rattle.std.specs.Prelude.{◌||◌, Some, ◌==◌, ◌&&◌, ◌||◌, not, nat_lt, if◌then◌else◌}
 use Rattle.cm_base.specs.Configuration.{Configuration}
 use Rattle.cm_base.specs.declared.config.UnitConfig.{UnitConfig}
 use Rattle.cm_base.specs.Units.{unit_of}
@@ -27,7 +27,7 @@ use Rattle.copy_jobs.specs.Pieces.{next_length}
 use Rattle.copy_jobs.specs.Changes.{change, with_work, moved_by, stopped_by, terminated, closed_by}
 use Rattle.unit_core.specs.declared.block_change.BlockChange.{BlockChange}
 use Rattle.unit_core.specs.declared.job_change.JobChange.{JobChange}
-use Rattle.unit_core.specs.declared.token_change.TokenChange.{TokenChange}
+use Rattle.token_pins.specs.declared.token_change.TokenChange.{TokenChange}
 use Rattle.unit_core.specs.declared.plan.Plan.{Plan}
 use Rattle.cm_history.specs.Ends.{ends_operation}
 use Rattle.unit_core.specs.inner.BlockChanges.{writings_of, MayChange, MayPut}
@@ -83,7 +83,8 @@ served-plan config unit past actor at act o answer blocks j g known found told w
   may_blocks = may_b;
   may_jobs = may_j;
   may_tokens = λ spare h. tt;
-  apart = λ e. let no = sym e ∙ grow in cc;
+  may_pin = tt;
+  apart = λ e. let no = sym e ∙ ap (λ t. t || false) grow in cc;
   ends = none;
 }
 

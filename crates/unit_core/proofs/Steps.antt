@@ -1,6 +1,6 @@
 -- The tables and the record of a unit agree with a list of entries, also with one more entry, and when kept ones are dropped
 use Rattle.std.proofs.Common.{◌≡◌, ℕ, zero, suc, ◌+◌, ◌-◌, ◌^◌, ◌<◌, ◌≤◌, List, [], ◌∷◌, ◌++◌, length, drop, take, refl, ap, sym, ◌∙◌, subst, arith, false, true, Bool, append_assoc, append-nil, length-append, inl, inr}
-use Rattle.std.specs.Prelude.{◌==◌, max, None, fold, nat_le, sum_by, if◌then◌else◌, ◌⊎◌, Option, Some}
+use Rattle.std.specs.Prelude.{◌==◌, max, None, fold, nat_le, sum_by, if◌then◌else◌, ◌⊎◌, Option, Some, map}
 use Rattle.std.proofs.lemmas.Bool.{cases_lt}
 use Rattle.std.proofs.lemmas.Bool.Decides.{nat_tests}
 use Rattle.std.proofs.lemmas.List.{drop-append-le, drop-drop, drop_at, length-drop}
@@ -23,7 +23,15 @@ use Rattle.cm_history.specs.Asked.{IsAsked}
 use Rattle.unit_core.specs.inner.Agreeing.{TokensAgree, IsRecord, TablesAgree, RecordAgrees, payload_in}
 use Rattle.unit_core.specs.inner.BlockChanges.{writings_of}
 use Rattle.unit_core.specs.inner.JobChanges.{jobs_after}
-use Rattle.unit_core.specs.inner.TokenChanges.{tokens_after}
+use Rattle.token_pins.specs.Pinning.{rod_now}
+use Rattle.token_pins.specs.TokenChanges.{tokens_after, MayPin}
+use Rattle.token_pins.specs.declared.token_change.TokenChange.{TokenChange}
+use Rattle.rod_store.specs.declared.kept.Kept.{Kept}
+use Rattle.rod_store.specs.Kept.{expired, populated}
+use Rattle.lba_ranges.specs.Denoted.{blocks_of}
+use Rattle.cm_base.specs.declared.config.UnitConfig.{UnitConfig}
+use Rattle.cm_history.specs.Blocks.{held}
+use Rattle.unit_core.proofs.SimplePlans.{map-within}
 use Rattle.unit_core.specs.inner.Planning.{IsDeed, IsPlan}
 use Rattle.unit_core.proofs.Pasts.{past_of-push, own-push, length-past}
 use Rattle.unit_core.proofs.Blocks.{blocks-step}
@@ -68,6 +76,17 @@ tables-same config unit entries blocks size blocks' size' holds holds' tokens to
   quota = agrees.quota;
 }
 
+-- a new token is made of the same blocks, where the blocks of the unit are the same
+rods-alike : (u : UnitConfig) (at size : ℕ) (f g : ℕ → Held) → size ≡ u.block_length → ((b : ℕ) → b < u.blocks → f b ≡ g b) → (c : TokenChange) (tokens : List (Kept HeldBlocks)) → MayPin u.blocks c
+    → tokens_after (rod_now size f) c at tokens ≡ tokens_after (rod_now u.block_length g) c at tokens
+rods-alike u at size f g long same TokenChange.Nothing tokens may = refl
+rods-alike u at size f g long same (TokenChange.Make timeout blocks ranges) tokens may =
+    ap (populated (expired at tokens) at timeout blocks)
+    (ap (λ n. let h : HeldBlocks = record { block_length = n; items = map f (blocks_of ranges) } in h) long
+    ∙ ap (λ l. let h : HeldBlocks = record { block_length = u.block_length; items = l } in h) (map-within u.blocks ranges f g same may.0))
+rods-alike u at size f g long same (TokenChange.Use serial) tokens may = refl
+rods-alike u at size f g long same (TokenChange.Delete serial) tokens may = refl
+
 -- what an entry needs of the act's plan, and of the tables after it
 pub record Done (config : Configuration) (unit : ℕ) (entries : List Entry) (e : Entry) (plan : Plan) (blocks size blocks' size' : ℕ) (holds holds' : ℕ → Held)
     (tokens tokens' : Store HeldBlocks) (jobs jobs' : List Job) : Type 0 where
@@ -76,7 +95,7 @@ pub record Done (config : Configuration) (unit : ℕ) (entries : List Entry) (e 
   pub long : size' ≡ size
   pub put : (b : ℕ) → holds' b ≡ after (writings_of plan.blocks) b (holds b)
   pub own : tokens'.unit ≡ tokens.unit
-  pub kept : tokens'.tokens ≡ tokens_after plan.tokens (max e.moment (moment (past_of config unit entries))) tokens.tokens
+  pub kept : tokens'.tokens ≡ tokens_after (rod_now size holds) plan.tokens (max e.moment (moment (past_of config unit entries))) tokens.tokens
   pub changed : jobs' ≡ jobs_after plan.jobs jobs
 
 -- where the tables were brought on by the plan, and the counters moved on
@@ -97,7 +116,9 @@ tables-step config unit entries e plan blocks size blocks' size' holds holds' to
     let blocks_now = blocks-step u past d blocks size blocks' size' holds holds' (writings_of plan.blocks) agrees.blocks done.count done.long wrote done.put in
     let tokens_now : TokensAgree u unit (d ∷ past) tokens' = record {
       unit = done.own ∙ agrees.tokens.unit;
-      tokens = done.kept ∙ ap (tokens_after plan.tokens (max e.moment (moment past))) agrees.tokens.tokens ∙ sym (done.planned.tokens d is);
+      tokens = done.kept
+          ∙ rods-alike u (max e.moment (moment past)) size holds (held past) agrees.blocks.size agrees.blocks.same plan.tokens tokens.tokens done.planned.may_pin
+          ∙ ap (tokens_after (rod_now u.block_length (held past)) plan.tokens (max e.moment (moment past))) agrees.tokens.tokens ∙ sym (done.planned.tokens d is);
     } in
     record {
       record_is = record {

@@ -3,5 +3,4 @@ pub mod Agreeing
 pub mod Shown
 pub mod BlockChanges
 pub mod JobChanges
-pub mod TokenChanges
 pub mod Planning

@@ -1,4 +1,5 @@
 ghost use Rattle.std.specs.Prelude.{◌≡◌, ℕ, OnOk, OnErr, false};
+ghost use Rattle.lba_ranges.specs.Versions.{PinsStay};
 ghost use Rattle.lba_ranges.specs.Writings.{after};
 ghost use Rattle.unit_core.specs.inner.BlockChanges.{writings_of, MayChange, is_nothing};
 
@@ -22,6 +23,7 @@ impl BlockChange {
         ensures some { OnErr result (is_nothing self.now ≡ false) }
         ensures blocks { B.blocks blocks.new ≡ B.blocks blocks.old }
         ensures length { B.block_length blocks.new ≡ B.block_length blocks.old }
+        ensures pins { PinsStay (B.pinned blocks.old) (B.shown blocks.old) (B.pinned blocks.new) (B.shown blocks.new) }
     {
         match self {
             BlockChange::Nothing => Ok(()),

@@ -13,9 +13,12 @@ use crate::room::token_key;
 use crate::unit::UnitOver;
 use cm_history::{Act, Actor, Answer, CopyEnd, standing_law};
 use copy_jobs::Key;
-use lba_ranges::Blocks;
+use lba_ranges::Pins;
 
-impl<B: Blocks + Drop> UnitOver<B> {
+impl<B: Pins + Drop> UnitOver<B>
+where
+    B::Pin: Drop,
+{
     /// Does an act that ends an operation, for which an entry is kept free. It takes no memory.
     fn finish(&mut self, actor: Actor, seq: u64, stamp: u64, moment: u64, act: Act) -> Answer
         requires limits { within_limits self.old.config self.old.unit act ≡ true }

@@ -10,7 +10,7 @@ ghost use Rattle.unit_core.specs.inner.Agreeing.{payload_in};
 use crate::room::bytes_in;
 use crate::unit::UnitOver;
 use cm_history::{History, standing_law};
-use lba_ranges::Blocks;
+use lba_ranges::Pins;
 use recorder::{RecordRefused, Recorder};
 
 /// How a fold ended: no entry is kept, or why one is.
@@ -39,6 +39,7 @@ fn record_all<R: Recorder>(history: &mut History, payload: &mut u64, recorder: &
     ensures room { history.new.spare ≡ history.old.spare }
     ensures all { result ≡ FoldEnd.All → history.new.entries ≡ [] }
     ensures absent { R.absent recorder.old ≡ true → history.old.entries ≢ [] → result ≡ FoldEnd.Absent }
+    ensures idle { R.absent recorder.old ≡ true → history.new.entries ≡ history.old.entries }
     ensures present { result ≡ FoldEnd.Absent → R.absent recorder.old ≡ true }
     ensures failed { result ≡ FoldEnd.Failed → Rose (R.record_faults recorder.old) (R.record_faults recorder.new) }
     ensures counts { R.record_faults recorder.old ≤ R.record_faults recorder.new }
@@ -60,7 +61,10 @@ fn record_all<R: Recorder>(history: &mut History, payload: &mut u64, recorder: &
     FoldEnd::All
 }
 
-impl<B: Blocks + Drop> UnitOver<B> {
+impl<B: Pins + Drop> UnitOver<B>
+where
+    B::Pin: Drop,
+{
     /// Records the kept entries from the first on, and drops each that was recorded, up to the first that is refused. The
     /// unit answers as before. It takes no memory but what the recorder takes.
     pub fn fold<R: Recorder>(&mut self, recorder: &mut R) -> FoldEnd
@@ -76,6 +80,7 @@ impl<B: Blocks + Drop> UnitOver<B> {
         ensures unit { self.new.unit ≡ self.old.unit }
         ensures all { result ≡ FoldEnd.All → self.new.kept ≡ [] }
         ensures absent { R.absent recorder.old ≡ true → self.old.kept ≢ [] → result ≡ FoldEnd.Absent }
+        ensures idle { R.absent recorder.old ≡ true → self.new.folded ≡ self.old.folded }
         ensures present { result ≡ FoldEnd.Absent → R.absent recorder.old ≡ true }
         ensures failed { result ≡ FoldEnd.Failed → Rose (R.record_faults recorder.old) (R.record_faults recorder.new) }
         ensures counts { R.record_faults recorder.old ≤ R.record_faults recorder.new }

@@ -3,12 +3,15 @@ ghost use Rattle.std.specs.Prelude.{ℕ, List};
 
 use crate::tables::Tables;
 use cm_base::Config;
-use lba_ranges::Blocks;
+use lba_ranges::Pins;
 use std::alloc::Global;
 
 /// The tables and the counters of a unit.
 #[derive(Drop)]
-pub(crate) struct Core<B: Blocks + Drop> {
+pub(crate) struct Core<B: Pins + Drop>
+where
+    B::Pin: Drop,
+{
     pub alloc: Global,
     pub config: Config,
     pub unit: u16,
@@ -27,18 +30,28 @@ pub(crate) trait Reached {
 
     // Some entries do.
     ghost IsReached: { Self → Type 0 };
+
+    // Each live token has a pin of its own, and no other pin is live.
+    ghost IsPinned: { Self → Type 0 };
 }
 
-impl<B: Blocks + Drop> Reached for Core<B> {
+impl<B: Pins + Drop> Reached for Core<B>
+where
+    B::Pin: Drop,
+{
     ghost use Rattle.std.specs.Prelude.{List};
     ghost use Rattle.cm_history.specs.declared.act.Entry.{Entry};
+    ghost use Rattle.std.specs.Prelude.{None};
     ghost use Rattle.unit_core.specs.inner.Agreeing.{TablesAgree};
+    ghost use Rattle.token_pins.specs.Pinning.{rods_of, holder, ArePinned};
 
     ghost IsAfter = { λ c entries. TablesAgree c.config c.unit
         (B.blocks c.tables.blocks) (B.block_length c.tables.blocks) (B.holds c.tables.blocks)
-        c.tables.tokens c.tables.jobs c.last_stamp c.moment entries };
+        (rods_of B.number (B.block_length c.tables.blocks) (B.shown c.tables.blocks) c.tables.tokens) c.tables.jobs c.last_stamp c.moment entries };
 
     ghost IsReached = { λ c. (entries : List Entry) × TablesAgree c.config c.unit
         (B.blocks c.tables.blocks) (B.block_length c.tables.blocks) (B.holds c.tables.blocks)
-        c.tables.tokens c.tables.jobs c.last_stamp c.moment entries };
+        (rods_of B.number (B.block_length c.tables.blocks) (B.shown c.tables.blocks) c.tables.tokens) c.tables.jobs c.last_stamp c.moment entries };
+
+    ghost IsPinned = { λ c. ArePinned B.number (B.blocks c.tables.blocks) (B.pinned c.tables.blocks) (holder None c.tables.tokens.tokens) };
 }

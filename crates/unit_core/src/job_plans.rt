@@ -17,12 +17,12 @@ use crate::job_change::JobChange;
 use crate::plan::Plan;
 use crate::refusals;
 use crate::room::{copy_key, token_key};
-use crate::token_change::TokenChange;
 use cm_base::OutOfMemory;
 use cm_history::{Actor, Answer, CopyEnd, OpState};
 use copy_jobs::{Key, NextPiece};
-use lba_ranges::{BlockList, Blocks, RangeList};
+use lba_ranges::{BlockList, Pins, RangeList};
 use scsi_sense::Sense;
+use token_pins::TokenChange;
 use unmap_thin::mapped_after;
 
 /// How an operation stands behind a piece.
@@ -36,7 +36,10 @@ fn state_after(is_last: bool) -> OpState
     }
 }
 
-impl<B: Blocks + Drop> Core<B> {
+impl<B: Pins + Drop> Core<B>
+where
+    B::Pin: Drop,
+{
     /// Keeps an operation that is to write the rod to the ranges.
     pub(crate) fn plan_start(
         &self,

@@ -15,7 +15,6 @@ mod room;
 mod tables;
 #[cfg(test)]
 mod tests;
-mod token_change;
 mod token_plans;
 mod unit;
 

@@ -4,8 +4,8 @@ ghost use Rattle.unit_core.specs.inner.Planning.{quiet, of_blocks};
 use crate::block_change::BlockChange;
 use crate::block_plans::BlockPlan;
 use crate::job_change::JobChange;
-use crate::token_change::TokenChange;
 use cm_history::Answer;
+use token_pins::TokenChange;
 
 /// What an act is answered, and what it is to change.
 #[derive(Drop)]

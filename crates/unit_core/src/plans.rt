@@ -13,16 +13,20 @@ ghost use Rattle.unit_core.specs.inner.Planning.{IsPlan, Reads, Writes};
 use crate::inner::{Core, Reached};
 use crate::plan::Plan;
 use crate::room::token_key;
-use crate::token_change::TokenChange;
 use crate::{block_plans as blocks, refusals};
 use cm_base::OutOfMemory;
 use cm_history::{Act, Actor, Answer};
-use lba_ranges::{BlockList, Blocks, RangeList};
+use lba_ranges::{BlockList, Pins, RangeList};
+use token_pins::TokenChange;
 
-impl<B: Blocks + Drop> Core<B> {
+impl<B: Pins + Drop> Core<B>
+where
+    B::Pin: Drop,
+{
     /// What an act is answered, and what it is to change. One that ends an operation takes no memory.
     pub(crate) fn plan(&self, actor: Actor, moment: u64, act: &Act) -> Result<Plan, OutOfMemory>
         requires known { ⟦<Core<B> as Reached>⟧.IsReached self.now }
+        requires pinned { ⟦<Core<B> as Reached>⟧.IsPinned self.now }
         requires limits { within_limits self.now.config self.now.unit act.now ≡ true }
         requires asked { may_ask self.now.unit actor act.now ≡ true }
         ensures planned { IfOk result (λ p. (h : List Entry) → ⟦<Core<B> as Reached>⟧.IsAfter self.now h

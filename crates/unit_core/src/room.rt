@@ -15,7 +15,7 @@ use crate::inner::{Core, Reached};
 use crate::unit::UnitOver;
 use cm_history::{Act, Actor, pieces, standing_law};
 use copy_jobs::Key;
-use lba_ranges::Blocks;
+use lba_ranges::Pins;
 
 /// The bytes of a Write, and none of another act.
 pub(crate) fn bytes_in(act: &Act) -> u64
@@ -60,7 +60,10 @@ pub(crate) fn copy_key(actor: Actor, id: u8) -> Key
     }
 }
 
-impl<B: Blocks + Drop> Core<B> {
+impl<B: Pins + Drop> Core<B>
+where
+    B::Pin: Drop,
+{
     /// The act serves an operation that runs.
     pub(crate) fn serves(&self, actor: Actor, act: &Act) -> bool
         requires known { ⟦<Core<B> as Reached>⟧.IsReached self.now }
@@ -96,7 +99,10 @@ impl<B: Blocks + Drop> Core<B> {
     }
 }
 
-impl<B: Blocks + Drop> UnitOver<B> {
+impl<B: Pins + Drop> UnitOver<B>
+where
+    B::Pin: Drop,
+{
     /// The record has no room for one more act: of stamps, of entries or of bytes. It takes no memory.
     pub fn is_full(&self, actor: Actor, stamp: u64, act: &Act) -> bool
         requires limits { within_limits self.now.config self.now.unit act.now ≡ true }

@@ -1,29 +1,37 @@
-ghost use Rattle.std.specs.Prelude.{◌≡◌, ℕ, ◌≤◌, ◌<◌, [], length, None, IfOk, OnOk, OnErr, true, false};
+ghost use Rattle.std.specs.Prelude.{◌≡◌, ℕ, ◌≤◌, ◌<◌, ◌||◌, [], length, None, IfOk, OnOk, OnErr, true, false};
 ghost use Rattle.cm_base.specs.Configuration.{IsUnit};
 ghost use Rattle.cm_base.specs.Units.{unit_of};
 ghost use Rattle.lba_ranges.specs.Writings.{after};
 ghost use Rattle.unit_core.specs.inner.BlockChanges.{writings_of, MayChange, is_nothing};
 ghost use Rattle.unit_core.specs.inner.JobChanges.{jobs_after, MayJob, grows};
-ghost use Rattle.unit_core.specs.inner.TokenChanges.{tokens_after, MayToken, is_make};
+ghost use Rattle.token_pins.specs.Pinning.{rods_of, rod_now, holder, ArePinned};
+ghost use Rattle.token_pins.specs.TokenChanges.{tokens_after, MayPin, MayToken, is_make};
 ghost use Rattle.unit_core.specs.inner.Planning.{takes_none};
 
 use crate::plan::Plan;
 use cm_base::{Config, OutOfMemory};
 use cm_history::Answer;
 use copy_jobs::JobTable;
-use lba_ranges::{BlockList, Blocks};
+use lba_ranges::Pins;
 use rod_store::RodStore;
 use std::alloc::Global;
+use token_pins::{PinnedRod, give_up, settle};
 
-/// What a unit answers from: its blocks, its tokens and its operations.
+/// What a unit answers from: its blocks, its tokens and its operations. A live token is a pin of its blocks.
 #[derive(Drop)]
-pub(crate) struct Tables<B: Blocks + Drop> {
+pub(crate) struct Tables<B: Pins + Drop>
+where
+    B::Pin: Drop,
+{
     pub blocks: B,
-    pub tokens: RodStore<BlockList>,
+    pub tokens: RodStore<PinnedRod<B::Pin>>,
     pub jobs: JobTable,
 }
 
-impl<B: Blocks + Drop> Tables<B> {
+impl<B: Pins + Drop> Tables<B>
+where
+    B::Pin: Drop,
+{
     /// The tables of a unit that nothing was asked of yet.
     pub fn new(alloc: Global, config: &Config, unit: u16) -> Result<Tables<B>, OutOfMemory>
         requires { unit < length config.now.units }
@@ -33,6 +41,7 @@ impl<B: Blocks + Drop> Tables<B> {
         ensures unmapped { IfOk result (λ t. (block : ℕ) → B.holds t.blocks block ≡ None) }
         ensures unit { IfOk result (λ t. t.tokens.unit ≡ unit) }
         ensures tokens { IfOk result (λ t. t.tokens.tokens ≡ []) }
+        ensures pinned { IfOk result (λ t. ArePinned B.number (B.blocks t.blocks) (B.pinned t.blocks) (holder None t.tokens.tokens)) }
         ensures jobs { IfOk result (λ t. t.jobs ≡ []) }
     {
         let told = config.unit(unit);
@@ -50,19 +59,25 @@ impl<B: Blocks + Drop> Tables<B> {
         requires blocks { MayChange (B.blocks self.old.blocks) (B.block_length self.old.blocks) plan.blocks }
         requires jobs { MayJob plan.jobs self.old.jobs }
         requires tokens { (spare : ℕ) → (is_make plan.tokens ≡ true → 1 ≤ spare)
-            → MayToken (record self.old.tokens { spare = spare }) now plan.tokens }
-        requires apart { grows plan.jobs ≡ true → is_nothing plan.blocks ≡ true }
+            → MayToken (record (rods_of B.number (B.block_length self.old.blocks) (B.shown self.old.blocks) self.old.tokens) { spare = spare }) now plan.tokens }
+        requires pins { MayPin (B.blocks self.old.blocks) plan.tokens }
+        requires apart { (grows plan.jobs || is_make plan.tokens) ≡ true → is_nothing plan.blocks ≡ true }
+        requires pinned { ArePinned B.number (B.blocks self.old.blocks) (B.pinned self.old.blocks) (holder None self.old.tokens.tokens) }
+        ensures pinned { ArePinned B.number (B.blocks self.new.blocks) (B.pinned self.new.blocks) (holder None self.new.tokens.tokens) }
         ensures answer { IfOk result (λ a. a ≡ plan.answer) }
         ensures wrote { OnOk result ((block : ℕ) → B.holds self.new.blocks block
             ≡ after (writings_of plan.blocks) block (B.holds self.old.blocks block)) }
         ensures jobs { OnOk result (self.new.jobs ≡ jobs_after plan.jobs self.old.jobs) }
-        ensures tokens { OnOk result (self.new.tokens.tokens ≡ tokens_after plan.tokens now self.old.tokens.tokens) }
+        ensures tokens { OnOk result ((rods_of B.number (B.block_length self.new.blocks) (B.shown self.new.blocks) self.new.tokens).tokens
+            ≡ tokens_after (rod_now (B.block_length self.old.blocks) (B.holds self.old.blocks)) plan.tokens now
+            (rods_of B.number (B.block_length self.old.blocks) (B.shown self.old.blocks) self.old.tokens).tokens) }
         ensures unit { self.new.tokens.unit ≡ self.old.tokens.unit }
         ensures blocks { B.blocks self.new.blocks ≡ B.blocks self.old.blocks }
         ensures length { B.block_length self.new.blocks ≡ B.block_length self.old.blocks }
         ensures same_blocks { OnErr result ((block : ℕ) → B.holds self.new.blocks block ≡ B.holds self.old.blocks block) }
         ensures same_jobs { OnErr result (self.new.jobs ≡ self.old.jobs) }
-        ensures same_tokens { OnErr result (self.new.tokens.tokens ≡ self.old.tokens.tokens) }
+        ensures same_tokens { OnErr result ((rods_of B.number (B.block_length self.new.blocks) (B.shown self.new.blocks) self.new.tokens).tokens
+            ≡ (rods_of B.number (B.block_length self.old.blocks) (B.shown self.old.blocks) self.old.tokens).tokens) }
         ensures memory { OnErr result (takes_none plan ≡ false) }
     {
         let Plan {
@@ -73,8 +88,12 @@ impl<B: Blocks + Drop> Tables<B> {
         } = plan;
         tokens.reserve(&mut self.tokens)?;
         blocks.apply(&mut self.blocks)?;
-        jobs.apply(&mut self.jobs)?;
-        tokens.apply(now, &mut self.tokens);
+        let change = tokens.pinned(&mut self.blocks)?;
+        if let Err(refused) = jobs.apply(&mut self.jobs) {
+            give_up(change, &mut self.blocks);
+            return Err(refused);
+        }
+        settle(change, now, &mut self.tokens, &mut self.blocks);
         Ok(answer)
     }
 }

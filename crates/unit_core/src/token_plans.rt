@@ -14,15 +14,18 @@ use crate::job_change::JobChange;
 use crate::plan::Plan;
 use crate::refusals;
 use crate::room::token_key;
-use crate::token_change::TokenChange;
 use cm_base::OutOfMemory;
 use cm_history::{Actor, Answer};
-use lba_ranges::{Blocks, RangeList};
+use lba_ranges::{Pins, RangeList};
+use token_pins::TokenChange;
 
 /// Serials that a unit makes.
 const SERIALS: u64 = 1 << 48;
 
-impl<B: Blocks + Drop> Core<B> {
+impl<B: Pins + Drop> Core<B>
+where
+    B::Pin: Drop,
+{
     /// Makes a token of the blocks of the ranges, as they stand.
     pub(crate) fn plan_populate(
         &self,
@@ -48,8 +51,8 @@ impl<B: Blocks + Drop> Core<B> {
         if serial >= SERIALS {
             return Ok(Plan::answered(refusals::insufficient_resources()));
         }
-        let list = self.tables.blocks.cut(self.alloc, ranges)?;
         let blocks = ranges.total() as u32;
+        let ranges = ranges.copy(self.alloc)?;
         Ok(Plan {
             answer: Answer::Made { serial },
             blocks: BlockChange::Nothing,
@@ -61,7 +64,7 @@ impl<B: Blocks + Drop> Core<B> {
             tokens: TokenChange::Make {
                 timeout,
                 blocks,
-                list,
+                ranges,
             },
         })
     }
@@ -74,14 +77,18 @@ impl<B: Blocks + Drop> Core<B> {
         target: u16,
     ) -> Result<Plan, OutOfMemory>
         requires known { ⟦<Core<B> as Reached>⟧.IsReached self.now }
+        requires pinned { ⟦<Core<B> as Reached>⟧.IsPinned self.now }
         requires limits { within_limits self.now.config self.now.unit (Act.Redeem text.now target) ≡ true }
         ensures { IfOk result (λ p. (h : List Entry) → ⟦<Core<B> as Reached>⟧.IsAfter self.now h → (actor : Actor)
             → IsPlan self.now.config self.now.unit (past_of self.now.config self.now.unit h) actor moment (Act.Redeem text.now target) p) }
     {
         let now = moment.max(self.moment);
         match self.tables.tokens.peek(&self.config, now, text, target) {
-            Ok((serial, list)) => {
-                let list = list.copy(self.alloc)?;
+            Ok((serial, rod)) => {
+                let list = self
+                    .tables
+                    .blocks
+                    .cut_at(self.alloc, &rod.pin, &rod.ranges)?;
                 Ok(Plan::of_tokens(Answer::Rod(list), TokenChange::Use { serial }))
             }
             Err(sense) => Ok(Plan::answered(Answer::Refused(sense))),

@@ -19,8 +19,8 @@ use crate::room::bytes_in;
 use crate::tables::Tables;
 use cm_base::{Config, OutOfMemory};
 use cm_history::{Act, ActRefused, Actor, Answer, Entry, History, standing_law};
-use lba_ranges::Blocks;
-use lun_extents::ExtentUnit;
+use lba_ranges::Pins;
+use lun_versions::VersionUnit;
 use std::alloc::Global;
 use std::marker::Model;
 
@@ -28,7 +28,10 @@ use std::marker::Model;
 /// many older ones were recorded elsewhere and dropped, and all that its answers depend on. It answers as after each
 /// list of entries for which it stands.
 #[derive(Drop)]
-pub struct UnitOver<B: Blocks + Drop> {
+pub struct UnitOver<B: Pins + Drop>
+where
+    B::Pin: Drop,
+{
     pub(crate) core: Core<B>,
     pub(crate) history: History,
     pub(crate) folded: u64,
@@ -37,14 +40,18 @@ pub struct UnitOver<B: Blocks + Drop> {
 }
 
 /// One unit.
-pub type Unit = UnitOver<ExtentUnit>;
+pub type Unit = UnitOver<VersionUnit>;
 
-impl<B: Blocks + Drop> Model for UnitOver<B> {
-    ghost use Rattle.std.specs.Prelude.{List, ◌+◌, length};
+impl<B: Pins + Drop> Model for UnitOver<B>
+where
+    B::Pin: Drop,
+{
+    ghost use Rattle.std.specs.Prelude.{List, None, ◌+◌, length};
     ghost use Rattle.cm_history.specs.declared.act.Entry.{Entry};
     ghost use Rattle.unit_core.specs.UnitState.{UnitState};
     ghost use Rattle.unit_core.specs.inner.Shown.{image_shown};
     ghost use Rattle.unit_core.specs.inner.Agreeing.{TablesAgree, RecordAgrees};
+    ghost use Rattle.token_pins.specs.Pinning.{rods_of, holder, ArePinned};
 
     ghost Value = { UnitState };
 
@@ -54,18 +61,24 @@ impl<B: Blocks + Drop> Model for UnitOver<B> {
       kept = u.history.entries;
       folded = u.folded;
       image = image_shown u.core.moment u.core.last_stamp (u.folded + length u.history.entries)
-          (B.blocks u.core.tables.blocks) (B.holds u.core.tables.blocks) u.core.tables.tokens.tokens u.core.tables.jobs;
+          (B.blocks u.core.tables.blocks) (B.holds u.core.tables.blocks)
+          (rods_of B.number (B.block_length u.core.tables.blocks) (B.shown u.core.tables.blocks) u.core.tables.tokens).tokens u.core.tables.jobs;
     } };
 
     // a list of entries that makes the unit as it is
     ghost invariant = { λ u. (whole : List Entry)
         × TablesAgree u.core.config u.core.unit
         (B.blocks u.core.tables.blocks) (B.block_length u.core.tables.blocks) (B.holds u.core.tables.blocks)
-        u.core.tables.tokens u.core.tables.jobs u.core.last_stamp u.core.moment whole
-        × RecordAgrees u.core.config u.core.unit u.history.entries u.folded u.history.spare u.payload whole };
+        (rods_of B.number (B.block_length u.core.tables.blocks) (B.shown u.core.tables.blocks) u.core.tables.tokens)
+        u.core.tables.jobs u.core.last_stamp u.core.moment whole
+        × RecordAgrees u.core.config u.core.unit u.history.entries u.folded u.history.spare u.payload whole
+        × ArePinned B.number (B.blocks u.core.tables.blocks) (B.pinned u.core.tables.blocks) (holder None u.core.tables.tokens.tokens) };
 }
 
-impl<B: Blocks + Drop> UnitOver<B> {
+impl<B: Pins + Drop> UnitOver<B>
+where
+    B::Pin: Drop,
+{
     /// A unit that nothing was asked of yet.
     pub fn new(alloc: Global, config: &Config, unit: u16) -> Result<UnitOver<B>, OutOfMemory>
         requires { unit < length config.now.units }

@@ -1,12 +1,12 @@
 -- What is planned for an act: its answer, and what it is to change
-use Rattle.std.specs.Prelude.{◌≡◌, ◌⊎◌, ℕ, ◌+◌, ◌≤◌, List, ◌∷◌, length, max, Option, Some, None, Bool, true, ◌&&◌, not, nat_lt, if◌then◌else◌}
+use Rattle.std.specs.Prelude.{◌≡◌, ◌⊎◌, ℕ, ◌+◌, ◌≤◌, List, ◌∷◌, length, max, Option, Some, None, Bool, true, ◌&&◌, ◌||◌, not, nat_lt, if◌then◌else◌}
 use Rattle.cm_base.specs.declared.config.UnitConfig.{UnitConfig}
 use Rattle.lba_ranges.specs.Denoted.{blocks_of}
 use Rattle.lba_ranges.specs.HeldBlocks.{HeldBlocks}
 use Rattle.lba_ranges.specs.Writings.{Held, paired}
 use Rattle.cm_history.specs.declared.answer.OpState.{OpState}
 use Rattle.scsi_sense.specs.Codes.{space_allocation_failed, invalid_field_in_cdb}
-use Rattle.cm_history.specs.Blocks.{mapped_with}
+use Rattle.cm_history.specs.Blocks.{held, mapped_with}
 use Rattle.cm_history.specs.Legal.{may_ask}
 use Rattle.cm_history.specs.Operations.{OfToken}
 use Rattle.copy_jobs.specs.declared.key.Key.{Key}
@@ -21,11 +21,12 @@ use Rattle.cm_history.specs.Answers.{answer_after, deed, writings, wrote_of}
 use Rattle.unit_core.specs.declared.block_change.BlockChange.{BlockChange}
 use Rattle.unit_core.specs.declared.block_plans.BlockPlan.{BlockPlan}
 use Rattle.unit_core.specs.declared.job_change.JobChange.{JobChange}
-use Rattle.unit_core.specs.declared.token_change.TokenChange.{TokenChange}
+use Rattle.token_pins.specs.declared.token_change.TokenChange.{TokenChange}
 use Rattle.unit_core.specs.declared.plan.Plan.{Plan}
 use Rattle.unit_core.specs.inner.BlockChanges.{writings_of, MayChange, is_nothing}
 use Rattle.unit_core.specs.inner.JobChanges.{jobs_after, MayJob, grows}
-use Rattle.unit_core.specs.inner.TokenChanges.{tokens_after, MayToken, is_make}
+use Rattle.token_pins.specs.Pinning.{rod_now}
+use Rattle.token_pins.specs.TokenChanges.{tokens_after, MayPin, MayToken, is_make}
 use Rattle.unit_core.specs.inner.Tables.{key_of, tokens_of, jobs_of}
 use Rattle.cm_history.specs.Ends.{ends_operation}
 
@@ -54,13 +55,14 @@ pub record IsPlan (config : Configuration) (unit : ℕ) (past : List Deed) (acto
   pub wrote : writings_of plan.blocks ≡ wrote_of plan.answer (writings past actor act)
   pub jobs : (d : Deed) → IsDeed config unit past actor at act d → jobs_of (d ∷ past) ≡ jobs_after plan.jobs (jobs_of past)
   pub tokens : (d : Deed) → IsDeed config unit past actor at act d
-      → tokens_of (unit_of config unit) (d ∷ past) ≡ tokens_after plan.tokens (max at (moment past)) (tokens_of (unit_of config unit) past)
+      → tokens_of (unit_of config unit) (d ∷ past) ≡ tokens_after (rod_now (unit_of config unit).block_length (held past)) plan.tokens (max at (moment past)) (tokens_of (unit_of config unit) past)
   pub may_blocks : MayChange (unit_of config unit).blocks (unit_of config unit).block_length plan.blocks
   pub may_jobs : MayJob plan.jobs (jobs_of past)
   pub may_tokens : (spare : ℕ) → (is_make plan.tokens ≡ true → 1 ≤ spare)
       → MayToken (record { unit = unit; tokens = tokens_of (unit_of config unit) past; spare = spare }) (max at (moment past)) plan.tokens
+  pub may_pin : MayPin (unit_of config unit).blocks plan.tokens
   -- what may fail in one table leaves the others
-  pub apart : grows plan.jobs ≡ true → is_nothing plan.blocks ≡ true
+  pub apart : (grows plan.jobs || is_make plan.tokens) ≡ true → is_nothing plan.blocks ≡ true
   pub ends : ends_operation past actor act ≡ true → takes_none plan ≡ true
 
 -- ---- the acts that are planned alike

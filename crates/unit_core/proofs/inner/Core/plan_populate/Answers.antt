@@ -12,6 +12,8 @@ use Rattle.cm_history.specs.Operations.{OfToken}
 use Rattle.cm_history.specs.History.{past_of}
 use Rattle.copy_jobs.specs.Jobs as jobs
 use Rattle.unit_core.specs.inner.Tables.{key_of, kept_of}
+use Rattle.rod_store.specs.Kept.{kept_with}
+use Rattle.token_pins.specs.Pinning.{rod_shown}
 use Rattle.unit_core.proofs.Jobs.{busy-is}
 use Rattle.unit_core.proofs.Asking.{asker}
 use Rattle.unit_core.proofs.Planned.{own-of}
@@ -52,7 +54,7 @@ returns-then-serial-ge-SERIALS g c = λ h a.
     let told = c.runs.ensures.busy ∙ ap (λ k. jobs.is_busy k u.tables.jobs) c.token_key-key.ensures ∙ ap (jobs.is_busy (key_of c.args.actor OfToken c.args.id)) a.jobs
     ∙ busy-is u.config u.unit past c.args.actor OfToken c.args.id known.is (own-of u.config u.unit past known) mine in
     let inside : c.within.result ≡ is_within (unit_of u.config u.unit).blocks c.args.ranges.now = c.within.ensures ∙ ap (λ (t : UnitConfig). is_within t.blocks c.args.ranges.now) c.unit.ensures.told in
-    let made : c.next_serial-serial.result ≡ length (tokens past) = c.next_serial-serial.ensures.count ∙ ap length a.tokens.tokens ∙ length-map (tokens past) (kept_of (unit_of u.config u.unit)) in
+    let made : c.next_serial-serial.result ≡ length (tokens past) = c.next_serial-serial.ensures.count ∙ sym (length-map u.tables.tokens.tokens (kept_with (rod_shown g.B.Pins.number (g.B.Blocks.block_length u.tables.blocks) (g.B.Blocks.shown u.tables.blocks)))) ∙ ap length a.tokens.tokens ∙ length-map (tokens past) (kept_of (unit_of u.config u.unit)) in
     rw (c.answered-then-serial-ge-SERIALS.ensures, c.insufficient_resources.ensures)
     (λ at. populate-many u.config u.unit past c.args.actor at c.args.id c.args.timeout c.args.ranges.now (sym told ∙ c.if-runs.false) (sym inside ∙ c.if-not-within.false) (omega (arith, made)))
 
@@ -66,11 +68,6 @@ returns g c = λ h a.
     ∙ busy-is u.config u.unit past c.args.actor OfToken c.args.id known.is (own-of u.config u.unit past known) mine in
     let inside : c.within.result ≡ is_within (unit_of u.config u.unit).blocks c.args.ranges.now = c.within.ensures ∙ ap (λ (t : UnitConfig). is_within t.blocks c.args.ranges.now) c.unit.ensures.told in
     let within : is_within (unit_of u.config u.unit).blocks c.args.ranges.now ≡ true = sym inside ∙ c.if-not-within.false in
-    let made : c.next_serial-serial.result ≡ length (tokens past) = c.next_serial-serial.ensures.count ∙ ap length a.tokens.tokens ∙ length-map (tokens past) (kept_of (unit_of u.config u.unit)) in
-    let holds = g.B.Blocks.holds u.tables.blocks in
-    let items = map-within (unit_of u.config u.unit).blocks c.args.ranges.now holds (held past) a.blocks.same within in
-    let list : c.in_ok-list.list ≡ cut (unit_of u.config u.unit) (held past) (blocks_of c.args.ranges.now) = c.in_ok-list.ensures
-    ∙ ap (λ (n : ℕ). let h : HeldBlocks = record { block_length = n; items = map holds (blocks_of c.args.ranges.now) } in h) a.blocks.size
-    ∙ ap (λ (xs : List Held). let h : HeldBlocks = record { block_length = (unit_of u.config u.unit).block_length; items = xs } in h) items in
-    rw (made, c.total-blocks.ensures.total, list, c.token_key-key.ensures)
-    (λ at. populate-made u.config u.unit past c.args.actor at c.args.id c.args.timeout c.args.ranges.now known mine (sym told ∙ c.if-runs.false) within (omega (arith, made)))
+    let made : c.next_serial-serial.result ≡ length (tokens past) = c.next_serial-serial.ensures.count ∙ sym (length-map u.tables.tokens.tokens (kept_with (rod_shown g.B.Pins.number (g.B.Blocks.block_length u.tables.blocks) (g.B.Blocks.shown u.tables.blocks)))) ∙ ap length a.tokens.tokens ∙ length-map (tokens past) (kept_of (unit_of u.config u.unit)) in
+    rw (made, c.total-blocks.ensures.total, c.in_ok-ranges.ensures, c.token_key-key.ensures)
+    (λ at. populate-made u.config u.unit past c.args.actor at c.args.id c.args.timeout c.args.ranges.now known mine (sym told ∙ c.if-runs.false) within (omega (arith, made)) c.requires.limits)

@@ -28,7 +28,7 @@ use Rattle.unit_core.specs.Acting.{MayRedeem}
 use Rattle.unit_core.specs.inner.Agreeing.{RecordAgrees, payload_in}
 use Rattle.unit_core.specs.inner.Planning.{IsPlan, takes_none}
 use Rattle.unit_core.specs.inner.Tables.{tokens_of}
-use Rattle.unit_core.specs.inner.TokenChanges.{MayToken, tokens_after}
+use Rattle.token_pins.specs.TokenChanges.{MayToken, tokens_after}
 use Rattle.unit_core.proofs.Forming.{answer-formed}
 use Rattle.unit_core.proofs.Planned.{ends-serves}
 use Rattle.unit_core.proofs.Reserving.{reserved-is}
@@ -36,6 +36,7 @@ use Rattle.unit_core.proofs.Rooms.{full-serving, need-served, reserved-step, roo
 use Rattle.unit_core.proofs.Standing.{ends-alike, shown-same}
 use Rattle.unit_core.proofs.Steps.{Done, length-kept, payload-kept, record-more, record-step, stamp-next, tables-same, tables-step}
 use Rattle.unit_core.proofs.TableAnswers.{some-there, redeem-given}
+use Rattle.token_pins.specs.Pinning.{rods_of, rod_now}
 use Rattle.unit_core.proofs.unit.UnitOver.act.Goals as goal
 
 if-err : {T F : Type 0} (r : Result T F) (P : F → Type 0) → ((e : F) → P e) → IfErr r P
@@ -56,13 +57,13 @@ returns-then-is_full-clause-serves g c = λ e h s serves.
     let u = c.self.inside in
     let o = u.core in
     let w = c.self.invariant.0 in
-    let t : TablesAgree o.config o.unit (g.B.Blocks.blocks o.tables.blocks) (g.B.Blocks.block_length o.tables.blocks) (g.B.Blocks.holds o.tables.blocks) o.tables.tokens o.tables.jobs o.last_stamp o.moment w = c.self.invariant.1 in
+    let t : TablesAgree o.config o.unit (g.B.Blocks.blocks o.tables.blocks) (g.B.Blocks.block_length o.tables.blocks) (g.B.Blocks.holds o.tables.blocks) (rods_of g.B.Pins.number (g.B.Blocks.block_length o.tables.blocks) (g.B.Blocks.shown o.tables.blocks) o.tables.tokens) o.tables.jobs o.last_stamp o.moment w = c.self.invariant.1 in
     let r = c.self.invariant.2 in
     let past = past_of o.config o.unit w in
     let known = known-of o.config o.unit w t.record_is in
     let limit = unit_of o.config o.unit in
-    let own = stands-own o.config o.unit u.history.entries u.folded u.history.spare u.payload (g.B.Blocks.blocks o.tables.blocks) (g.B.Blocks.block_length o.tables.blocks) (g.B.Blocks.holds o.tables.blocks) o.tables.tokens o.tables.jobs o.last_stamp o.moment w t r in
-    let shown = image_shown o.moment o.last_stamp (u.folded + length u.history.entries) (g.B.Blocks.blocks o.tables.blocks) (g.B.Blocks.holds o.tables.blocks) o.tables.tokens.tokens o.tables.jobs in
+    let own = stands-own o.config o.unit u.history.entries u.folded u.history.spare u.payload (g.B.Blocks.blocks o.tables.blocks) (g.B.Blocks.block_length o.tables.blocks) (g.B.Blocks.holds o.tables.blocks) (rods_of g.B.Pins.number (g.B.Blocks.block_length o.tables.blocks) (g.B.Blocks.shown o.tables.blocks) o.tables.tokens) o.tables.jobs o.last_stamp o.moment w t r in
+    let shown = image_shown o.moment o.last_stamp (u.folded + length u.history.entries) (g.B.Blocks.blocks o.tables.blocks) (g.B.Blocks.holds o.tables.blocks) (rods_of g.B.Pins.number (g.B.Blocks.block_length o.tables.blocks) (g.B.Blocks.shown o.tables.blocks) o.tables.tokens).tokens o.tables.jobs in
     let stood : StandsFor o.config o.unit shown u.history.entries u.folded h = rw (← c.self.view_is) at s in
     let p = c.standing_law.ensures shown u.history.entries u.folded h w stood own in
     let standing : Stands c.args.self.now w = rw (← c.self.view_is) own in
@@ -78,17 +79,17 @@ returns-in_err-reserve-clause-ends g c =
     let u = c.self.inside in
     let o = u.core in
     let w = c.self.invariant.0 in
-    let t : TablesAgree o.config o.unit (g.B.Blocks.blocks o.tables.blocks) (g.B.Blocks.block_length o.tables.blocks) (g.B.Blocks.holds o.tables.blocks) o.tables.tokens o.tables.jobs o.last_stamp o.moment w = c.self.invariant.1 in
+    let t : TablesAgree o.config o.unit (g.B.Blocks.blocks o.tables.blocks) (g.B.Blocks.block_length o.tables.blocks) (g.B.Blocks.holds o.tables.blocks) (rods_of g.B.Pins.number (g.B.Blocks.block_length o.tables.blocks) (g.B.Blocks.shown o.tables.blocks) o.tables.tokens) o.tables.jobs o.last_stamp o.moment w = c.self.invariant.1 in
     let r = c.self.invariant.2 in
     let past = past_of o.config o.unit w in
     let known = known-of o.config o.unit w t.record_is in
     let limit = unit_of o.config o.unit in
-    let own = stands-own o.config o.unit u.history.entries u.folded u.history.spare u.payload (g.B.Blocks.blocks o.tables.blocks) (g.B.Blocks.block_length o.tables.blocks) (g.B.Blocks.holds o.tables.blocks) o.tables.tokens o.tables.jobs o.last_stamp o.moment w t r in
+    let own = stands-own o.config o.unit u.history.entries u.folded u.history.spare u.payload (g.B.Blocks.blocks o.tables.blocks) (g.B.Blocks.block_length o.tables.blocks) (g.B.Blocks.holds o.tables.blocks) (rods_of g.B.Pins.number (g.B.Blocks.block_length o.tables.blocks) (g.B.Blocks.shown o.tables.blocks) o.tables.tokens) o.tables.jobs o.last_stamp o.moment w t r in
     let free : c.reserved.result ≡ reserved past = c.reserved.ensures.reserved ∙ ap jobs.reserved t.jobs ∙ reserved-is o.config o.unit past known.is in
     let needed : c.need.result ≡ need past c.args.actor c.args.act = c.need.ensures.need w t in
     let never : ends_operation past c.args.actor c.args.act ≡ false = go o.config o.unit past c.args.actor c.args.act u.history.spare c.reserved.result c.need.result free needed r.free c.in_err-reserve.ensures.needed (ends_operation past c.args.actor c.args.act) refl in
     if-err c.from_residual-in_err-reserve.result _ (λ f same h s.
-    let shown = image_shown o.moment o.last_stamp (u.folded + length u.history.entries) (g.B.Blocks.blocks o.tables.blocks) (g.B.Blocks.holds o.tables.blocks) o.tables.tokens.tokens o.tables.jobs in
+    let shown = image_shown o.moment o.last_stamp (u.folded + length u.history.entries) (g.B.Blocks.blocks o.tables.blocks) (g.B.Blocks.holds o.tables.blocks) (rods_of g.B.Pins.number (g.B.Blocks.block_length o.tables.blocks) (g.B.Blocks.shown o.tables.blocks) o.tables.tokens).tokens o.tables.jobs in
     let stood : StandsFor o.config o.unit shown u.history.entries u.folded h = rw (← c.self.view_is) at s in
     let p = c.standing_law.ensures shown u.history.entries u.folded h w stood own in
     rw (← c.self.view_is) (ends-alike (past_of o.config o.unit h) past c.args.actor c.args.act (p.serves c.args.actor c.args.act) ∙ never))
@@ -107,7 +108,7 @@ change-requires-clause-tokens g c =
     let u = c.self.inside in
     let o = u.core in
     let w = c.self.invariant.0 in
-    let t : TablesAgree o.config o.unit (g.B.Blocks.blocks o.tables.blocks) (g.B.Blocks.block_length o.tables.blocks) (g.B.Blocks.holds o.tables.blocks) o.tables.tokens o.tables.jobs o.last_stamp o.moment w = c.self.invariant.1 in
+    let t : TablesAgree o.config o.unit (g.B.Blocks.blocks o.tables.blocks) (g.B.Blocks.block_length o.tables.blocks) (g.B.Blocks.holds o.tables.blocks) (rods_of g.B.Pins.number (g.B.Blocks.block_length o.tables.blocks) (g.B.Blocks.shown o.tables.blocks) o.tables.tokens) o.tables.jobs o.last_stamp o.moment w = c.self.invariant.1 in
     let r = c.self.invariant.2 in
     let past = past_of o.config o.unit w in
     let known = known-of o.config o.unit w t.record_is in
@@ -125,7 +126,7 @@ append-requires g c =
     let u = c.self.inside in
     let o = u.core in
     let w = c.self.invariant.0 in
-    let t : TablesAgree o.config o.unit (g.B.Blocks.blocks o.tables.blocks) (g.B.Blocks.block_length o.tables.blocks) (g.B.Blocks.holds o.tables.blocks) o.tables.tokens o.tables.jobs o.last_stamp o.moment w = c.self.invariant.1 in
+    let t : TablesAgree o.config o.unit (g.B.Blocks.blocks o.tables.blocks) (g.B.Blocks.block_length o.tables.blocks) (g.B.Blocks.holds o.tables.blocks) (rods_of g.B.Pins.number (g.B.Blocks.block_length o.tables.blocks) (g.B.Blocks.shown o.tables.blocks) o.tables.tokens) o.tables.jobs o.last_stamp o.moment w = c.self.invariant.1 in
     let r = c.self.invariant.2 in
     let past = past_of o.config o.unit w in
     let known = known-of o.config o.unit w t.record_is in
@@ -142,12 +143,12 @@ invariant_of-self-2 g c =
     let u = c.self.inside in
     let o = u.core in
     let w = c.self.invariant.0 in
-    let t : TablesAgree o.config o.unit (g.B.Blocks.blocks o.tables.blocks) (g.B.Blocks.block_length o.tables.blocks) (g.B.Blocks.holds o.tables.blocks) o.tables.tokens o.tables.jobs o.last_stamp o.moment w = c.self.invariant.1 in
+    let t : TablesAgree o.config o.unit (g.B.Blocks.blocks o.tables.blocks) (g.B.Blocks.block_length o.tables.blocks) (g.B.Blocks.holds o.tables.blocks) (rods_of g.B.Pins.number (g.B.Blocks.block_length o.tables.blocks) (g.B.Blocks.shown o.tables.blocks) o.tables.tokens) o.tables.jobs o.last_stamp o.moment w = c.self.invariant.1 in
     let r = c.self.invariant.2 in
     let past = past_of o.config o.unit w in
     let known = known-of o.config o.unit w t.record_is in
     let limit = unit_of o.config o.unit in
-    let own = stands-own o.config o.unit u.history.entries u.folded u.history.spare u.payload (g.B.Blocks.blocks o.tables.blocks) (g.B.Blocks.block_length o.tables.blocks) (g.B.Blocks.holds o.tables.blocks) o.tables.tokens o.tables.jobs o.last_stamp o.moment w t r in
+    let own = stands-own o.config o.unit u.history.entries u.folded u.history.spare u.payload (g.B.Blocks.blocks o.tables.blocks) (g.B.Blocks.block_length o.tables.blocks) (g.B.Blocks.holds o.tables.blocks) (rods_of g.B.Pins.number (g.B.Blocks.block_length o.tables.blocks) (g.B.Blocks.shown o.tables.blocks) o.tables.tokens) o.tables.jobs o.last_stamp o.moment w t r in
     let standing : Stands c.args.self.now w = rw (← c.self.view_is) own in
     let e : Entry = record { stamp = c.max.result + 1; unit = o.unit; actor = c.args.actor; seq = c.args.seq; moment = c.args.moment; act = c.args.act } in
     let asked : IsAsked o.config o.unit (deed o.config o.unit past e) = record { limits = rw (← c.self.view_is) at c.requires.limits; asked = rw (← c.self.view_is) at c.requires.asked } in
@@ -158,17 +159,17 @@ invariant_of-self-2 g c =
     let full : is_full limit u.folded past c.args.actor c.args.stamp c.args.act ≡ false = rw (← c.self.view_is) at (sym (c.is_full.ensures w standing) ∙ c.if-is_full.false) in
     let k = c.change.new.self in
     let done : Done o.config o.unit w e c.in_ok-plan.plan (g.B.Blocks.blocks o.tables.blocks) (g.B.Blocks.block_length o.tables.blocks) (g.B.Blocks.blocks k.blocks) (g.B.Blocks.block_length k.blocks)
-    (g.B.Blocks.holds o.tables.blocks) (g.B.Blocks.holds k.blocks) o.tables.tokens k.tokens o.tables.jobs k.jobs = record {
+    (g.B.Blocks.holds o.tables.blocks) (g.B.Blocks.holds k.blocks) (rods_of g.B.Pins.number (g.B.Blocks.block_length o.tables.blocks) (g.B.Blocks.shown o.tables.blocks) o.tables.tokens) (rods_of g.B.Pins.number (g.B.Blocks.block_length k.blocks) (g.B.Blocks.shown k.blocks) k.tokens) o.tables.jobs k.jobs = record {
       planned = planned;
       count = c.change.ensures.blocks;
       long = c.change.ensures.length;
       put = c.in_ok-answer.ensures.wrote;
       own = c.change.ensures.unit;
-      kept = c.in_ok-answer.ensures.tokens ∙ ap (λ n. tokens_after c.in_ok-plan.plan.tokens n o.tables.tokens.tokens) now;
+      kept = c.in_ok-answer.ensures.tokens ∙ ap (λ n. tokens_after (rod_now (g.B.Blocks.block_length o.tables.blocks) (g.B.Blocks.holds o.tables.blocks)) c.in_ok-plan.plan.tokens n (rods_of g.B.Pins.number (g.B.Blocks.block_length o.tables.blocks) (g.B.Blocks.shown o.tables.blocks) o.tables.tokens).tokens) now;
       changed = c.in_ok-answer.ensures.jobs;
     } in
     let tables = tables-step o.config o.unit w e c.in_ok-plan.plan
-    (g.B.Blocks.blocks o.tables.blocks) (g.B.Blocks.block_length o.tables.blocks) (g.B.Blocks.blocks k.blocks) (g.B.Blocks.block_length k.blocks) (g.B.Blocks.holds o.tables.blocks) (g.B.Blocks.holds k.blocks) o.tables.tokens k.tokens o.tables.jobs k.jobs
+    (g.B.Blocks.blocks o.tables.blocks) (g.B.Blocks.block_length o.tables.blocks) (g.B.Blocks.blocks k.blocks) (g.B.Blocks.block_length k.blocks) (g.B.Blocks.holds o.tables.blocks) (g.B.Blocks.holds k.blocks) (rods_of g.B.Pins.number (g.B.Blocks.block_length o.tables.blocks) (g.B.Blocks.shown o.tables.blocks) o.tables.tokens) (rods_of g.B.Pins.number (g.B.Blocks.block_length k.blocks) (g.B.Blocks.shown k.blocks) k.tokens) o.tables.jobs k.jobs
     o.last_stamp o.moment c.max-now.result t refl asked done c.max-now.ensures in
     let spare : reserved past + need past c.args.actor c.args.act ≤ c.append.new.self.spare + 1 = omega (arith, free, needed, c.in_ok-reserve.ensures.room, c.append.ensures.room) in
     let later : last_stamp past + 1 ≤ c.max.result + 1 = omega (arith, c.max.ensures, t.stamp) in
@@ -180,20 +181,20 @@ invariant_of-self-2 g c =
     let kept : c.append.new.self.entries ≡ u.history.entries ++ e ∷ [] = c.append.ensures.added ∙ ap (λ l. l ++ e ∷ []) c.in_ok-reserve.ensures.same in
     let record_now = record-step o.config o.unit u.history.entries u.folded u.history.spare c.append.new.self.spare u.payload (u.payload + c.bytes_in.result) w e c.args.stamp
     r t.record_is refl asked later fits full spare (ap (λ n. u.payload + n) c.bytes_in.ensures) in
-    rw kept (w ++ e ∷ [], tables, record_now)
+    rw kept (w ++ e ∷ [], tables, record_now, c.change.ensures.pinned)
 
 pub returns-clause-answer : goal.returns-clause-answer
 returns-clause-answer g c = λ h s.
     let u = c.self.inside in
     let o = u.core in
     let w = c.self.invariant.0 in
-    let t : TablesAgree o.config o.unit (g.B.Blocks.blocks o.tables.blocks) (g.B.Blocks.block_length o.tables.blocks) (g.B.Blocks.holds o.tables.blocks) o.tables.tokens o.tables.jobs o.last_stamp o.moment w = c.self.invariant.1 in
+    let t : TablesAgree o.config o.unit (g.B.Blocks.blocks o.tables.blocks) (g.B.Blocks.block_length o.tables.blocks) (g.B.Blocks.holds o.tables.blocks) (rods_of g.B.Pins.number (g.B.Blocks.block_length o.tables.blocks) (g.B.Blocks.shown o.tables.blocks) o.tables.tokens) o.tables.jobs o.last_stamp o.moment w = c.self.invariant.1 in
     let r = c.self.invariant.2 in
     let past = past_of o.config o.unit w in
     let known = known-of o.config o.unit w t.record_is in
     let limit = unit_of o.config o.unit in
-    let own = stands-own o.config o.unit u.history.entries u.folded u.history.spare u.payload (g.B.Blocks.blocks o.tables.blocks) (g.B.Blocks.block_length o.tables.blocks) (g.B.Blocks.holds o.tables.blocks) o.tables.tokens o.tables.jobs o.last_stamp o.moment w t r in
-    let shown = image_shown o.moment o.last_stamp (u.folded + length u.history.entries) (g.B.Blocks.blocks o.tables.blocks) (g.B.Blocks.holds o.tables.blocks) o.tables.tokens.tokens o.tables.jobs in
+    let own = stands-own o.config o.unit u.history.entries u.folded u.history.spare u.payload (g.B.Blocks.blocks o.tables.blocks) (g.B.Blocks.block_length o.tables.blocks) (g.B.Blocks.holds o.tables.blocks) (rods_of g.B.Pins.number (g.B.Blocks.block_length o.tables.blocks) (g.B.Blocks.shown o.tables.blocks) o.tables.tokens) o.tables.jobs o.last_stamp o.moment w t r in
+    let shown = image_shown o.moment o.last_stamp (u.folded + length u.history.entries) (g.B.Blocks.blocks o.tables.blocks) (g.B.Blocks.holds o.tables.blocks) (rods_of g.B.Pins.number (g.B.Blocks.block_length o.tables.blocks) (g.B.Blocks.shown o.tables.blocks) o.tables.tokens).tokens o.tables.jobs in
     let stood : StandsFor o.config o.unit shown u.history.entries u.folded h = rw (← c.self.view_is) at s in
     let p = c.standing_law.ensures shown u.history.entries u.folded h w stood own in
     let planned : IsPlan o.config o.unit past c.args.actor c.args.moment c.args.act c.in_ok-plan.plan = c.in_ok-plan.ensures.planned w t in
@@ -214,12 +215,12 @@ overflow_add-self g c =
     let u = c.self.inside in
     let o = u.core in
     let w = c.self.invariant.0 in
-    let t : TablesAgree o.config o.unit (g.B.Blocks.blocks o.tables.blocks) (g.B.Blocks.block_length o.tables.blocks) (g.B.Blocks.holds o.tables.blocks) o.tables.tokens o.tables.jobs o.last_stamp o.moment w = c.self.invariant.1 in
+    let t : TablesAgree o.config o.unit (g.B.Blocks.blocks o.tables.blocks) (g.B.Blocks.block_length o.tables.blocks) (g.B.Blocks.holds o.tables.blocks) (rods_of g.B.Pins.number (g.B.Blocks.block_length o.tables.blocks) (g.B.Blocks.shown o.tables.blocks) o.tables.tokens) o.tables.jobs o.last_stamp o.moment w = c.self.invariant.1 in
     let r = c.self.invariant.2 in
     let past = past_of o.config o.unit w in
     let known = known-of o.config o.unit w t.record_is in
     let limit = unit_of o.config o.unit in
-    let own = stands-own o.config o.unit u.history.entries u.folded u.history.spare u.payload (g.B.Blocks.blocks o.tables.blocks) (g.B.Blocks.block_length o.tables.blocks) (g.B.Blocks.holds o.tables.blocks) o.tables.tokens o.tables.jobs o.last_stamp o.moment w t r in
+    let own = stands-own o.config o.unit u.history.entries u.folded u.history.spare u.payload (g.B.Blocks.blocks o.tables.blocks) (g.B.Blocks.block_length o.tables.blocks) (g.B.Blocks.holds o.tables.blocks) (rods_of g.B.Pins.number (g.B.Blocks.block_length o.tables.blocks) (g.B.Blocks.shown o.tables.blocks) o.tables.tokens) o.tables.jobs o.last_stamp o.moment w t r in
     let standing : Stands c.args.self.now w = rw (← c.self.view_is) own in
     let full : is_full limit u.folded past c.args.actor c.args.stamp c.args.act ≡ false = rw (← c.self.view_is) at (sym (c.is_full.ensures w standing) ∙ c.if-is_full.false) in
     let count : length past - u.folded ≡ length u.history.entries = length-kept o.config o.unit u.history.entries u.folded w t.record_is.own r.keeps in
@@ -234,15 +235,15 @@ returns-in_err-plan-clause-ends g c =
     let u = c.self.inside in
     let o = u.core in
     let w = c.self.invariant.0 in
-    let t : TablesAgree o.config o.unit (g.B.Blocks.blocks o.tables.blocks) (g.B.Blocks.block_length o.tables.blocks) (g.B.Blocks.holds o.tables.blocks) o.tables.tokens o.tables.jobs o.last_stamp o.moment w = c.self.invariant.1 in
+    let t : TablesAgree o.config o.unit (g.B.Blocks.blocks o.tables.blocks) (g.B.Blocks.block_length o.tables.blocks) (g.B.Blocks.holds o.tables.blocks) (rods_of g.B.Pins.number (g.B.Blocks.block_length o.tables.blocks) (g.B.Blocks.shown o.tables.blocks) o.tables.tokens) o.tables.jobs o.last_stamp o.moment w = c.self.invariant.1 in
     let r = c.self.invariant.2 in
     let past = past_of o.config o.unit w in
     let known = known-of o.config o.unit w t.record_is in
     let limit = unit_of o.config o.unit in
-    let own = stands-own o.config o.unit u.history.entries u.folded u.history.spare u.payload (g.B.Blocks.blocks o.tables.blocks) (g.B.Blocks.block_length o.tables.blocks) (g.B.Blocks.holds o.tables.blocks) o.tables.tokens o.tables.jobs o.last_stamp o.moment w t r in
+    let own = stands-own o.config o.unit u.history.entries u.folded u.history.spare u.payload (g.B.Blocks.blocks o.tables.blocks) (g.B.Blocks.block_length o.tables.blocks) (g.B.Blocks.holds o.tables.blocks) (rods_of g.B.Pins.number (g.B.Blocks.block_length o.tables.blocks) (g.B.Blocks.shown o.tables.blocks) o.tables.tokens) o.tables.jobs o.last_stamp o.moment w t r in
     let never : ends_operation past c.args.actor c.args.act ≡ false = c.in_err-plan.ensures.memory w t in
     if-err c.from_residual.result _ (λ f same h s.
-    let shown = image_shown o.moment o.last_stamp (u.folded + length u.history.entries) (g.B.Blocks.blocks o.tables.blocks) (g.B.Blocks.holds o.tables.blocks) o.tables.tokens.tokens o.tables.jobs in
+    let shown = image_shown o.moment o.last_stamp (u.folded + length u.history.entries) (g.B.Blocks.blocks o.tables.blocks) (g.B.Blocks.holds o.tables.blocks) (rods_of g.B.Pins.number (g.B.Blocks.block_length o.tables.blocks) (g.B.Blocks.shown o.tables.blocks) o.tables.tokens).tokens o.tables.jobs in
     let stood : StandsFor o.config o.unit shown u.history.entries u.folded h = rw (← c.self.view_is) at s in
     let p = c.standing_law.ensures shown u.history.entries u.folded h w stood own in
     rw (← c.self.view_is) (ends-alike (past_of o.config o.unit h) past c.args.actor c.args.act (p.serves c.args.actor c.args.act) ∙ never))
@@ -256,16 +257,16 @@ returns-in_err-answer-clause-ends g c =
     let u = c.self.inside in
     let o = u.core in
     let w = c.self.invariant.0 in
-    let t : TablesAgree o.config o.unit (g.B.Blocks.blocks o.tables.blocks) (g.B.Blocks.block_length o.tables.blocks) (g.B.Blocks.holds o.tables.blocks) o.tables.tokens o.tables.jobs o.last_stamp o.moment w = c.self.invariant.1 in
+    let t : TablesAgree o.config o.unit (g.B.Blocks.blocks o.tables.blocks) (g.B.Blocks.block_length o.tables.blocks) (g.B.Blocks.holds o.tables.blocks) (rods_of g.B.Pins.number (g.B.Blocks.block_length o.tables.blocks) (g.B.Blocks.shown o.tables.blocks) o.tables.tokens) o.tables.jobs o.last_stamp o.moment w = c.self.invariant.1 in
     let r = c.self.invariant.2 in
     let past = past_of o.config o.unit w in
     let known = known-of o.config o.unit w t.record_is in
     let limit = unit_of o.config o.unit in
-    let own = stands-own o.config o.unit u.history.entries u.folded u.history.spare u.payload (g.B.Blocks.blocks o.tables.blocks) (g.B.Blocks.block_length o.tables.blocks) (g.B.Blocks.holds o.tables.blocks) o.tables.tokens o.tables.jobs o.last_stamp o.moment w t r in
+    let own = stands-own o.config o.unit u.history.entries u.folded u.history.spare u.payload (g.B.Blocks.blocks o.tables.blocks) (g.B.Blocks.block_length o.tables.blocks) (g.B.Blocks.holds o.tables.blocks) (rods_of g.B.Pins.number (g.B.Blocks.block_length o.tables.blocks) (g.B.Blocks.shown o.tables.blocks) o.tables.tokens) o.tables.jobs o.last_stamp o.moment w t r in
     let planned : IsPlan o.config o.unit past c.args.actor c.args.moment c.args.act c.in_ok-plan.plan = c.in_ok-plan.ensures.planned w t in
     let never : ends_operation past c.args.actor c.args.act ≡ false = off-unless (ends_operation past c.args.actor c.args.act) (takes_none c.in_ok-plan.plan) planned.ends c.in_err-answer.ensures.memory in
     if-err c.from_residual-in_err-answer.result _ (λ f same h s.
-    let shown = image_shown o.moment o.last_stamp (u.folded + length u.history.entries) (g.B.Blocks.blocks o.tables.blocks) (g.B.Blocks.holds o.tables.blocks) o.tables.tokens.tokens o.tables.jobs in
+    let shown = image_shown o.moment o.last_stamp (u.folded + length u.history.entries) (g.B.Blocks.blocks o.tables.blocks) (g.B.Blocks.holds o.tables.blocks) (rods_of g.B.Pins.number (g.B.Blocks.block_length o.tables.blocks) (g.B.Blocks.shown o.tables.blocks) o.tables.tokens).tokens o.tables.jobs in
     let stood : StandsFor o.config o.unit shown u.history.entries u.folded h = rw (← c.self.view_is) at s in
     let p = c.standing_law.ensures shown u.history.entries u.folded h w stood own in
     rw (← c.self.view_is) (ends-alike (past_of o.config o.unit h) past c.args.actor c.args.act (p.serves c.args.actor c.args.act) ∙ never))
@@ -275,13 +276,13 @@ returns-clause-stands g c = λ h s.
     let u = c.self.inside in
     let o = u.core in
     let w = c.self.invariant.0 in
-    let t : TablesAgree o.config o.unit (g.B.Blocks.blocks o.tables.blocks) (g.B.Blocks.block_length o.tables.blocks) (g.B.Blocks.holds o.tables.blocks) o.tables.tokens o.tables.jobs o.last_stamp o.moment w = c.self.invariant.1 in
+    let t : TablesAgree o.config o.unit (g.B.Blocks.blocks o.tables.blocks) (g.B.Blocks.block_length o.tables.blocks) (g.B.Blocks.holds o.tables.blocks) (rods_of g.B.Pins.number (g.B.Blocks.block_length o.tables.blocks) (g.B.Blocks.shown o.tables.blocks) o.tables.tokens) o.tables.jobs o.last_stamp o.moment w = c.self.invariant.1 in
     let r = c.self.invariant.2 in
     let past = past_of o.config o.unit w in
     let known = known-of o.config o.unit w t.record_is in
     let limit = unit_of o.config o.unit in
-    let own = stands-own o.config o.unit u.history.entries u.folded u.history.spare u.payload (g.B.Blocks.blocks o.tables.blocks) (g.B.Blocks.block_length o.tables.blocks) (g.B.Blocks.holds o.tables.blocks) o.tables.tokens o.tables.jobs o.last_stamp o.moment w t r in
-    let shown = image_shown o.moment o.last_stamp (u.folded + length u.history.entries) (g.B.Blocks.blocks o.tables.blocks) (g.B.Blocks.holds o.tables.blocks) o.tables.tokens.tokens o.tables.jobs in
+    let own = stands-own o.config o.unit u.history.entries u.folded u.history.spare u.payload (g.B.Blocks.blocks o.tables.blocks) (g.B.Blocks.block_length o.tables.blocks) (g.B.Blocks.holds o.tables.blocks) (rods_of g.B.Pins.number (g.B.Blocks.block_length o.tables.blocks) (g.B.Blocks.shown o.tables.blocks) o.tables.tokens) o.tables.jobs o.last_stamp o.moment w t r in
+    let shown = image_shown o.moment o.last_stamp (u.folded + length u.history.entries) (g.B.Blocks.blocks o.tables.blocks) (g.B.Blocks.holds o.tables.blocks) (rods_of g.B.Pins.number (g.B.Blocks.block_length o.tables.blocks) (g.B.Blocks.shown o.tables.blocks) o.tables.tokens).tokens o.tables.jobs in
     let stood : StandsFor o.config o.unit shown u.history.entries u.folded h = rw (← c.self.view_is) at s in
     let p = c.standing_law.ensures shown u.history.entries u.folded h w stood own in
     let standing : Stands c.args.self.now w = rw (← c.self.view_is) own in
@@ -294,17 +295,17 @@ returns-clause-stands g c = λ h s.
     let full : is_full limit u.folded past c.args.actor c.args.stamp c.args.act ≡ false = rw (← c.self.view_is) at (sym (c.is_full.ensures w standing) ∙ c.if-is_full.false) in
     let k = c.change.new.self in
     let done : Done o.config o.unit w e c.in_ok-plan.plan (g.B.Blocks.blocks o.tables.blocks) (g.B.Blocks.block_length o.tables.blocks) (g.B.Blocks.blocks k.blocks) (g.B.Blocks.block_length k.blocks)
-    (g.B.Blocks.holds o.tables.blocks) (g.B.Blocks.holds k.blocks) o.tables.tokens k.tokens o.tables.jobs k.jobs = record {
+    (g.B.Blocks.holds o.tables.blocks) (g.B.Blocks.holds k.blocks) (rods_of g.B.Pins.number (g.B.Blocks.block_length o.tables.blocks) (g.B.Blocks.shown o.tables.blocks) o.tables.tokens) (rods_of g.B.Pins.number (g.B.Blocks.block_length k.blocks) (g.B.Blocks.shown k.blocks) k.tokens) o.tables.jobs k.jobs = record {
       planned = planned;
       count = c.change.ensures.blocks;
       long = c.change.ensures.length;
       put = c.in_ok-answer.ensures.wrote;
       own = c.change.ensures.unit;
-      kept = c.in_ok-answer.ensures.tokens ∙ ap (λ n. tokens_after c.in_ok-plan.plan.tokens n o.tables.tokens.tokens) now;
+      kept = c.in_ok-answer.ensures.tokens ∙ ap (λ n. tokens_after (rod_now (g.B.Blocks.block_length o.tables.blocks) (g.B.Blocks.holds o.tables.blocks)) c.in_ok-plan.plan.tokens n (rods_of g.B.Pins.number (g.B.Blocks.block_length o.tables.blocks) (g.B.Blocks.shown o.tables.blocks) o.tables.tokens).tokens) now;
       changed = c.in_ok-answer.ensures.jobs;
     } in
     let tables = tables-step o.config o.unit w e c.in_ok-plan.plan
-    (g.B.Blocks.blocks o.tables.blocks) (g.B.Blocks.block_length o.tables.blocks) (g.B.Blocks.blocks k.blocks) (g.B.Blocks.block_length k.blocks) (g.B.Blocks.holds o.tables.blocks) (g.B.Blocks.holds k.blocks) o.tables.tokens k.tokens o.tables.jobs k.jobs
+    (g.B.Blocks.blocks o.tables.blocks) (g.B.Blocks.block_length o.tables.blocks) (g.B.Blocks.blocks k.blocks) (g.B.Blocks.block_length k.blocks) (g.B.Blocks.holds o.tables.blocks) (g.B.Blocks.holds k.blocks) (rods_of g.B.Pins.number (g.B.Blocks.block_length o.tables.blocks) (g.B.Blocks.shown o.tables.blocks) o.tables.tokens) (rods_of g.B.Pins.number (g.B.Blocks.block_length k.blocks) (g.B.Blocks.shown k.blocks) k.tokens) o.tables.jobs k.jobs
     o.last_stamp o.moment c.max-now.result t refl asked done c.max-now.ensures in
     let spare : reserved past + need past c.args.actor c.args.act ≤ c.append.new.self.spare + 1 = omega (arith, free, needed, c.in_ok-reserve.ensures.room, c.append.ensures.room) in
     let later : last_stamp past + 1 ≤ c.max.result + 1 = omega (arith, c.max.ensures, t.stamp) in
@@ -318,7 +319,7 @@ returns-clause-stands g c = λ h s.
     r t.record_is refl asked later fits full spare (ap (λ n. u.payload + n) c.bytes_in.ensures) in
     let q = c.standing_law.ensures shown u.history.entries u.folded w h own stood in
     let own-now = stands-own o.config o.unit (u.history.entries ++ e ∷ []) u.folded c.append.new.self.spare (u.payload + c.bytes_in.result) (g.B.Blocks.blocks k.blocks) (g.B.Blocks.block_length k.blocks) (g.B.Blocks.holds k.blocks)
-    k.tokens k.jobs (c.max.result + 1) c.max-now.result (w ++ e ∷ []) tables record_now in
+    (rods_of g.B.Pins.number (g.B.Blocks.block_length k.blocks) (g.B.Blocks.shown k.blocks) k.tokens) k.jobs (c.max.result + 1) c.max-now.result (w ++ e ∷ []) tables record_now in
     let all = subst (λ j. StandsFor o.config o.unit j (u.history.entries ++ e ∷ []) u.folded (h ++ e ∷ [])) own-now.image (q.more e refl asked.limits asked.asked) in
     rw (← c.self.view_is, ← c.max.ensures, kept) all
 
@@ -327,13 +328,13 @@ returns-clause-redeems g c = λ h s text target x e may.
     let u = c.self.inside in
     let o = u.core in
     let w = c.self.invariant.0 in
-    let t : TablesAgree o.config o.unit (g.B.Blocks.blocks o.tables.blocks) (g.B.Blocks.block_length o.tables.blocks) (g.B.Blocks.holds o.tables.blocks) o.tables.tokens o.tables.jobs o.last_stamp o.moment w = c.self.invariant.1 in
+    let t : TablesAgree o.config o.unit (g.B.Blocks.blocks o.tables.blocks) (g.B.Blocks.block_length o.tables.blocks) (g.B.Blocks.holds o.tables.blocks) (rods_of g.B.Pins.number (g.B.Blocks.block_length o.tables.blocks) (g.B.Blocks.shown o.tables.blocks) o.tables.tokens) o.tables.jobs o.last_stamp o.moment w = c.self.invariant.1 in
     let r = c.self.invariant.2 in
     let past = past_of o.config o.unit w in
     let known = known-of o.config o.unit w t.record_is in
     let limit = unit_of o.config o.unit in
-    let own = stands-own o.config o.unit u.history.entries u.folded u.history.spare u.payload (g.B.Blocks.blocks o.tables.blocks) (g.B.Blocks.block_length o.tables.blocks) (g.B.Blocks.holds o.tables.blocks) o.tables.tokens o.tables.jobs o.last_stamp o.moment w t r in
-    let shown = image_shown o.moment o.last_stamp (u.folded + length u.history.entries) (g.B.Blocks.blocks o.tables.blocks) (g.B.Blocks.holds o.tables.blocks) o.tables.tokens.tokens o.tables.jobs in
+    let own = stands-own o.config o.unit u.history.entries u.folded u.history.spare u.payload (g.B.Blocks.blocks o.tables.blocks) (g.B.Blocks.block_length o.tables.blocks) (g.B.Blocks.holds o.tables.blocks) (rods_of g.B.Pins.number (g.B.Blocks.block_length o.tables.blocks) (g.B.Blocks.shown o.tables.blocks) o.tables.tokens) o.tables.jobs o.last_stamp o.moment w t r in
+    let shown = image_shown o.moment o.last_stamp (u.folded + length u.history.entries) (g.B.Blocks.blocks o.tables.blocks) (g.B.Blocks.holds o.tables.blocks) (rods_of g.B.Pins.number (g.B.Blocks.block_length o.tables.blocks) (g.B.Blocks.shown o.tables.blocks) o.tables.tokens).tokens o.tables.jobs in
     let stood : StandsFor o.config o.unit shown u.history.entries u.folded h = rw (← c.self.view_is) at s in
     let p = c.standing_law.ensures shown u.history.entries u.folded h w stood own in
     let planned : IsPlan o.config o.unit past c.args.actor c.args.moment c.args.act c.in_ok-plan.plan = c.in_ok-plan.ensures.planned w t in
@@ -348,7 +349,7 @@ returns-clause-form g c =
     let u = c.self.inside in
     let o = u.core in
     let w = c.self.invariant.0 in
-    let t : TablesAgree o.config o.unit (g.B.Blocks.blocks o.tables.blocks) (g.B.Blocks.block_length o.tables.blocks) (g.B.Blocks.holds o.tables.blocks) o.tables.tokens o.tables.jobs o.last_stamp o.moment w = c.self.invariant.1 in
+    let t : TablesAgree o.config o.unit (g.B.Blocks.blocks o.tables.blocks) (g.B.Blocks.block_length o.tables.blocks) (g.B.Blocks.holds o.tables.blocks) (rods_of g.B.Pins.number (g.B.Blocks.block_length o.tables.blocks) (g.B.Blocks.shown o.tables.blocks) o.tables.tokens) o.tables.jobs o.last_stamp o.moment w = c.self.invariant.1 in
     let r = c.self.invariant.2 in
     let past = past_of o.config o.unit w in
     let known = known-of o.config o.unit w t.record_is in

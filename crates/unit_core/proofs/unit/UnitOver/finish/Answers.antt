@@ -15,6 +15,7 @@ use Rattle.cm_history.specs.declared.refused.ActRefused.{ActRefused}
 use Rattle.unit_core.specs.UnitState.{UnitState}
 use Rattle.unit_core.specs.Acting.{past, serves_operation, ends_operation_at}
 use Rattle.unit_core.proofs.Planned.{ends-serves}
+use Rattle.token_pins.specs.Pinning.{rods_of}
 use Rattle.unit_core.proofs.unit.UnitOver.finish.Goals as goal
 
 never : (s : UnitState) (entries : List Entry) (actor : Actor) (act : Act) (stamp : ℕ) (e : ActRefused) → ends_operation_at s entries actor act ≡ true → max stamp s.image.last_stamp < 2 ^ 64 - 1
@@ -28,12 +29,12 @@ unreachable-requires g c =
     let u = c.self.inside in
     let o = u.core in
     let w = c.self.invariant.0 in
-    let t : TablesAgree o.config o.unit (g.B.Blocks.blocks o.tables.blocks) (g.B.Blocks.block_length o.tables.blocks) (g.B.Blocks.holds o.tables.blocks) o.tables.tokens o.tables.jobs o.last_stamp o.moment w = c.self.invariant.1 in
+    let t : TablesAgree o.config o.unit (g.B.Blocks.blocks o.tables.blocks) (g.B.Blocks.block_length o.tables.blocks) (g.B.Blocks.holds o.tables.blocks) (rods_of g.B.Pins.number (g.B.Blocks.block_length o.tables.blocks) (g.B.Blocks.shown o.tables.blocks) o.tables.tokens) o.tables.jobs o.last_stamp o.moment w = c.self.invariant.1 in
     let r = c.self.invariant.2 in
     let past = past_of o.config o.unit w in
     let known = known-of o.config o.unit w t.record_is in
     let limit = unit_of o.config o.unit in
-    let own = stands-own o.config o.unit u.history.entries u.folded u.history.spare u.payload (g.B.Blocks.blocks o.tables.blocks) (g.B.Blocks.block_length o.tables.blocks) (g.B.Blocks.holds o.tables.blocks) o.tables.tokens o.tables.jobs o.last_stamp o.moment w t r in
+    let own = stands-own o.config o.unit u.history.entries u.folded u.history.spare u.payload (g.B.Blocks.blocks o.tables.blocks) (g.B.Blocks.block_length o.tables.blocks) (g.B.Blocks.holds o.tables.blocks) (rods_of g.B.Pins.number (g.B.Blocks.block_length o.tables.blocks) (g.B.Blocks.shown o.tables.blocks) o.tables.tokens) o.tables.jobs o.last_stamp o.moment w t r in
     let standing : Stands c.args.self.now w = rw (← c.self.view_is) own in
     never c.args.self.now w c.args.actor c.args.act c.args.stamp c.in-Err.field-0 (c.requires.runs w standing) c.requires.stamps
     (λ e served. c.in-Err.ensures.serves e w standing served) (λ e. c.in-Err.ensures.ends e w standing)

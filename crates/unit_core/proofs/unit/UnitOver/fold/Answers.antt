@@ -15,6 +15,7 @@ use Rattle.std.proofs.Common.{length-append}
 use Rattle.std.proofs.lemmas.List.{length-drop}
 use Rattle.unit_core.proofs.Folds.{all-short, told-fold}
 use Rattle.unit_core.proofs.Steps.{record-fold}
+use Rattle.token_pins.specs.Pinning.{rods_of}
 use Rattle.unit_core.proofs.unit.UnitOver.fold.Goals as goal
 
 pub record_all-end-requires-clause-short : goal.record_all-end-requires-clause-short
@@ -22,13 +23,13 @@ record_all-end-requires-clause-short g c =
     let u = c.self.inside in
     let o = u.core in
     let w = c.self.invariant.0 in
-    let t : TablesAgree o.config o.unit (g.B.Blocks.blocks o.tables.blocks) (g.B.Blocks.block_length o.tables.blocks) (g.B.Blocks.holds o.tables.blocks) o.tables.tokens o.tables.jobs o.last_stamp o.moment w = c.self.invariant.1 in
+    let t : TablesAgree o.config o.unit (g.B.Blocks.blocks o.tables.blocks) (g.B.Blocks.block_length o.tables.blocks) (g.B.Blocks.holds o.tables.blocks) (rods_of g.B.Pins.number (g.B.Blocks.block_length o.tables.blocks) (g.B.Blocks.shown o.tables.blocks) o.tables.tokens) o.tables.jobs o.last_stamp o.moment w = c.self.invariant.1 in
     let r = c.self.invariant.2 in
     let past = past_of o.config o.unit w in
     let known = known-of o.config o.unit w t.record_is in
     let limit = unit_of o.config o.unit in
-    let own = stands-own o.config o.unit u.history.entries u.folded u.history.spare u.payload (g.B.Blocks.blocks o.tables.blocks) (g.B.Blocks.block_length o.tables.blocks) (g.B.Blocks.holds o.tables.blocks) o.tables.tokens o.tables.jobs o.last_stamp o.moment w t r in
-    let shown = image_shown o.moment o.last_stamp (u.folded + length u.history.entries) (g.B.Blocks.blocks o.tables.blocks) (g.B.Blocks.holds o.tables.blocks) o.tables.tokens.tokens o.tables.jobs in
+    let own = stands-own o.config o.unit u.history.entries u.folded u.history.spare u.payload (g.B.Blocks.blocks o.tables.blocks) (g.B.Blocks.block_length o.tables.blocks) (g.B.Blocks.holds o.tables.blocks) (rods_of g.B.Pins.number (g.B.Blocks.block_length o.tables.blocks) (g.B.Blocks.shown o.tables.blocks) o.tables.tokens) o.tables.jobs o.last_stamp o.moment w t r in
+    let shown = image_shown o.moment o.last_stamp (u.folded + length u.history.entries) (g.B.Blocks.blocks o.tables.blocks) (g.B.Blocks.holds o.tables.blocks) (rods_of g.B.Pins.number (g.B.Blocks.block_length o.tables.blocks) (g.B.Blocks.shown o.tables.blocks) o.tables.tokens).tokens o.tables.jobs in
     let p = c.standing_law.ensures shown u.history.entries u.folded w w own own in
     all-short o.config o.unit u.history.entries p.within
 
@@ -53,7 +54,7 @@ invariant_of-self g c =
     let u = c.self.inside in
     let o = u.core in
     let w = c.self.invariant.0 in
-    let t : TablesAgree o.config o.unit (g.B.Blocks.blocks o.tables.blocks) (g.B.Blocks.block_length o.tables.blocks) (g.B.Blocks.holds o.tables.blocks) o.tables.tokens o.tables.jobs o.last_stamp o.moment w = c.self.invariant.1 in
+    let t : TablesAgree o.config o.unit (g.B.Blocks.blocks o.tables.blocks) (g.B.Blocks.block_length o.tables.blocks) (g.B.Blocks.holds o.tables.blocks) (rods_of g.B.Pins.number (g.B.Blocks.block_length o.tables.blocks) (g.B.Blocks.shown o.tables.blocks) o.tables.tokens) o.tables.jobs o.last_stamp o.moment w = c.self.invariant.1 in
     let r = c.self.invariant.2 in
     let past = past_of o.config o.unit w in
     let known = known-of o.config o.unit w t.record_is in
@@ -61,20 +62,20 @@ invariant_of-self g c =
     let m = c.record_all-end.ensures.moved in
     let long : length u.history.entries ≡ length m.0 + length c.record_all-end.new.history.entries = ap length (sym m.1) ∙ length-append m.0 c.record_all-end.new.history.entries in
     let gone : c.len-before.result - c.len.result ≡ length m.0 = omega (arith, c.len-before.ensures, c.len.ensures, long) in
-    rw (gone, c.record_all-end.ensures.room) (w, t, record-fold o.config o.unit u.history.entries c.record_all-end.new.history.entries m.0 u.folded u.history.spare u.payload c.record_all-end.new.payload w m.1 r c.record_all-end.ensures.payload)
+    rw (gone, c.record_all-end.ensures.room) (w, t, record-fold o.config o.unit u.history.entries c.record_all-end.new.history.entries m.0 u.folded u.history.spare u.payload c.record_all-end.new.payload w m.1 r c.record_all-end.ensures.payload, c.self.invariant.3)
 
 pub returns-clause-stands : goal.returns-clause-stands
 returns-clause-stands g c = λ h s.
     let u = c.self.inside in
     let o = u.core in
     let w = c.self.invariant.0 in
-    let t : TablesAgree o.config o.unit (g.B.Blocks.blocks o.tables.blocks) (g.B.Blocks.block_length o.tables.blocks) (g.B.Blocks.holds o.tables.blocks) o.tables.tokens o.tables.jobs o.last_stamp o.moment w = c.self.invariant.1 in
+    let t : TablesAgree o.config o.unit (g.B.Blocks.blocks o.tables.blocks) (g.B.Blocks.block_length o.tables.blocks) (g.B.Blocks.holds o.tables.blocks) (rods_of g.B.Pins.number (g.B.Blocks.block_length o.tables.blocks) (g.B.Blocks.shown o.tables.blocks) o.tables.tokens) o.tables.jobs o.last_stamp o.moment w = c.self.invariant.1 in
     let r = c.self.invariant.2 in
     let past = past_of o.config o.unit w in
     let known = known-of o.config o.unit w t.record_is in
     let limit = unit_of o.config o.unit in
-    let own = stands-own o.config o.unit u.history.entries u.folded u.history.spare u.payload (g.B.Blocks.blocks o.tables.blocks) (g.B.Blocks.block_length o.tables.blocks) (g.B.Blocks.holds o.tables.blocks) o.tables.tokens o.tables.jobs o.last_stamp o.moment w t r in
-    let shown = image_shown o.moment o.last_stamp (u.folded + length u.history.entries) (g.B.Blocks.blocks o.tables.blocks) (g.B.Blocks.holds o.tables.blocks) o.tables.tokens.tokens o.tables.jobs in
+    let own = stands-own o.config o.unit u.history.entries u.folded u.history.spare u.payload (g.B.Blocks.blocks o.tables.blocks) (g.B.Blocks.block_length o.tables.blocks) (g.B.Blocks.holds o.tables.blocks) (rods_of g.B.Pins.number (g.B.Blocks.block_length o.tables.blocks) (g.B.Blocks.shown o.tables.blocks) o.tables.tokens) o.tables.jobs o.last_stamp o.moment w t r in
+    let shown = image_shown o.moment o.last_stamp (u.folded + length u.history.entries) (g.B.Blocks.blocks o.tables.blocks) (g.B.Blocks.holds o.tables.blocks) (rods_of g.B.Pins.number (g.B.Blocks.block_length o.tables.blocks) (g.B.Blocks.shown o.tables.blocks) o.tables.tokens).tokens o.tables.jobs in
     let stood : StandsFor o.config o.unit shown u.history.entries u.folded h = rw (← c.self.view_is) at s in
     let p = c.standing_law.ensures shown u.history.entries u.folded h w stood own in
     let m = c.record_all-end.ensures.moved in
@@ -89,7 +90,7 @@ returns-clause-image g c =
     let u = c.self.inside in
     let o = u.core in
     let w = c.self.invariant.0 in
-    let t : TablesAgree o.config o.unit (g.B.Blocks.blocks o.tables.blocks) (g.B.Blocks.block_length o.tables.blocks) (g.B.Blocks.holds o.tables.blocks) o.tables.tokens o.tables.jobs o.last_stamp o.moment w = c.self.invariant.1 in
+    let t : TablesAgree o.config o.unit (g.B.Blocks.blocks o.tables.blocks) (g.B.Blocks.block_length o.tables.blocks) (g.B.Blocks.holds o.tables.blocks) (rods_of g.B.Pins.number (g.B.Blocks.block_length o.tables.blocks) (g.B.Blocks.shown o.tables.blocks) o.tables.tokens) o.tables.jobs o.last_stamp o.moment w = c.self.invariant.1 in
     let r = c.self.invariant.2 in
     let past = past_of o.config o.unit w in
     let known = known-of o.config o.unit w t.record_is in
@@ -105,7 +106,7 @@ returns-clause-moved g c =
     let u = c.self.inside in
     let o = u.core in
     let w = c.self.invariant.0 in
-    let t : TablesAgree o.config o.unit (g.B.Blocks.blocks o.tables.blocks) (g.B.Blocks.block_length o.tables.blocks) (g.B.Blocks.holds o.tables.blocks) o.tables.tokens o.tables.jobs o.last_stamp o.moment w = c.self.invariant.1 in
+    let t : TablesAgree o.config o.unit (g.B.Blocks.blocks o.tables.blocks) (g.B.Blocks.block_length o.tables.blocks) (g.B.Blocks.holds o.tables.blocks) (rods_of g.B.Pins.number (g.B.Blocks.block_length o.tables.blocks) (g.B.Blocks.shown o.tables.blocks) o.tables.tokens) o.tables.jobs o.last_stamp o.moment w = c.self.invariant.1 in
     let r = c.self.invariant.2 in
     let past = past_of o.config o.unit w in
     let known = known-of o.config o.unit w t.record_is in
@@ -120,13 +121,13 @@ returns-clause-told g c = λ h start s told.
     let u = c.self.inside in
     let o = u.core in
     let w = c.self.invariant.0 in
-    let t : TablesAgree o.config o.unit (g.B.Blocks.blocks o.tables.blocks) (g.B.Blocks.block_length o.tables.blocks) (g.B.Blocks.holds o.tables.blocks) o.tables.tokens o.tables.jobs o.last_stamp o.moment w = c.self.invariant.1 in
+    let t : TablesAgree o.config o.unit (g.B.Blocks.blocks o.tables.blocks) (g.B.Blocks.block_length o.tables.blocks) (g.B.Blocks.holds o.tables.blocks) (rods_of g.B.Pins.number (g.B.Blocks.block_length o.tables.blocks) (g.B.Blocks.shown o.tables.blocks) o.tables.tokens) o.tables.jobs o.last_stamp o.moment w = c.self.invariant.1 in
     let r = c.self.invariant.2 in
     let past = past_of o.config o.unit w in
     let known = known-of o.config o.unit w t.record_is in
     let limit = unit_of o.config o.unit in
-    let own = stands-own o.config o.unit u.history.entries u.folded u.history.spare u.payload (g.B.Blocks.blocks o.tables.blocks) (g.B.Blocks.block_length o.tables.blocks) (g.B.Blocks.holds o.tables.blocks) o.tables.tokens o.tables.jobs o.last_stamp o.moment w t r in
-    let shown = image_shown o.moment o.last_stamp (u.folded + length u.history.entries) (g.B.Blocks.blocks o.tables.blocks) (g.B.Blocks.holds o.tables.blocks) o.tables.tokens.tokens o.tables.jobs in
+    let own = stands-own o.config o.unit u.history.entries u.folded u.history.spare u.payload (g.B.Blocks.blocks o.tables.blocks) (g.B.Blocks.block_length o.tables.blocks) (g.B.Blocks.holds o.tables.blocks) (rods_of g.B.Pins.number (g.B.Blocks.block_length o.tables.blocks) (g.B.Blocks.shown o.tables.blocks) o.tables.tokens) o.tables.jobs o.last_stamp o.moment w t r in
+    let shown = image_shown o.moment o.last_stamp (u.folded + length u.history.entries) (g.B.Blocks.blocks o.tables.blocks) (g.B.Blocks.holds o.tables.blocks) (rods_of g.B.Pins.number (g.B.Blocks.block_length o.tables.blocks) (g.B.Blocks.shown o.tables.blocks) o.tables.tokens).tokens o.tables.jobs in
     let stood : StandsFor o.config o.unit shown u.history.entries u.folded h = rw (← c.self.view_is) at s in
     let p = c.standing_law.ensures shown u.history.entries u.folded h w stood own in
     let m = c.record_all-end.ensures.moved in
@@ -135,3 +136,8 @@ returns-clause-told g c = λ h start s told.
     let folded : c.args.self.now.folded ≡ u.folded = rw (← c.self.view_is) refl in
     rw gone (told-fold h m.0 c.record_all-end.new.history.entries u.history.entries u.folded start (g.R.Recorder.recorded c.args.recorder.now) (g.R.Recorder.recorded c.record_all-end.new.recorder)
     stood.keeps m.1 m.2 (told ∙ ap (λ n. with_more start (take n h)) folded))
+
+pub returns-clause-idle : goal.returns-clause-idle
+returns-clause-idle g c = λ absent.
+    let gone : c.len-before.result - c.len.result ≡ 0 = omega (arith, c.len-before.ensures, c.len.ensures, ap length (c.record_all-end.ensures.idle absent)) in
+    rw (← c.self.view_is) (omega (arith, gone))

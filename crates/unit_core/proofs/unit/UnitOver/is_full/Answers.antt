@@ -16,6 +16,7 @@ use Rattle.unit_core.specs.inner.Agreeing.{payload_in}
 use Rattle.unit_core.proofs.Steps.{length-kept, payload-kept}
 use Rattle.unit_core.proofs.Reserving.{reserved-is}
 use Rattle.unit_core.proofs.Rooms.{full-stamps, full-entries, full-bytes}
+use Rattle.token_pins.specs.Pinning.{rods_of}
 use Rattle.unit_core.proofs.unit.UnitOver.is_full.Goals as goal
 
 pub need-requires-clause-known : goal.need-requires-clause-known
@@ -26,7 +27,7 @@ overflow_add-kept g c =
     let u = c.self.inside in
     let o = u.core in
     let w = c.self.invariant.0 in
-    let t : TablesAgree o.config o.unit (g.B.Blocks.blocks o.tables.blocks) (g.B.Blocks.block_length o.tables.blocks) (g.B.Blocks.holds o.tables.blocks) o.tables.tokens o.tables.jobs o.last_stamp o.moment w = c.self.invariant.1 in
+    let t : TablesAgree o.config o.unit (g.B.Blocks.blocks o.tables.blocks) (g.B.Blocks.block_length o.tables.blocks) (g.B.Blocks.holds o.tables.blocks) (rods_of g.B.Pins.number (g.B.Blocks.block_length o.tables.blocks) (g.B.Blocks.shown o.tables.blocks) o.tables.tokens) o.tables.jobs o.last_stamp o.moment w = c.self.invariant.1 in
     let r = c.self.invariant.2 in
     let past = past_of o.config o.unit w in
     let known = known-of o.config o.unit w t.record_is in
@@ -40,7 +41,7 @@ overflow_add-kept-2 g c =
     let u = c.self.inside in
     let o = u.core in
     let w = c.self.invariant.0 in
-    let t : TablesAgree o.config o.unit (g.B.Blocks.blocks o.tables.blocks) (g.B.Blocks.block_length o.tables.blocks) (g.B.Blocks.holds o.tables.blocks) o.tables.tokens o.tables.jobs o.last_stamp o.moment w = c.self.invariant.1 in
+    let t : TablesAgree o.config o.unit (g.B.Blocks.blocks o.tables.blocks) (g.B.Blocks.block_length o.tables.blocks) (g.B.Blocks.holds o.tables.blocks) (rods_of g.B.Pins.number (g.B.Blocks.block_length o.tables.blocks) (g.B.Blocks.shown o.tables.blocks) o.tables.tokens) o.tables.jobs o.last_stamp o.moment w = c.self.invariant.1 in
     let r = c.self.invariant.2 in
     let past = past_of o.config o.unit w in
     let known = known-of o.config o.unit w t.record_is in
@@ -54,13 +55,13 @@ returns-then-max g c = λ h s.
     let u = c.self.inside in
     let o = u.core in
     let w = c.self.invariant.0 in
-    let t : TablesAgree o.config o.unit (g.B.Blocks.blocks o.tables.blocks) (g.B.Blocks.block_length o.tables.blocks) (g.B.Blocks.holds o.tables.blocks) o.tables.tokens o.tables.jobs o.last_stamp o.moment w = c.self.invariant.1 in
+    let t : TablesAgree o.config o.unit (g.B.Blocks.blocks o.tables.blocks) (g.B.Blocks.block_length o.tables.blocks) (g.B.Blocks.holds o.tables.blocks) (rods_of g.B.Pins.number (g.B.Blocks.block_length o.tables.blocks) (g.B.Blocks.shown o.tables.blocks) o.tables.tokens) o.tables.jobs o.last_stamp o.moment w = c.self.invariant.1 in
     let r = c.self.invariant.2 in
     let past = past_of o.config o.unit w in
     let known = known-of o.config o.unit w t.record_is in
     let limit = unit_of o.config o.unit in
-    let own = stands-own o.config o.unit u.history.entries u.folded u.history.spare u.payload (g.B.Blocks.blocks o.tables.blocks) (g.B.Blocks.block_length o.tables.blocks) (g.B.Blocks.holds o.tables.blocks) o.tables.tokens o.tables.jobs o.last_stamp o.moment w t r in
-    let shown = image_shown o.moment o.last_stamp (u.folded + length u.history.entries) (g.B.Blocks.blocks o.tables.blocks) (g.B.Blocks.holds o.tables.blocks) o.tables.tokens.tokens o.tables.jobs in
+    let own = stands-own o.config o.unit u.history.entries u.folded u.history.spare u.payload (g.B.Blocks.blocks o.tables.blocks) (g.B.Blocks.block_length o.tables.blocks) (g.B.Blocks.holds o.tables.blocks) (rods_of g.B.Pins.number (g.B.Blocks.block_length o.tables.blocks) (g.B.Blocks.shown o.tables.blocks) o.tables.tokens) o.tables.jobs o.last_stamp o.moment w t r in
+    let shown = image_shown o.moment o.last_stamp (u.folded + length u.history.entries) (g.B.Blocks.blocks o.tables.blocks) (g.B.Blocks.holds o.tables.blocks) (rods_of g.B.Pins.number (g.B.Blocks.block_length o.tables.blocks) (g.B.Blocks.shown o.tables.blocks) o.tables.tokens).tokens o.tables.jobs in
     let stood : StandsFor o.config o.unit shown u.history.entries u.folded h = rw (← c.self.view_is) at s in
     let p = c.standing_law.ensures shown u.history.entries u.folded h w stood own in
     let count : length past - u.folded ≡ length u.history.entries = length-kept o.config o.unit u.history.entries u.folded w t.record_is.own r.keeps in
@@ -74,13 +75,13 @@ returns-then-kept-need g c = λ h s.
     let u = c.self.inside in
     let o = u.core in
     let w = c.self.invariant.0 in
-    let t : TablesAgree o.config o.unit (g.B.Blocks.blocks o.tables.blocks) (g.B.Blocks.block_length o.tables.blocks) (g.B.Blocks.holds o.tables.blocks) o.tables.tokens o.tables.jobs o.last_stamp o.moment w = c.self.invariant.1 in
+    let t : TablesAgree o.config o.unit (g.B.Blocks.blocks o.tables.blocks) (g.B.Blocks.block_length o.tables.blocks) (g.B.Blocks.holds o.tables.blocks) (rods_of g.B.Pins.number (g.B.Blocks.block_length o.tables.blocks) (g.B.Blocks.shown o.tables.blocks) o.tables.tokens) o.tables.jobs o.last_stamp o.moment w = c.self.invariant.1 in
     let r = c.self.invariant.2 in
     let past = past_of o.config o.unit w in
     let known = known-of o.config o.unit w t.record_is in
     let limit = unit_of o.config o.unit in
-    let own = stands-own o.config o.unit u.history.entries u.folded u.history.spare u.payload (g.B.Blocks.blocks o.tables.blocks) (g.B.Blocks.block_length o.tables.blocks) (g.B.Blocks.holds o.tables.blocks) o.tables.tokens o.tables.jobs o.last_stamp o.moment w t r in
-    let shown = image_shown o.moment o.last_stamp (u.folded + length u.history.entries) (g.B.Blocks.blocks o.tables.blocks) (g.B.Blocks.holds o.tables.blocks) o.tables.tokens.tokens o.tables.jobs in
+    let own = stands-own o.config o.unit u.history.entries u.folded u.history.spare u.payload (g.B.Blocks.blocks o.tables.blocks) (g.B.Blocks.block_length o.tables.blocks) (g.B.Blocks.holds o.tables.blocks) (rods_of g.B.Pins.number (g.B.Blocks.block_length o.tables.blocks) (g.B.Blocks.shown o.tables.blocks) o.tables.tokens) o.tables.jobs o.last_stamp o.moment w t r in
+    let shown = image_shown o.moment o.last_stamp (u.folded + length u.history.entries) (g.B.Blocks.blocks o.tables.blocks) (g.B.Blocks.holds o.tables.blocks) (rods_of g.B.Pins.number (g.B.Blocks.block_length o.tables.blocks) (g.B.Blocks.shown o.tables.blocks) o.tables.tokens).tokens o.tables.jobs in
     let stood : StandsFor o.config o.unit shown u.history.entries u.folded h = rw (← c.self.view_is) at s in
     let p = c.standing_law.ensures shown u.history.entries u.folded h w stood own in
     let count : length past - u.folded ≡ length u.history.entries = length-kept o.config o.unit u.history.entries u.folded w t.record_is.own r.keeps in
@@ -97,13 +98,13 @@ returns g c = λ h s.
     let u = c.self.inside in
     let o = u.core in
     let w = c.self.invariant.0 in
-    let t : TablesAgree o.config o.unit (g.B.Blocks.blocks o.tables.blocks) (g.B.Blocks.block_length o.tables.blocks) (g.B.Blocks.holds o.tables.blocks) o.tables.tokens o.tables.jobs o.last_stamp o.moment w = c.self.invariant.1 in
+    let t : TablesAgree o.config o.unit (g.B.Blocks.blocks o.tables.blocks) (g.B.Blocks.block_length o.tables.blocks) (g.B.Blocks.holds o.tables.blocks) (rods_of g.B.Pins.number (g.B.Blocks.block_length o.tables.blocks) (g.B.Blocks.shown o.tables.blocks) o.tables.tokens) o.tables.jobs o.last_stamp o.moment w = c.self.invariant.1 in
     let r = c.self.invariant.2 in
     let past = past_of o.config o.unit w in
     let known = known-of o.config o.unit w t.record_is in
     let limit = unit_of o.config o.unit in
-    let own = stands-own o.config o.unit u.history.entries u.folded u.history.spare u.payload (g.B.Blocks.blocks o.tables.blocks) (g.B.Blocks.block_length o.tables.blocks) (g.B.Blocks.holds o.tables.blocks) o.tables.tokens o.tables.jobs o.last_stamp o.moment w t r in
-    let shown = image_shown o.moment o.last_stamp (u.folded + length u.history.entries) (g.B.Blocks.blocks o.tables.blocks) (g.B.Blocks.holds o.tables.blocks) o.tables.tokens.tokens o.tables.jobs in
+    let own = stands-own o.config o.unit u.history.entries u.folded u.history.spare u.payload (g.B.Blocks.blocks o.tables.blocks) (g.B.Blocks.block_length o.tables.blocks) (g.B.Blocks.holds o.tables.blocks) (rods_of g.B.Pins.number (g.B.Blocks.block_length o.tables.blocks) (g.B.Blocks.shown o.tables.blocks) o.tables.tokens) o.tables.jobs o.last_stamp o.moment w t r in
+    let shown = image_shown o.moment o.last_stamp (u.folded + length u.history.entries) (g.B.Blocks.blocks o.tables.blocks) (g.B.Blocks.holds o.tables.blocks) (rods_of g.B.Pins.number (g.B.Blocks.block_length o.tables.blocks) (g.B.Blocks.shown o.tables.blocks) o.tables.tokens).tokens o.tables.jobs in
     let stood : StandsFor o.config o.unit shown u.history.entries u.folded h = rw (← c.self.view_is) at s in
     let p = c.standing_law.ensures shown u.history.entries u.folded h w stood own in
     let count : length past - u.folded ≡ length u.history.entries = length-kept o.config o.unit u.history.entries u.folded w t.record_is.own r.keeps in

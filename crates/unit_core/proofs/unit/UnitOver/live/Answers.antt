@@ -11,6 +11,8 @@ use Rattle.unit_core.proofs.Steps.{known-of}
 use Rattle.cm_history.specs.Tokens.{tokens}
 use Rattle.rod_store.specs.Kept.{live}
 use Rattle.unit_core.proofs.Asking.{live-count}
+use Rattle.rod_store.proofs.PublicLaws.{count-with}
+use Rattle.token_pins.specs.Pinning.{rods_of, rod_shown}
 use Rattle.unit_core.proofs.unit.UnitOver.live.Goals as goal
 
 pub returns : goal.returns
@@ -18,13 +20,15 @@ returns g c = λ h s.
     let u = c.self.inside in
     let o = u.core in
     let w = c.self.invariant.0 in
-    let t : TablesAgree o.config o.unit (g.B.Blocks.blocks o.tables.blocks) (g.B.Blocks.block_length o.tables.blocks) (g.B.Blocks.holds o.tables.blocks) o.tables.tokens o.tables.jobs o.last_stamp o.moment w = c.self.invariant.1 in
+    let t : TablesAgree o.config o.unit (g.B.Blocks.blocks o.tables.blocks) (g.B.Blocks.block_length o.tables.blocks) (g.B.Blocks.holds o.tables.blocks) (rods_of g.B.Pins.number (g.B.Blocks.block_length o.tables.blocks) (g.B.Blocks.shown o.tables.blocks) o.tables.tokens) o.tables.jobs o.last_stamp o.moment w = c.self.invariant.1 in
     let r = c.self.invariant.2 in
     let past = past_of o.config o.unit w in
     let known = known-of o.config o.unit w t.record_is in
     let limit = unit_of o.config o.unit in
-    let own = stands-own o.config o.unit u.history.entries u.folded u.history.spare u.payload (g.B.Blocks.blocks o.tables.blocks) (g.B.Blocks.block_length o.tables.blocks) (g.B.Blocks.holds o.tables.blocks) o.tables.tokens o.tables.jobs o.last_stamp o.moment w t r in
-    let shown = image_shown o.moment o.last_stamp (u.folded + length u.history.entries) (g.B.Blocks.blocks o.tables.blocks) (g.B.Blocks.holds o.tables.blocks) o.tables.tokens.tokens o.tables.jobs in
+    let own = stands-own o.config o.unit u.history.entries u.folded u.history.spare u.payload (g.B.Blocks.blocks o.tables.blocks) (g.B.Blocks.block_length o.tables.blocks) (g.B.Blocks.holds o.tables.blocks) (rods_of g.B.Pins.number (g.B.Blocks.block_length o.tables.blocks) (g.B.Blocks.shown o.tables.blocks) o.tables.tokens) o.tables.jobs o.last_stamp o.moment w t r in
+    let shown = image_shown o.moment o.last_stamp (u.folded + length u.history.entries) (g.B.Blocks.blocks o.tables.blocks) (g.B.Blocks.holds o.tables.blocks) (rods_of g.B.Pins.number (g.B.Blocks.block_length o.tables.blocks) (g.B.Blocks.shown o.tables.blocks) o.tables.tokens).tokens o.tables.jobs in
     let stood : StandsFor o.config o.unit shown u.history.entries u.folded h = rw (← c.self.view_is) at s in
     let p = c.standing_law.ensures shown u.history.entries u.folded h w stood own in
-    rw (← c.self.view_is) (c.live.ensures.count ∙ ap (λ l. length (live l)) t.tokens.tokens ∙ live-count limit (tokens past) ∙ sym p.live)
+    rw (← c.self.view_is) (c.live.ensures.count
+    ∙ sym (count-with (rod_shown g.B.Pins.number (g.B.Blocks.block_length o.tables.blocks) (g.B.Blocks.shown o.tables.blocks)) o.tables.tokens.tokens)
+    ∙ ap (λ l. length (live l)) t.tokens.tokens ∙ live-count limit (tokens past) ∙ sym p.live)
