@@ -5,3 +5,6 @@ pub mod Sound
 pub mod Steps
 pub mod Within
 pub mod PublicLaws
+pub mod Amounts
+pub mod Forms
+pub mod UnitLists

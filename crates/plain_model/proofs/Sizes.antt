@@ -1,6 +1,6 @@
 -- How many bytes the blocks of a past hold
 use Rattle.std.proofs.Common.{◌≡◌, ℕ, zero, suc, List, [], ◌∷◌, length, take, drop, refl, sym, subst, true, false, Bool, Some, None, arith}
-use Rattle.std.specs.Prelude.{◌==◌, ◌&&◌, Option, map, cond, ⊤, if◌then◌else◌}
+use Rattle.std.specs.Prelude.{◌==◌, Option, map, cond, if◌then◌else◌}
 use Rattle.std.proofs.lemmas.Bool.Decides.{nat_tests}
 use Rattle.cm_base.specs.Configuration.{Configuration}
 use Rattle.cm_base.specs.Units.{unit_of}
@@ -14,11 +14,12 @@ use Rattle.cm_history.specs.declared.answer.Answer.{Answer}
 use Rattle.cm_history.specs.Bounds.{piece_blocks}
 use Rattle.cm_history.specs.Deeds.{Deed, is_refusal, is_answered}
 use Rattle.cm_history.specs.Blocks.{held}
-use Rattle.cm_history.specs.Limits.{within_limits, fits_unit}
+use Rattle.cm_history.specs.Limits.{fits_unit}
 use Rattle.cm_history.specs.Tokens.{Token, Live, tokens, token_after, made_token}
 use Rattle.cm_history.specs.Operations.{Operation, operations, operation_after, made_operation, makes_operation, list_of, written, is_failure, would_serve, running, is_running, fits}
 use Rattle.cm_history.specs.Answers.{deed, writings, wrote_of, piece_of}
-use Rattle.plain_model.specs.inner.Holds.{AreSized, AllWritingsSized, IsSizedPast, IsSizedAct}
+use Rattle.plain_model.specs.inner.Holds.{AreSized, AllWritingsSized, IsSizedPast}
+use Rattle.plain_model.specs.inner.Fitting.{Fits, AllFit}
 use Rattle.cm_history.proofs.PublicLaws.{Each, Each-in, Each-by, Each-map, Each-append, In-filter, find-in, made-after, token-kept, and_second}
 
 -- ---- what blocks hold
@@ -84,15 +85,6 @@ wrote-sized size a ws all = go (is_refusal a) (is_failure a)
     go true f = tt
     go false true = tt
     go false false = all
-
--- the act is within its limits, and its blocks have its block length
-pub record Fits (config : Configuration) (unit : ℕ) (act : Act) : Type 0 where
-  pub limits : within_limits config unit act ≡ true
-  pub sized : IsSizedAct act
-
-abbrev pub AllFit : Configuration → ℕ → List Deed → Type 0
-AllFit config unit [] = ⊤
-AllFit config unit (d ∷ past) = Fits config unit d.entry.act × AllFit config unit past
 
 -- blocks of the unit's length
 unit-sized : (config : Configuration) (unit : ℕ) (list : HeldBlocks) → fits_unit config unit list ≡ true → AllSized list.block_length list.items

@@ -19,8 +19,8 @@ use Rattle.cm_history.specs.Tokens.{tokens}
 use Rattle.cm_history.specs.Operations.{Operation, OfToken, operations, operation_after, made_operation, makes_operation, is_making, kept, list_of, written}
 use Rattle.cm_history.specs.Answers.{answer_after, deed, is_busy, is_crowded}
 use Rattle.plain_model.specs.inner.Holds.{MadeSound, IsSoundAct, IsSoundOperation, AllSound, MayFollow}
+use Rattle.plain_model.specs.inner.Fitting.{Fits, AllFit}
 use Rattle.cm_history.proofs.PublicLaws.{In-map, Each, Each-in, Each-by, Each-map, Each-append, IsPast, IsBegun, begun, made-after, kept_in, and_first, and_second, populate-few as few-populated}
-use Rattle.plain_model.proofs.Sizes.{Fits, AllFit}
 
 numbers-within : (blocks : ℕ) (ranges : List Range) → blocks ≤ 2 ^ 64 → is_within blocks ranges ≡ true → IsTrue (is_within (2 ^ 64) ranges)
 numbers-within blocks ranges few inside = let far : is_within (2 ^ 64) ranges ≡ true = within-more blocks (2 ^ 64) ranges few inside in far

@@ -7,9 +7,10 @@ use Rattle.cm_history.specs.Deeds.{Deed}
 use Rattle.cm_history.specs.Answers.{deed}
 use Rattle.cm_history.specs.History.{past_of}
 use Rattle.plain_model.specs.inner.Holds.{MayFollow, IsSizedPast}
+use Rattle.plain_model.specs.inner.Fitting.{Fits, AllFit}
 use Rattle.plain_model.specs.inner.Pasts.{IsPlayed}
 use Rattle.cm_history.proofs.PublicLaws.{past-is, past_of-mine, past_of-other}
-use Rattle.plain_model.proofs.Sizes.{Fits, AllFit, deed-sized}
+use Rattle.plain_model.proofs.Sizes.{deed-sized}
 use Rattle.plain_model.proofs.Sound.{may-follow}
 
 pub fit-mine : (config : Configuration) (unit : ℕ) (entries : List Entry) (e : Entry) → AllFit config unit (past_of config unit entries) → e.unit ≡ unit → Fits config unit e.act

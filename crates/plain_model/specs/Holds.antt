@@ -9,8 +9,7 @@ abbrev pub AreWithin : Configuration → ℕ → List Entry → Type 0
 AreWithin config unit entries =
     (place : ℕ) (e : Entry) → slice_get entries place ≡ Some e → e.unit ≡ unit → within_limits config unit e.act ≡ true
 
--- ---- how many bytes a block holds
-
--- ---- tokens and operations
-
--- ---- what acts bring
+-- units, and the entries that they have done, the oldest first
+pub record PlayedUnits : Type 0 where
+  pub config : Configuration
+  pub entries : List Entry

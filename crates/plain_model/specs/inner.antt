@@ -4,3 +4,5 @@ pub mod Outcomes
 pub mod Pasts
 pub mod Forms
 pub mod Fates
+pub mod Amounts
+pub mod Fitting

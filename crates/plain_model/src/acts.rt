@@ -4,6 +4,8 @@ ghost use Rattle.rod_token.specs.TokenText.{serial_of};
 ghost use Rattle.cm_history.specs.Deeds.{same_actor};
 ghost use Rattle.cm_history.specs.Tokens.{is_populate, is_delete_of, is_redeem_of};
 ghost use Rattle.cm_history.specs.Operations.{same_form, is_making, form_of, id_of, is_foreground, is_background};
+ghost use Rattle.cm_history.specs.Room.{is_write, bytes_in};
+ghost use Rattle.plain_model.specs.inner.Amounts.{capped};
 ghost use Rattle.plain_model.specs.inner.Forms.{as_form};
 ghost use Rattle.plain_model.specs.inner.Holds.{IsSizedAct};
 
@@ -127,6 +129,23 @@ pub(crate) fn blocks_brought(act: &Act) -> u64
     match act {
         Act::Write { list, .. } | Act::Put { list, .. } => list.blocks(),
         Act::Start { rod, .. } => rod.blocks(),
+        _ => 0,
+    }
+}
+
+/// The act is a Write.
+pub(crate) fn is_write(act: &Act) -> bool
+    ensures { result ≡ is_write act.now }
+{
+    matches!(act, Act::Write { .. })
+}
+
+/// The bytes of a Write, and none of another act.
+pub(crate) fn bytes_in(act: &Act) -> u64
+    ensures { result ≡ capped (bytes_in act.now) }
+{
+    match act {
+        Act::Write { list, .. } => list.blocks().saturating_mul(u64::from(list.block_length())),
         _ => 0,
     }
 }

@@ -27,7 +27,7 @@ fn played(
         let entry = history.at(index);
         if entry.unit == number {
             acts::blocks_brought(&entry.act);
-            unit = unit.played(alloc, config, number, entry)?;
+            unit.add(alloc, config, number, entry)?;
         }
     }
     Ok(unit)

@@ -105,7 +105,7 @@ pub(crate) fn write(
         });
     }
     let wrote = PlainWritings::put_at(alloc, lba, list)?;
-    if past.mapped_with(unit.blocks, &wrote) > unit.quota {
+    if past.maps_beyond(unit.quota, unit.blocks, &wrote) {
         return Ok(PlainOutcome {
             answer: refusals::over_quota(),
             wrote: PlainWritings::new(alloc),

@@ -1,10 +1,13 @@
-ghost use Rattle.std.specs.Prelude.{◌≡◌, ◌<◌, ◌≤◌, ◌^◌, ◌∷◌, [], length, IfOk, OnOk};
+ghost use Rattle.std.specs.Prelude.{◌≡◌, ◌<◌, ◌≤◌, ◌^◌, ◌∷◌, [], length, nat_lt, IfOk, OnOk, OnErr};
 ghost use Rattle.std.specs.Option.{option_copied};
 ghost use Rattle.lba_ranges.specs.Writings.{mapped_below, held_with};
-ghost use Rattle.cm_history.specs.Deeds.{moment, is_answered, is_refusal};
+ghost use Rattle.cm_history.specs.Deeds.{moment, last_stamp, is_answered, is_refusal};
 ghost use Rattle.cm_history.specs.Blocks.{held};
 ghost use Rattle.cm_history.specs.Operations.{is_failure, is_ending, written_by, was_stopped, was_ended, result_or, result_of};
+ghost use Rattle.cm_history.specs.Room.{payload};
+ghost use Rattle.plain_model.specs.inner.Amounts.{capped, mappings};
 
+use crate::acts::bytes_in;
 use crate::writings::PlainWritings;
 use cm_base::{OutOfMemory, Payload};
 use cm_history::{Act, Answer, CopyEnd, CopyState, Entry, OpState};
@@ -156,7 +159,8 @@ impl PlainPast {
     }
 
     pub(crate) fn push(&mut self, deed: PlainDeed) -> Result<(), OutOfMemory>
-        ensures { OnOk result (self.new ≡ deed ∷ self.old) }
+        ensures ok { OnOk result (self.new ≡ deed ∷ self.old) }
+        ensures err { OnErr result (self.new ≡ self.old) }
     {
         self.deeds.push(deed)?;
         Ok(())
@@ -194,8 +198,28 @@ impl PlainPast {
         last
     }
 
+    /// How many writings left their block mapped; the greatest number where they are more.
+    fn mappings(&self) -> u64
+        ensures { result ≡ capped (mappings self.now) }
+    {
+        let mut mappings = 0u64;
+        for deed in &self.deeds {
+            mappings = mappings.saturating_add(deed.wrote().mapping());
+        }
+        mappings
+    }
+
+    /// More of the first blocks than these would be mapped if this were written next. They are counted only where
+    /// so many writings left their block mapped.
+    pub(crate) fn maps_beyond(&self, quota: u64, blocks: u64, more: &PlainWritings) -> bool
+        ensures { result ≡ nat_lt quota (mapped_below blocks (held_with (held self.now) more.now)) }
+    {
+        self.mappings().saturating_add(more.mapping()) > quota
+            && self.mapped_with(blocks, more) > quota
+    }
+
     /// How many of the first blocks would be mapped if this were written next.
-    pub(crate) fn mapped_with(&self, blocks: u64, more: &PlainWritings) -> u64
+    fn mapped_with(&self, blocks: u64, more: &PlainWritings) -> u64
         ensures { result ≡ mapped_below blocks (held_with (held self.now) more.now) }
     {
         let mut mapped = 0;
@@ -205,6 +229,28 @@ impl PlainPast {
             }
         }
         mapped
+    }
+
+    /// The stamp of the latest entry.
+    pub(crate) fn last_stamp(&self) -> u64
+        ensures { result ≡ last_stamp self.now }
+    {
+        let mut stamp = 0;
+        for deed in &self.deeds {
+            stamp = deed.entry().stamp;
+        }
+        stamp
+    }
+
+    /// The bytes of all Writes, refused ones too; the greatest number where they are more.
+    pub(crate) fn payload(&self) -> u64
+        ensures { result ≡ capped (payload 0 self.now) }
+    {
+        let mut payload = 0u64;
+        for deed in &self.deeds {
+            payload = payload.saturating_add(bytes_in(&deed.entry().act));
+        }
+        payload
     }
 
     /// How many blocks they wrote.

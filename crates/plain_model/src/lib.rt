@@ -1,4 +1,4 @@
-// The slow plain model of one unit: its answers, by going through its whole history.
+// The slow plain model of units: their answers, by going through the whole history.
 #![tactic(auto)]
 
 mod acts;
@@ -10,9 +10,11 @@ mod outcome;
 mod refusals;
 mod tokens;
 mod unit;
+mod units;
 mod writings;
 
 pub use answering::plain_answer;
+pub use units::PlainUnits;
 
 #[cfg(test)]
 mod tests;

@@ -2,6 +2,7 @@ ghost use Rattle.std.specs.Prelude.{◌≡◌, ◌<◌, ◌≤◌, ◌++◌, ◌
 ghost use Rattle.cm_history.specs.Tokens.{is_populate};
 ghost use Rattle.cm_history.specs.Operations.{Operation, has_key, written, count, list_of, state, result_of, is_running, is_running_state, fits, next_piece, operation_after, made_operation, makes_operation, has_ended, same_key, without_first_ended, with_room, keep};
 ghost use Rattle.cm_history.specs.Answers.{serial_made, report_of};
+ghost use Rattle.cm_history.specs.Room.{reserved_by};
 ghost use Rattle.plain_model.specs.inner.Forms.{as_form};
 ghost use Rattle.plain_model.specs.inner.Holds.{IsSoundAct, IsSoundOperation, AllSound};
 
@@ -10,7 +11,7 @@ use crate::deeds::{PlainDeed, PlainPast};
 use crate::refusals;
 use crate::writings::PlainWritings;
 use cm_base::OutOfMemory;
-use cm_history::{Act, Actor, Answer, CopyEnd, CopyState, OpReport, OpState, PIECE_BLOCKS};
+use cm_history::{Act, Actor, Answer, CopyEnd, CopyState, OpReport, OpState, PIECE_BLOCKS, pieces};
 use std::alloc::Global;
 use std::marker::Model;
 
@@ -150,6 +151,19 @@ impl PlainOperation {
         match acts::form_of(self.act()) {
             PlainForm::OfCopy => matches!(self.result().state, CopyState::Running),
             PlainForm::OfToken => matches!(self.state(), OpState::Running),
+        }
+    }
+
+    /// The entries that it may still need, while it runs.
+    pub(crate) fn reserved(&self) -> u64
+        ensures { result ≡ reserved_by (length self.now.servers) self.now.made.entry.act }
+    {
+        match self.act() {
+            Act::Start { rod, .. } => {
+                (pieces(rod.blocks()) + 1).saturating_sub(self.servers.len() as u64)
+            }
+            Act::Open { .. } => 1,
+            _ => 0,
         }
     }
 

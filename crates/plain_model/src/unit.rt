@@ -1,4 +1,4 @@
-ghost use Rattle.std.specs.Prelude.{◌≡◌, ◌<◌, ◌∷◌, [], ◌^◌, length, find, true, false, IfOk};
+ghost use Rattle.std.specs.Prelude.{◌≡◌, ◌<◌, ◌∷◌, [], ◌^◌, length, find, true, false, IfOk, OnOk, OnErr};
 ghost use Rattle.std.specs.Option.{option_copied};
 ghost use Rattle.cm_base.specs.Units.{unit_of};
 ghost use Rattle.lba_ranges.specs.Denoted.{blocks_of};
@@ -8,12 +8,14 @@ ghost use Rattle.cm_history.specs.Deeds.{moment};
 ghost use Rattle.cm_history.specs.Limits.{within_limits};
 ghost use Rattle.cm_history.specs.Operations.{OfToken, OfCopy, has_key, kept, operations, running, would_serve};
 ghost use Rattle.cm_history.specs.Redeeming.{redeemed, named_token};
+ghost use Rattle.cm_history.specs.Room.{reserved, need, need_to_serve, is_full};
+ghost use Rattle.plain_model.specs.inner.Amounts.{capped, IsShortAct};
 ghost use Rattle.plain_model.specs.inner.Forms.{as_form};
 ghost use Rattle.plain_model.specs.inner.Holds.{IsSizedPast, MayFollow, writes};
 ghost use Rattle.plain_model.specs.inner.Outcomes.{IsOutcome};
 ghost use Rattle.cm_history.specs.Tokens.{tokens};
 
-use crate::acts::{self, PlainForm};
+use crate::acts::{self, PlainForm, bytes_in, is_write};
 use crate::deeds::{PlainDeed, PlainPast};
 use crate::operations::{PlainOperation, kept_after, operations_after};
 use crate::outcome::PlainOutcome;
@@ -21,7 +23,7 @@ use crate::tokens::{PlainToken, tokens_after};
 use crate::writings::PlainWritings;
 use crate::{blocks, refusals};
 use cm_base::{Config, OutOfMemory, UnitConfig};
-use cm_history::{Act, Actor, Answer, Entry, OpState};
+use cm_history::{Act, Actor, Answer, Entry, OpState, pieces};
 use lba_ranges::{BlockList, RangeList};
 use std::alloc::Global;
 use std::marker::Model;
@@ -216,7 +218,7 @@ impl PlainUnit {
         };
         let piece = operation.next_piece(alloc)?;
         let before = operation.count();
-        if self.past.mapped_with(unit.blocks, &piece) > unit.quota {
+        if self.past.maps_beyond(unit.quota, unit.blocks, &piece) {
             let state = OpState::Failed(refusals::quota_sense());
             let count = before;
             return Ok(PlainOutcome {
@@ -353,40 +355,93 @@ impl PlainUnit {
         })
     }
 
-    /// The unit after one more deed.
-    fn after(self, alloc: Global, deed: PlainDeed) -> Result<PlainUnit, OutOfMemory>
-        requires { MayFollow self deed }
-        ensures { IfOk result (λ unit. unit ≡ deed ∷ self) }
+    /// Adds a deed. At `OutOfMemory` nothing changes.
+    fn push(&mut self, alloc: Global, deed: PlainDeed) -> Result<(), OutOfMemory>
+        requires { MayFollow self.old deed }
+        ensures ok { OnOk result (self.new ≡ deed ∷ self.old) }
+        ensures err { OnErr result (self.new ≡ self.old) }
     {
         let tokens = tokens_after(alloc, &self.tokens, &self.past, &deed)?;
         let operations = operations_after(alloc, &self.operations, &deed)?;
         let kept = kept_after(alloc, &self.kept, &deed)?;
-        let mut past = self.past;
-        past.push(deed)?;
-        Ok(PlainUnit {
-            past,
-            tokens,
-            operations,
-            kept,
-        })
+        self.past.push(deed)?;
+        self.tokens = tokens;
+        self.operations = operations;
+        self.kept = kept;
+        Ok(())
     }
 
-    /// The unit after one more entry.
-    pub(crate) fn played(
-        self,
+    /// Adds an entry. At `OutOfMemory` nothing changes.
+    pub(crate) fn add(
+        &mut self,
         alloc: Global,
         config: &Config,
         number: u16,
         entry: &Entry,
-    ) -> Result<PlainUnit, OutOfMemory>
+    ) -> Result<(), OutOfMemory>
         requires configured { number < length config.now.units }
         requires limits { within_limits config.now number entry.now.act ≡ true }
-        requires sized { IsSizedPast (unit_of config.now number).block_length self }
-        requires follows { MayFollow self (deed config.now number self entry.now) }
-        ensures { IfOk result (λ unit. unit ≡ deed config.now number self entry.now ∷ self) }
+        requires sized { IsSizedPast (unit_of config.now number).block_length self.old }
+        requires follows { MayFollow self.old (deed config.now number self.old entry.now) }
+        ensures ok { OnOk result (self.new ≡ deed config.now number self.old entry.now ∷ self.old) }
+        ensures err { OnErr result (self.new ≡ self.old) }
     {
         let deed = self.deed(alloc, config, number, entry)?;
-        self.after(alloc, deed)
+        self.push(alloc, deed)
+    }
+}
+
+impl PlainUnit {
+    /// The entries that are kept free for the operations that run.
+    fn reserved(&self) -> u64
+        ensures { result ≡ capped (reserved self.now) }
+    {
+        let mut reserved = 0u64;
+        for operation in &self.operations {
+            if operation.is_running() {
+                reserved = reserved.saturating_add(operation.reserved());
+            }
+        }
+        reserved
+    }
+
+    /// An entry for the act, where none is kept free for it.
+    fn need_to_serve(&self, actor: Actor, act: &Act) -> u64
+        ensures { result ≡ need_to_serve self.now actor act.now }
+    {
+        match self.would_serve(actor, act) {
+            Some(_) => 0,
+            None => 1,
+        }
+    }
+
+    /// The entries that an act takes, with those that it keeps free.
+    fn need(&self, actor: Actor, act: &Act) -> u64
+        requires { IsShortAct act.now }
+        ensures { result ≡ need self.now actor act.now }
+    {
+        match act {
+            Act::Start { rod, .. } => 2 + pieces(rod.blocks()),
+            Act::Open { .. } => 2,
+            Act::Advance { .. } => self.need_to_serve(actor, act),
+            Act::Pump => self.need_to_serve(actor, act),
+            Act::End { .. } => self.need_to_serve(actor, act),
+            Act::Abort { .. } => self.need_to_serve(actor, act),
+            Act::Close { .. } => self.need_to_serve(actor, act),
+            _ => 1,
+        }
+    }
+
+    /// The unit's record has no room for one more act: of stamps, of entries or of bytes.
+    pub(crate) fn is_full(&self, unit: UnitConfig, actor: Actor, stamp: u64, act: &Act) -> bool
+        requires { IsShortAct act.now }
+        ensures { result ≡ is_full unit 0 self.now actor stamp act.now }
+    {
+        let kept = (self.past.len() as u64).saturating_add(self.reserved());
+        let payload = self.past.payload().saturating_add(bytes_in(act));
+        stamp.max(self.past.last_stamp()) == u64::MAX
+            || kept.saturating_add(self.need(actor, act)) > u64::from(unit.entries)
+            || (is_write(act) && payload > u64::from(unit.payload))
     }
 }
 

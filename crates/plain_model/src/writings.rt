@@ -4,6 +4,7 @@ ghost use Rattle.lba_ranges.specs.Denoted.{blocks_of, is_within};
 ghost use Rattle.lba_ranges.specs.HeldBlocks.{held_at};
 ghost use Rattle.lba_ranges.specs.Writings.{after, paired, unmapped};
 ghost use Rattle.cm_history.specs.Answers.{put_at};
+ghost use Rattle.plain_model.specs.inner.Amounts.{mapping};
 
 use cm_base::{OutOfMemory, Payload};
 use lba_ranges::{BlockList, RangeList};
@@ -166,5 +167,21 @@ impl PlainWritings {
             copy.push(writing.block, shared(writing.held.as_ref())?)?;
         }
         Ok(copy)
+    }
+}
+
+#[tactic(auto, using(crate::proofs::Amounts::amounts))]
+impl PlainWritings {
+    /// How many of them leave their block mapped.
+    pub(crate) fn mapping(&self) -> u64
+        ensures { result ≡ mapping self.now }
+    {
+        let mut mapping = 0;
+        for writing in &self.writings {
+            if writing.held.is_some() {
+                mapping += 1;
+            }
+        }
+        mapping
     }
 }

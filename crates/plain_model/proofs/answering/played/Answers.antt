@@ -5,13 +5,13 @@ use Rattle.lba_ranges.proofs.PublicLaws.{take-get}
 use Rattle.cm_history.specs.declared.act.Entry.{Entry}
 use Rattle.cm_history.specs.History.{past_of}
 use Rattle.plain_model.specs.inner.Pasts.{IsPlayed}
-use Rattle.plain_model.proofs.Sizes.{Fits, AllFit}
+use Rattle.plain_model.specs.inner.Fitting.{Fits, AllFit}
 use Rattle.plain_model.proofs.Steps.{fit-mine, fit-other, played-mine, played-other, follows}
 use Rattle.plain_model.proofs.answering.played.Goals as goal
-use Rattle.plain_model.proofs.answering.played.Goals.{then-entry-number+in_ok-unit, else-entry-number}
+use Rattle.plain_model.proofs.answering.played.Goals.{then-entry-number+in_ok-add, else-entry-number}
 
-pub played-requires-clause-follows : goal.played-requires-clause-follows
-played-requires-clause-follows c =
+pub add-requires-clause-follows : goal.add-requires-clause-follows
+add-requires-clause-follows c =
     let config = c.args.config.now in
     let e = c.at-entry.result.now in
     let limits = c.unit.ensures.limits.blocks in
@@ -31,13 +31,13 @@ loop-index-preserved c =
     let e = c.at-entry.result.now in
     let one : take (c.loop-index.index + 1) c.args.history.now.entries ≡ before ++ e ∷ [] = take-get c.args.history.now.entries c.loop-index.index e c.at-entry.ensures in
     elim c.if-entry-number.branch [
-      | then-entry-number+in_ok-unit w ↦
+      | then-entry-number+in_ok-add w ↦
           let fits : Fits config number e.act = record {
             limits = c.requires.within c.loop-index.index e c.at-entry.ensures w.if-entry-number.true;
             sized = w.blocks_brought.ensures;
           } in record {
             played = subst (λ (entries : List Entry). IsPlayed config number entries c.if-entry-number.unit) (sym one)
-                (played-mine config number before e c.loop-index.unit c.if-entry-number.unit c.loop-index.invariant.fits c.loop-index.invariant.played w.if-entry-number.true fits (w.unit-is ∙ w.in_ok-unit.ensures));
+                (played-mine config number before e c.loop-index.unit c.if-entry-number.unit c.loop-index.invariant.fits c.loop-index.invariant.played w.if-entry-number.true fits (w.unit-is ∙ w.in_ok-add.ensures.ok));
             fits = subst (λ (entries : List Entry). AllFit config number (past_of config number entries)) (sym one)
                 (fit-mine config number before e c.loop-index.invariant.fits w.if-entry-number.true fits);
           }
