@@ -1,0 +1,4 @@
+pub mod Plays
+pub mod Machining
+pub mod Differing
+pub mod Checking

@@ -1,0 +1,4 @@
+pub mod CheckedTrace
+pub mod Verdict
+pub mod Checked
+pub mod inner

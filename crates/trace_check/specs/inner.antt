@@ -1,0 +1,4 @@
+pub mod Endings
+pub mod Machines
+pub mod Loops
+pub mod Pulls
