@@ -104,6 +104,7 @@ tells rounds summary pushed (Status.BadHeader place) a p = p
 tells rounds summary pushed Status.Usage a p = p
 tells rounds summary pushed (Status.BadRecord place) a p = absurd p
 tells rounds summary pushed Status.Records a p = p
+tells rounds summary pushed (Status.Differs place) a p = p
 
 pub told-counts : (rounds : ℕ) (summary : Summary) (taken given : Option (List ℕ)) (writes writes_after : ℕ) (status : Status)
     → IsAnswerOf rounds (Ok summary) → IsPushedSo taken given writes writes_after summary status → HasGenerated rounds taken given writes writes_after status

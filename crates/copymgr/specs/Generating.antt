@@ -47,6 +47,7 @@ IsTold rounds pushed (Status.Torn place) = ⊥
 IsTold rounds pushed (Status.BadHeader place) = ⊥
 IsTold rounds pushed Status.Usage = ⊥
 IsTold rounds pushed Status.Records = ⊥
+IsTold rounds pushed (Status.Differs place) = ⊥
 
 -- a failed write is answered only where the sink counted one
 abbrev pub IsWriteCounted : ℕ → ℕ → Status → Type 0

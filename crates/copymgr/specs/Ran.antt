@@ -4,8 +4,10 @@ use Rattle.cmd_program.specs.Judging.{step}
 use Rattle.trace_replay.specs.declared.summary.Summary.{Summary}
 use Rattle.trace_replay.specs.declared.fault.ReplayFault.{ReplayFault}
 use Rattle.trace_replay.specs.Replayed.{Replayed, IsCounted}
+use Rattle.trace_check.specs.declared.checker.CheckEnd.{CheckEnd}
+use Rattle.trace_check.specs.Checked.{Checked, IsCheckCounted}
 use Rattle.copymgr.specs.declared.status.Status.{Status}
-use Rattle.copymgr.specs.Statuses.{status_of}
+use Rattle.copymgr.specs.Statuses.{status_of, check_status}
 
 -- The trace was replayed, and the status is that of the replay's answer. First what the source has left and what the
 -- sink took, each before and after; then their counts of faults, each before and after.
@@ -14,3 +16,10 @@ pub record HasReplayed (left rest taken given : Option (List ℕ)) (reads reads_
   pub is : status ≡ status_of answer
   pub replayed : Replayed step left rest taken given answer
   pub counted : IsCounted reads reads_after writes writes_after answer
+
+-- The trace was checked, and the status is that of the answer. What stands before and after is as for a replay.
+pub record HasChecked (left rest taken given : Option (List ℕ)) (reads reads_after writes writes_after : ℕ) (status : Status) : Type 0 where
+  pub answer : Result CheckEnd ReplayFault
+  pub is : status ≡ check_status answer
+  pub checked : Checked step left rest taken given answer
+  pub counted : IsCheckCounted reads reads_after writes writes_after answer

@@ -1,19 +1,30 @@
--- How the program ends, by the answer of a replay
+-- How the program ends, by the answer of a replay or of a check
 use Rattle.std.specs.Prelude.{ℕ, Result, Ok, Err}
 use Rattle.trace_replay.specs.declared.summary.Summary.{Summary}
 use Rattle.trace_replay.specs.declared.fault.ReplayFault.{ReplayFault}
+use Rattle.trace_check.specs.declared.checker.CheckEnd.{CheckEnd}
 use Rattle.copymgr.specs.declared.status.Status.{Status}
 
--- each fault of a replay ends the program in a status of its own
+-- each fault ends the program in a status of its own
+abbrev pub fault_status : ReplayFault → Status
+fault_status ReplayFault.ReadFault = Status.ReadFault
+fault_status ReplayFault.WriteFault = Status.WriteFault
+fault_status ReplayFault.OutOfMemory = Status.OutOfMemory
+fault_status (ReplayFault.Torn place) = Status.Torn place
+fault_status (ReplayFault.BadHeader place) = Status.BadHeader place
+fault_status (ReplayFault.BadRecord place) = Status.BadRecord place
+fault_status ReplayFault.Records = Status.Records
+
+-- after a replay
 abbrev pub status_of : Result Summary ReplayFault → Status
 status_of (Ok summary) = Status.Done
-status_of (Err ReplayFault.ReadFault) = Status.ReadFault
-status_of (Err ReplayFault.WriteFault) = Status.WriteFault
-status_of (Err ReplayFault.OutOfMemory) = Status.OutOfMemory
-status_of (Err (ReplayFault.Torn place)) = Status.Torn place
-status_of (Err (ReplayFault.BadHeader place)) = Status.BadHeader place
-status_of (Err (ReplayFault.BadRecord place)) = Status.BadRecord place
-status_of (Err ReplayFault.Records) = Status.Records
+status_of (Err fault) = fault_status fault
+
+-- after a check
+abbrev pub check_status : Result CheckEnd ReplayFault → Status
+check_status (Ok CheckEnd.Yes) = Status.Done
+check_status (Ok (CheckEnd.Differs place)) = Status.Differs place
+check_status (Err fault) = fault_status fault
 
 abbrev pub code_of : Status → ℕ
 code_of Status.Done = 0
@@ -25,3 +36,4 @@ code_of (Status.BadHeader place) = 5
 code_of Status.Usage = 6
 code_of (Status.BadRecord place) = 7
 code_of Status.Records = 8
+code_of (Status.Differs place) = 10

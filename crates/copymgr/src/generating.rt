@@ -78,6 +78,6 @@ pub fn tell_rounds<M: Memory, O: Sink>(
 {
     match play_rounds(alloc, memory, rounds) {
         Ok(summary) => tell(alloc, &summary, output),
-        Err(fault) => Status::from(Err(fault)),
+        Err(fault) => Status::from(fault),
     }
 }

@@ -1,6 +1,9 @@
-// The program: replays a recorded trace from standard input to standard output, or a generated one.
+// The program: replays a recorded trace from standard input to standard output, or a generated one, or checks the
+// replies that were recorded with a trace.
 #![tactic(auto)]
 
+#[cfg(test)]
+mod checks;
 mod ends;
 mod generating;
 mod order;

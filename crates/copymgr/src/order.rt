@@ -10,6 +10,8 @@ use std::str;
 pub enum Order {
     /// `replay`: the trace from the input is played.
     Replay,
+    /// `check`: the trace from the input is played, and its replies are compared with those behind it.
+    Check,
     /// `gen N`: the generated trace of so many rounds is played, 1 to 4096.
     Generate(u32),
 }
@@ -54,6 +56,7 @@ pub fn order_of(words: &[Word]) -> Option<Order>
 {
     match words {
         [word] if word.as_slice() == b"replay".as_slice() => Some(Order::Replay),
+        [word] if word.as_slice() == b"check".as_slice() => Some(Order::Check),
         [word, number] if word.as_slice() == b"gen".as_slice() => {
             Some(Order::Generate(rounds(number.as_slice())?))
         }

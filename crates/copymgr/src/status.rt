@@ -1,10 +1,11 @@
 ghost use Rattle.std.specs.Prelude.{◌≡◌};
-ghost use Rattle.copymgr.specs.Statuses.{code_of, status_of};
+ghost use Rattle.copymgr.specs.Statuses.{code_of, fault_status, status_of, check_status};
 
 use std::fmt;
+use trace_check::CheckEnd;
 use trace_replay::{ReplayFault, Summary};
 
-/// How the program ends. A place counts in bytes from the first byte of the input.
+/// How the program ends. A place counts in bytes from the first byte of the input, where nothing else is said.
 #[derive(Debug, Clone, Copy, PartialEq, Eq)]
 pub enum Status {
     Done,
@@ -21,6 +22,8 @@ pub enum Status {
     BadRecord(u64),
     /// Another item follows the last that is allowed.
     Records,
+    /// The recorded replies are not those of the trace: the first difference is at this place, from their first byte.
+    Differs(u64),
 }
 
 impl Status {
@@ -38,6 +41,23 @@ impl Status {
             Status::Usage => 6,
             Status::BadRecord(_) => 7,
             Status::Records => 8,
+            Status::Differs(_) => 10,
+        }
+    }
+}
+
+impl From<ReplayFault> for Status {
+    ghost from_gives = { λ fault status. status ≡ fault_status fault };
+
+    fn from(fault: ReplayFault) -> Status {
+        match fault {
+            ReplayFault::ReadFault => Status::ReadFault,
+            ReplayFault::WriteFault => Status::WriteFault,
+            ReplayFault::OutOfMemory => Status::OutOfMemory,
+            ReplayFault::Torn { place } => Status::Torn(place),
+            ReplayFault::BadHeader { place } => Status::BadHeader(place),
+            ReplayFault::BadRecord { place } => Status::BadRecord(place),
+            ReplayFault::Records => Status::Records,
         }
     }
 }
@@ -48,13 +68,19 @@ impl From<Result<Summary, ReplayFault>> for Status {
     fn from(answer: Result<Summary, ReplayFault>) -> Status {
         match answer {
             Ok(_) => Status::Done,
-            Err(ReplayFault::ReadFault) => Status::ReadFault,
-            Err(ReplayFault::WriteFault) => Status::WriteFault,
-            Err(ReplayFault::OutOfMemory) => Status::OutOfMemory,
-            Err(ReplayFault::Torn { place }) => Status::Torn(place),
-            Err(ReplayFault::BadHeader { place }) => Status::BadHeader(place),
-            Err(ReplayFault::BadRecord { place }) => Status::BadRecord(place),
-            Err(ReplayFault::Records) => Status::Records,
+            Err(fault) => Status::from(fault),
+        }
+    }
+}
+
+impl From<Result<CheckEnd, ReplayFault>> for Status {
+    ghost from_gives = { λ answer status. status ≡ check_status answer };
+
+    fn from(answer: Result<CheckEnd, ReplayFault>) -> Status {
+        match answer {
+            Ok(CheckEnd::Yes) => Status::Done,
+            Ok(CheckEnd::Differs { place }) => Status::Differs(place),
+            Err(fault) => Status::from(fault),
         }
     }
 }
@@ -68,9 +94,10 @@ impl fmt::Display for Status {
             Status::OutOfMemory => write!(f, "out of memory"),
             Status::Torn(place) => write!(f, "input ends inside the part at byte {place}"),
             Status::BadHeader(place) => write!(f, "bad header at byte {place}"),
-            Status::Usage => write!(f, "use replay or gen N"),
+            Status::Usage => write!(f, "use replay, check, or gen N"),
             Status::BadRecord(place) => write!(f, "bad record at byte {place}"),
             Status::Records => write!(f, "too many records"),
+            Status::Differs(place) => write!(f, "replies differ at byte {place}"),
         }
     }
 }

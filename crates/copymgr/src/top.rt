@@ -1,7 +1,7 @@
 ghost use Rattle.std.specs.Prelude.{◌≡◌, ◌↔◌, ℕ};
 ghost use Rattle.copymgr.specs.declared.status.Status.{Status};
-ghost use Rattle.copymgr.specs.Orders.{replay_words, gen_words, AreRounds, AreUnknown};
-ghost use Rattle.copymgr.specs.Ran.{HasReplayed};
+ghost use Rattle.copymgr.specs.Orders.{replay_words, check_words, gen_words, AreRounds, AreUnknown};
+ghost use Rattle.copymgr.specs.Ran.{HasReplayed, HasChecked};
 ghost use Rattle.copymgr.specs.Generating.{HasGenerated};
 
 use crate::generating::tell_rounds;
@@ -10,10 +10,12 @@ use crate::status::Status;
 use cm_base::{Sink, Source, Word};
 use cm_frame::Memory;
 use std::alloc::Global;
+use trace_check::check;
 use trace_replay::replay_with;
 
 /// Does what the words say. `replay` plays a trace from the input and writes its reply records to the output.
-/// `gen N` plays the generated trace of N rounds, 1 to 4096, and writes what it did in eight lines; it reads
+/// `check` compares the replies to a trace, which stand behind it in the input, with those that it has, and writes `yes`
+/// and a line feed where they are the same. `gen N` plays the generated trace of N rounds, 1 to 4096, and writes what it did in eight lines; it reads
 /// nothing. Other words are Usage, and nothing is read or written. It waits where the input or the output
 /// does, and nowhere else.
 pub fn top<I: Source, O: Sink>(
@@ -26,6 +28,10 @@ pub fn top<I: Source, O: Sink>(
     ensures untouched { AreUnknown words.now → (input.new ≡ input.old) × (output.new ≡ output.old) }
     ensures replayed { words.now ≡ replay_words
         → HasReplayed (I.left input.old) (I.left input.new) (O.taken output.old) (O.taken output.new)
+        (I.read_faults input.old) (I.read_faults input.new)
+        (O.write_faults output.old) (O.write_faults output.new) result }
+    ensures checked { words.now ≡ check_words
+        → HasChecked (I.left input.old) (I.left input.new) (O.taken output.old) (O.taken output.new)
         (I.read_faults input.old) (I.read_faults input.new)
         (O.write_faults output.old) (O.write_faults output.new) result }
     ensures generated { (rounds : ℕ) → AreRounds rounds → words.now ≡ gen_words rounds
@@ -51,6 +57,10 @@ pub fn top_with<M: Memory, I: Source, O: Sink>(
         → HasReplayed (I.left input.old) (I.left input.new) (O.taken output.old) (O.taken output.new)
         (I.read_faults input.old) (I.read_faults input.new)
         (O.write_faults output.old) (O.write_faults output.new) result }
+    ensures checked { words.now ≡ check_words
+        → HasChecked (I.left input.old) (I.left input.new) (O.taken output.old) (O.taken output.new)
+        (I.read_faults input.old) (I.read_faults input.new)
+        (O.write_faults output.old) (O.write_faults output.new) result }
     ensures generated { (rounds : ℕ) → AreRounds rounds → words.now ≡ gen_words rounds
         → (input.new ≡ input.old)
         × HasGenerated rounds (O.taken output.old) (O.taken output.new)
@@ -59,6 +69,7 @@ pub fn top_with<M: Memory, I: Source, O: Sink>(
     match order_of(words) {
         None => Status::Usage,
         Some(Order::Replay) => Status::from(replay_with(alloc, memory, input, output)),
+        Some(Order::Check) => Status::from(check(alloc, input, output)),
         Some(Order::Generate(rounds)) => tell_rounds(alloc, memory, rounds, output),
     }
 }

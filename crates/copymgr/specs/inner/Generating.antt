@@ -31,6 +31,7 @@ IsPushed summary pushed (Status.BadHeader place) = ⊥
 IsPushed summary pushed Status.Usage = ⊥
 IsPushed summary pushed (Status.BadRecord place) = ⊥
 IsPushed summary pushed Status.Records = ⊥
+IsPushed summary pushed (Status.Differs place) = ⊥
 
 pub record IsPushedSo (taken given : Option (List ℕ)) (writes writes_after : ℕ) (summary : Summary) (status : Status) : Type 0 where
   pub pushed : List ℕ

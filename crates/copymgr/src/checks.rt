@@ -1,0 +1,217 @@
+// Worked traces and their replies, checked.
+use crate::rows::first_path::{HEADER, ROWS, RUN};
+use crate::rows::{Row, copies, evictions, generated, operations, tokens, usual_copy};
+use crate::status::Status;
+use crate::tests::{bytes_of, only};
+use crate::top::top;
+use cm_base::{Bytes, CallList, MemorySink, MemorySource, Word};
+use generator::generate;
+use std::alloc::Global;
+use std::test::Fail;
+
+/// The input of a check.
+fn input_of(alloc: Global, length: u64, trace: &[u8], records: &[u8]) -> Result<Bytes, Fail> {
+    let mut input = Bytes::empty(alloc);
+    input.extend(&length.to_be_bytes())?;
+    input.extend(trace)?;
+    input.extend(records)?;
+    Ok(input)
+}
+
+/// How a check of an input ends, and what it writes; of its pulls those listed fail.
+fn checked(alloc: Global, input: Bytes, pulls: CallList) -> Result<(Status, MemorySink), Fail> {
+    let mut words = Vec::new(alloc);
+    words.push(Word::from_text(alloc, "check")?)?;
+    let mut source = MemorySource::new(input, 4096, pulls);
+    let mut output = MemorySink::new(alloc, 4096, CallList::empty(alloc));
+    let status = top(alloc, &words, &mut source, &mut output);
+    Ok((status, output))
+}
+
+/// How a check of a trace of a told length and of records ends; a Yes is written exactly where it is done.
+fn ends(alloc: Global, length: u64, trace: &[u8], records: &[u8]) -> Result<Status, Fail> {
+    let input = input_of(alloc, length, trace, records)?;
+    let (status, output) = checked(alloc, input, CallList::empty(alloc))?;
+    let told = output.as_slice() == b"yes\n".as_slice();
+    if told != (status == Status::Done) {
+        return Err(Fail::new("what was written is not what the status says"));
+    }
+    Ok(status)
+}
+
+/// A place of a trace, in the input of its check.
+fn behind_length(status: Status) -> Status {
+    match status {
+        Status::Torn(place) => Status::Torn(place.saturating_add(8)),
+        Status::BadHeader(place) => Status::BadHeader(place.saturating_add(8)),
+        Status::BadRecord(place) => Status::BadRecord(place.saturating_add(8)),
+        other => other,
+    }
+}
+
+/// The replies of a worked trace are right where it is played to its end; else it is at fault as in a replay.
+fn is_right(alloc: Global, row: &Row) -> Result<bool, Fail> {
+    let trace = bytes_of(alloc, row.trace)?;
+    let replies = bytes_of(alloc, row.replies)?;
+    let status = ends(
+        alloc,
+        trace.len() as u64,
+        trace.as_slice(),
+        replies.as_slice(),
+    )?;
+    Ok(status == behind_length(row.status))
+}
+
+fn are_right(alloc: Global, rows: &[Row]) -> Result<(), Fail> {
+    for row in rows {
+        if !is_right(alloc, row)? {
+            return Err(Fail::from(row.name));
+        }
+    }
+    Ok(())
+}
+
+/// All but the last, whose runs of 4,294,967,296 blocks the plain model walks block by block.
+#[test]
+fn worked_replies_are_right(rt: HostRuntime) -> Result<(), Fail> {
+    are_right(rt.alloc(), &ROWS[..23])
+}
+
+#[test]
+fn worked_replies_of_tokens_are_right(rt: HostRuntime) -> Result<(), Fail> {
+    are_right(rt.alloc(), &tokens::ROWS)
+}
+
+#[test]
+fn worked_replies_of_copies_are_right(rt: HostRuntime) -> Result<(), Fail> {
+    are_right(rt.alloc(), &copies::ROWS)
+}
+
+#[test]
+fn worked_replies_of_operations_are_right(rt: HostRuntime) -> Result<(), Fail> {
+    are_right(rt.alloc(), &operations::ROWS)
+}
+
+#[test]
+fn worked_replies_of_many_tokens_are_right(rt: HostRuntime) -> Result<(), Fail> {
+    are_right(rt.alloc(), &evictions::ROWS)
+}
+
+#[test]
+fn worked_replies_of_the_usual_copy_are_right(rt: HostRuntime) -> Result<(), Fail> {
+    are_right(rt.alloc(), &usual_copy::ROWS)
+}
+
+/// The records of a row with another byte at a place.
+fn with_byte(alloc: Global, row: &Row, place: usize, byte: u8) -> Result<Vec<u8>, Fail> {
+    let replies = bytes_of(alloc, row.replies)?;
+    let mut records = Vec::new(alloc);
+    records.extend_from_slice(replies.as_slice())?;
+    match records.get_mut(place) {
+        Some(found) => *found = byte,
+        None => return Err(Fail::new("no such byte")),
+    }
+    Ok(records)
+}
+
+/// How a check of a row with other records ends.
+fn ends_with(alloc: Global, row: &Row, records: &[u8]) -> Result<Status, Fail> {
+    let trace = bytes_of(alloc, row.trace)?;
+    ends(alloc, trace.len() as u64, trace.as_slice(), records)
+}
+
+/// A byte of each field of a reply, and of its data: the initiator, the status, the lengths of sense and of data.
+#[test]
+fn each_changed_byte_differs(rt: HostRuntime) -> Result<(), Fail> {
+    let alloc = rt.alloc();
+    for place in [0, 3, 4, 5, 6, 9, 13, 14, 15, 19, 20, 1555] {
+        let records = with_byte(alloc, &ROWS[3], place, 0x08)?;
+        let status = ends_with(alloc, &ROWS[3], &records)?;
+        assert!(rt;
+            status == Status::Differs(place as u64),
+            "{place}: {status}"
+        );
+    }
+    Ok(())
+}
+
+/// A byte of a sense.
+#[test]
+fn a_changed_sense_differs(rt: HostRuntime) -> Result<(), Fail> {
+    let alloc = rt.alloc();
+    let records = with_byte(alloc, &ROWS[5], 12, 0x06)?;
+    assert!(rt; ends_with(alloc, &ROWS[5], &records)? == Status::Differs(12));
+    Ok(())
+}
+
+/// Records that are cut, and longer ones.
+#[test]
+fn records_of_another_length_differ(rt: HostRuntime) -> Result<(), Fail> {
+    let alloc = rt.alloc();
+    let mut records = with_byte(alloc, &ROWS[3], 1555, 0)?;
+    assert!(rt; ends_with(alloc, &ROWS[3], &records)? == Status::Done);
+    records.push(0)?;
+    assert!(rt; ends_with(alloc, &ROWS[3], &records)? == Status::Differs(1556));
+    records.truncate(1555);
+    assert!(rt; ends_with(alloc, &ROWS[3], &records)? == Status::Differs(1555));
+    assert!(rt; ends_with(alloc, &ROWS[3], &[])? == Status::Differs(0));
+    Ok(())
+}
+
+/// The token's block as it was overwritten later is not what its READ gave.
+#[test]
+fn the_overwritten_block_differs(rt: HostRuntime) -> Result<(), Fail> {
+    let alloc = rt.alloc();
+    let row = &operations::ROWS[0];
+    let last = bytes_of(alloc, row.replies)?.len().saturating_sub(1);
+    let records = with_byte(alloc, row, last, 0x44)?;
+    assert!(rt; ends_with(alloc, row, &records)? == Status::Differs(last as u64));
+    Ok(())
+}
+
+/// A length that is too great, one that is less than the trace, and inputs that end before the trace does.
+#[test]
+fn lengths_are_judged(rt: HostRuntime) -> Result<(), Fail> {
+    let alloc = rt.alloc();
+    let trace = bytes_of(alloc, &[HEADER, RUN])?;
+    assert!(rt; ends(alloc, 1_073_741_825, trace.as_slice(), &[])? == Status::BadHeader(0));
+    assert!(rt; ends(alloc, 1_073_741_824, trace.as_slice(), &[])? == Status::Torn(8));
+    assert!(rt; ends(alloc, 88, trace.as_slice(), &[])? == Status::Torn(8));
+    assert!(rt; ends(alloc, 87, trace.as_slice(), &[])? == Status::BadRecord(82));
+    assert!(rt; ends(alloc, 74, trace.as_slice(), &[])? == Status::Differs(0));
+    let mut short = Bytes::empty(alloc);
+    short.extend(&[0; 7])?;
+    let (status, _) = checked(alloc, short, CallList::empty(alloc))?;
+    assert!(rt; status == Status::Torn(0));
+    Ok(())
+}
+
+/// A pull that fails, at the length and behind it.
+#[test]
+fn failed_pulls_end_a_check(rt: HostRuntime) -> Result<(), Fail> {
+    let alloc = rt.alloc();
+    for pull in [1, 2] {
+        let trace = bytes_of(alloc, ROWS[3].trace)?;
+        let input = input_of(alloc, trace.len() as u64, trace.as_slice(), &[])?;
+        let (status, output) = checked(alloc, input, only(alloc, pull)?)?;
+        assert!(rt; status == Status::ReadFault && output.as_slice().is_empty());
+    }
+    Ok(())
+}
+
+/// A generated trace of 20 rounds, and the replies to it.
+#[test]
+fn generated_replies_are_right(rt: HostRuntime) -> Result<(), Fail> {
+    let alloc = rt.alloc();
+    let trace = generate(alloc, 20)?;
+    let replies = bytes_of(alloc, &generated::REPLIES)?;
+    assert!(rt;
+        ends(
+            alloc,
+            trace.len() as u64,
+            trace.as_slice(),
+            replies.as_slice()
+        )? == Status::Done
+    );
+    Ok(())
+}
