@@ -297,3 +297,25 @@ impl<V: Gated> Gate<V> {
         value
     }
 }
+
+impl<V: Gated + Drop> Gate<V> {
+    /// The value at the end, as `close` gives it, by a first seat that holds the turn and gives it up. It takes no memory.
+    pub fn close_held(self, seat: GateSeat<V>, turn: Turn<V>) -> V
+        requires gate { seat.gate ≡ self }
+        requires first { seat.first ≡ true }
+        requires holds { seat.holds ≡ true }
+        requires out { seat.out ≡ 0 }
+        ensures value { result ≡ turn }
+        ensures opening { seat.opening ≤ length seat.seen }
+        ensures once { EachOnce seat.opening seat.seen seat.own seat.joined }
+        ensures sound { IsSound seat }
+    {
+        let Gate { table, sleepers: _ } = self;
+        let GateSeat { seat } = seat;
+        let mut closed = table.close_with(seat);
+        let _ = closed.take(0);
+        closed.free();
+        let Turn { value } = turn;
+        value
+    }
+}
