@@ -1,5 +1,0 @@
-pub mod Merged
-pub mod Own
-pub mod Passes
-pub mod PassRules
-pub mod inner

@@ -1,6 +1,0 @@
-pub mod Worlds
-pub mod Roots
-pub mod Opening
-pub mod Holding
-pub mod Closing
-pub mod inner

@@ -1,5 +1,0 @@
-pub mod Gates
-pub mod Seats
-pub mod Keeping
-pub mod Building
-pub mod Closing

@@ -1,5 +1,0 @@
-pub mod Asking
-pub mod Recorded
-pub mod UnitActs
-pub mod SeatActs
-pub mod inner
