@@ -3,5 +3,3 @@
 
 #[cfg(test)]
 mod histories;
-#[cfg(test)]
-mod random_acts;

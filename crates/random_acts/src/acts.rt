@@ -1,39 +1,15 @@
-// Random acts on units of 40 blocks, and on one of 1100.
+// Random acts on units of 40 blocks, and on one of 1100, all of 512 bytes.
 ghost use Rattle.std.specs.Prelude.{◌≡◌, ◌<◌, length, IfOk};
-ghost use Rattle.unit_core.proofs.Asked.{IsOfNexus};
+ghost use Rattle.random_acts.specs.Asked.{IsOfNexus};
 
-use cm_base::{Config, Payload};
+use crate::numbers::Numbers;
+use cm_base::{Config, OutOfMemory, Payload};
 use cm_history::{Act, CopyEnd, CopyState, TokenText};
 use lba_ranges::{BlockList, Fill, Piece, Range, RangeList};
 use std::alloc::Global;
-use std::test::Fail;
-
-/// A linear congruential generator, with the numbers of Knuth's MMIX.
-#[derive(Drop)]
-pub(crate) struct Numbers {
-    state: u64,
-}
-
-impl Numbers {
-    pub(crate) fn new(seed: u64) -> Numbers {
-        Numbers { state: seed }
-    }
-
-    /// The next number below a limit. The low bits repeat soon, and are not used.
-    pub(crate) fn below(&mut self, limit: u32) -> u32
-        requires { 0 < limit }
-        ensures { result < limit }
-    {
-        self.state = self
-            .state
-            .wrapping_mul(6_364_136_223_846_793_005)
-            .wrapping_add(1_442_695_040_888_963_407);
-        (self.state >> 32) as u32 % limit
-    }
-}
 
 /// Two rows of one block each, which may be the same.
-fn ranges(alloc: Global, numbers: &mut Numbers) -> Result<RangeList, Fail> {
+fn ranges(alloc: Global, numbers: &mut Numbers) -> Result<RangeList, OutOfMemory> {
     let mut ranges = RangeList::empty(alloc);
     ranges.push(Range {
         lba: u64::from(numbers.below(41)),
@@ -47,7 +23,7 @@ fn ranges(alloc: Global, numbers: &mut Numbers) -> Result<RangeList, Fail> {
 }
 
 /// Two mapped blocks.
-fn mapped_blocks(alloc: Global, numbers: &mut Numbers) -> Result<BlockList, Fail>
+fn mapped_blocks(alloc: Global, numbers: &mut Numbers) -> Result<BlockList, OutOfMemory>
     ensures { IfOk result (λ list. length list.items ≡ 2) }
 {
     let byte = numbers.below(200) as u8 + 1;
@@ -56,7 +32,7 @@ fn mapped_blocks(alloc: Global, numbers: &mut Numbers) -> Result<BlockList, Fail
 }
 
 /// Two blocks, both mapped or both unmapped.
-fn blocks(alloc: Global, numbers: &mut Numbers) -> Result<BlockList, Fail> {
+fn blocks(alloc: Global, numbers: &mut Numbers) -> Result<BlockList, OutOfMemory> {
     if numbers.below(3) > 0 {
         return mapped_blocks(alloc, numbers);
     }
@@ -69,7 +45,7 @@ fn blocks(alloc: Global, numbers: &mut Numbers) -> Result<BlockList, Fail> {
 }
 
 /// An act on blocks.
-fn act_on_blocks(alloc: Global, numbers: &mut Numbers) -> Result<Act, Fail>
+fn act_on_blocks(alloc: Global, numbers: &mut Numbers) -> Result<Act, OutOfMemory>
     ensures { IfOk result IsOfNexus }
 {
     let lba = u64::from(numbers.below(42));
@@ -108,7 +84,7 @@ fn act_on_tokens(
     config: &Config,
     unit: u16,
     numbers: &mut Numbers,
-) -> Result<Act, Fail>
+) -> Result<Act, OutOfMemory>
     requires { unit < length config.now.units }
     ensures { IfOk result IsOfNexus }
 {
@@ -129,7 +105,7 @@ fn act_on_tokens(
 }
 
 /// An act on operations.
-fn act_on_operations(alloc: Global, numbers: &mut Numbers) -> Result<Act, Fail>
+fn act_on_operations(alloc: Global, numbers: &mut Numbers) -> Result<Act, OutOfMemory>
     ensures { IfOk result IsOfNexus }
 {
     let id = numbers.below(3);
@@ -148,7 +124,7 @@ fn act_on_operations(alloc: Global, numbers: &mut Numbers) -> Result<Act, Fail>
 }
 
 /// A token write of 1024 to 1027 blocks, whose last piece may be a few blocks or none: two mapped blocks, and unmapped ones.
-fn long_start(alloc: Global, numbers: &mut Numbers) -> Result<Act, Fail>
+fn long_start(alloc: Global, numbers: &mut Numbers) -> Result<Act, OutOfMemory>
     ensures { IfOk result IsOfNexus }
 {
     let count = 1022 + numbers.below(4);
@@ -172,7 +148,7 @@ fn long_start(alloc: Global, numbers: &mut Numbers) -> Result<Act, Fail>
 }
 
 /// An act on operations of several pieces, or a look at what they wrote.
-fn act_on_long_operations(alloc: Global, numbers: &mut Numbers) -> Result<Act, Fail>
+fn act_on_long_operations(alloc: Global, numbers: &mut Numbers) -> Result<Act, OutOfMemory>
     ensures { IfOk result IsOfNexus }
 {
     let id = numbers.below(2);
@@ -209,7 +185,7 @@ fn act_on_copies(numbers: &mut Numbers) -> Act
 
 /// What a random history is made of.
 #[derive(Drop, Clone, Copy)]
-pub(crate) enum Style {
+pub enum Style {
     /// Acts of all kinds, on a few blocks.
     Mixed,
     /// Token writes of several pieces.
@@ -217,13 +193,13 @@ pub(crate) enum Style {
 }
 
 /// An act of a nexus.
-pub(crate) fn random_act(
+pub fn random_act(
     alloc: Global,
     config: &Config,
     unit: u16,
     style: Style,
     numbers: &mut Numbers,
-) -> Result<Act, Fail>
+) -> Result<Act, OutOfMemory>
     requires { unit < length config.now.units }
     ensures { IfOk result IsOfNexus }
 {

@@ -1,4 +1,4 @@
--- Who may ask.
+-- Who may ask
 use Rattle.std.specs.Prelude.{◌≡◌, ℕ, true}
 use Rattle.cm_history.specs.declared.act.Act.{Act}
 use Rattle.cm_history.specs.declared.act.Actor.{Actor}

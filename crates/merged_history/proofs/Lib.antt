@@ -1,0 +1,12 @@
+pub mod Members
+pub mod Sorted
+pub mod OfActor
+pub mod Whole
+pub mod Heads
+pub mod Steps
+pub mod Taking
+pub mod Passing
+pub mod Joining
+pub mod Given
+pub mod Resumed
+pub mod PublicLaws

@@ -1,0 +1,5 @@
+pub mod Merged
+pub mod Own
+pub mod Passes
+pub mod PassRules
+pub mod inner

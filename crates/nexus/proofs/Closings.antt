@@ -1,0 +1,196 @@
+-- The world is closed
+use Rattle.std.proofs.Common.{◌<◌, ◌≡◌, ℕ, zero, suc, ◌+◌, List, [], ◌∷◌, ◌++◌, length, map, drop, refl, ap, sym, ◌∙◌, subst, arith, true, false, Some}
+use Rattle.std.specs.Prelude.{IfSome}
+use Rattle.std.proofs.lemmas.List.{length-map}
+use Rattle.cm_base.specs.Configuration.{Configuration}
+use Rattle.cm_history.specs.declared.act.Entry.{Entry}
+use Rattle.cm_history.specs.Record.{Record}
+use Rattle.cm_history.proofs.PublicLaws.{Each, In}
+use Rattle.merged_history.specs.Merged.{merged}
+use Rattle.merged_history.specs.Passes.{of_unit, AreFrom}
+use Rattle.merged_history.specs.PassRules.{AreLonger, IsRoot}
+use Rattle.merged_history.proofs.PublicLaws.{of-from, root-closes, root-sees}
+use Rattle.pass_register.specs.Passes.{RootState}
+use Rattle.unit_gate.specs.declared.kin.RecorderFacts.{RecorderFacts}
+use Rattle.unit_gate.specs.declared.kin.UnitKin.{UnitKin}
+use Rattle.unit_gate.specs.declared.recorded_unit.ClosedUnit.{ClosedUnit}
+use Rattle.unit_gate.specs.Recorded.{RecordedState, kin_of, marks_of}
+use Rattle.unit_gate.specs.SeatActs.{UnitSeat}
+use Rattle.nexus.specs.Worlds.{UnitGate}
+use Rattle.nexus.specs.inner.Gates.{IsGateOf, config_of}
+use Rattle.nexus.specs.Roots.{AreAtMost}
+use Rattle.nexus.specs.Closing.{HasNoRecorder, IsLeftOf, AreLeftOf, kept_of, marks_left, WasClosed, WasHandedBack}
+use Rattle.nexus.specs.inner.Keeping.{AreGates, KeepsRoot, gates_of, seens, kepts, entries_joined, root_view}
+use Rattle.nexus.specs.inner.Closing.{IsAlone, AreAlone, IsReady, AreReady, AreEntered, AreHeld, AreClosed, given_back}
+use Rattle.nexus.proofs.Entering.{map-entered, each-entered, entered-gates, entered-held, entered-long, entered-longer, entered-above, entered-from, kept_in}
+use Rattle.merged_history.proofs.PublicLaws.{AreHistories}
+
+-- ---- the root's seats, with no pass out
+
+pub are-alone : (seats : List UnitSeat) → Each (λ (s : UnitSeat). s.holds ≡ false) seats → Each (λ (s : UnitSeat). s.out ≡ 0) seats → Each (λ (s : UnitSeat). s.first ≡ true) seats → AreAlone seats
+are-alone [] a b c = tt
+are-alone (s ∷ ss) a b c = (record { first = c.0; out = b.0; free = a.0 }, are-alone ss a.1 b.1 c.1)
+
+are-ready : (seats : List UnitSeat) → Each (λ (s : UnitSeat). s.first ≡ true) seats → Each (λ (s : UnitSeat). s.out ≡ 0) seats → Each (λ (s : UnitSeat). s.own ≡ []) seats → Each (λ (s : UnitSeat). s.opening ≡ 0) seats → AreReady seats
+are-ready [] a b c d = tt
+are-ready (s ∷ ss) a b c d = (record { first = a.0; out = b.0; nothing = c.0; opening = d.0 }, are-ready ss a.1 b.1 c.1 d.1)
+
+map-back : {Y : Type 0} (f : UnitSeat → Y) → ((s : UnitSeat) → f (given_back s) ≡ f s) → (seats : List UnitSeat) → map f (map given_back seats) ≡ map f seats
+map-back f keep [] = refl
+map-back f keep (s ∷ ss) = ap (λ v. v ∷ map f (map given_back ss)) (keep s) ∙ ap (λ l. f s ∷ l) (map-back f keep ss)
+
+each-back : (P Q : UnitSeat → Type 0) → ((s : UnitSeat) → P s → Q (given_back s)) → (seats : List UnitSeat) → Each P seats → Each Q (map given_back seats)
+each-back P Q keep [] all = tt
+each-back P Q keep (s ∷ ss) all = (keep s all.0, each-back P Q keep ss all.1)
+
+-- ---- all have entered
+
+module _ (made : ℕ) (seqs : List ℕ) (root : RootState) (old now : List UnitSeat) (units : List RecordedState) (keeps : KeepsRoot (config_of (gates_of old)) made seqs root old) (entered : AreEntered old now units (length old)) where
+  abbrev config : Configuration
+  config = config_of (gates_of old)
+
+  abbrev back : List UnitSeat
+  back = map given_back now
+
+  gates-now : gates_of now ≡ gates_of old
+  gates-now = entered-gates old now units entered
+
+  kepts-now : kepts now ≡ kepts old
+  kepts-now = map-entered (λ (s : UnitSeat). entries_joined s.joined) (λ b a u has. ap (λ (s : UnitSeat). entries_joined s.joined) has.taken.seat) old now units entered
+
+  long : length now ≡ length old
+  long = (entered-long old now units (length old) entered).0
+
+  from : AreFrom 0 (seens now) × AreFrom 0 (kept_in units)
+  from = entered-from config 0 old now units (λ i g at. let e : 0 + i ≡ i = omega arith in subst (λ n. IsGateOf config n g) (sym e) (keeps.gates_are i g at)) entered
+
+  pub kept-from : AreFrom 0 (kept_in units)
+  kept-from = from.1
+
+  pub held : AreHeld now units
+  held = entered-held old now units entered
+
+  pub gates-held : gates_of now ≡ gates_of old
+  gates-held = gates-now
+
+  pub count : length units ≡ length old
+  count = (entered-long old now units (length old) entered).1
+
+  root-looks : IsRoot config made (seens now) (kepts now) root.out root.joined
+  root-looks = rw kepts-now (root-sees config made (seens old) (seens now) (kepts old) root.out root.joined keeps.is (entered-longer old now units entered))
+
+  -- ---- want of memory: all turns are given back
+
+  gates-back : gates_of back ≡ gates_of old
+  gates-back = map-back (λ (s : UnitSeat). s.gate) (λ s. refl) now ∙ gates-now
+
+  seens-back : seens back ≡ seens now
+  seens-back = map-back (λ (s : UnitSeat). s.seen) (λ s. refl) now
+
+  kepts-back : kepts back ≡ kepts now
+  kepts-back = map-back (λ (s : UnitSeat). entries_joined s.joined) (λ s. refl) now
+
+  long-back : length back ≡ length old
+  long-back = length-map now given_back ∙ long
+
+  keeps-back-old : KeepsRoot config made seqs root back
+  keeps-back-old = record {
+    is = rw (seens-back, kepts-back) root-looks;
+    gates_are = rw gates-back keeps.gates_are;
+    units = long-back ∙ keeps.units;
+    free = each-back (λ (s : UnitSeat). s.first ≡ true) (λ (s : UnitSeat). s.holds ≡ false) (λ s is. refl) now
+        (each-entered (λ (s : UnitSeat). s.first ≡ true) (λ (s : UnitSeat). s.first ≡ true) (λ b a u has is. ap (λ (s : UnitSeat). s.first) has.taken.seat ∙ is) old now units entered keeps.firsts);
+    firsts = each-back (λ (s : UnitSeat). s.first ≡ true) (λ (s : UnitSeat). s.first ≡ true) (λ s is. is) now
+        (each-entered (λ (s : UnitSeat). s.first ≡ true) (λ (s : UnitSeat). s.first ≡ true) (λ b a u has is. ap (λ (s : UnitSeat). s.first) has.taken.seat ∙ is) old now units entered keeps.firsts);
+    outs = each-back (λ (s : UnitSeat). s.out ≡ length root.out) (λ (s : UnitSeat). s.out ≡ length root.out) (λ s is. is) now
+        (each-entered (λ (s : UnitSeat). s.out ≡ length root.out) (λ (s : UnitSeat). s.out ≡ length root.out) (λ b a u has is. ap (λ (s : UnitSeat). s.out) has.taken.seat ∙ is) old now units entered keeps.outs);
+    nothing = each-back (λ (s : UnitSeat). s.own ≡ []) (λ (s : UnitSeat). s.own ≡ []) (λ s is. is) now
+        (each-entered (λ (s : UnitSeat). s.own ≡ []) (λ (s : UnitSeat). s.own ≡ []) (λ b a u has is. ap (λ (s : UnitSeat). s.own) has.taken.seat ∙ is) old now units entered keeps.nothing);
+    openings = each-back (λ (s : UnitSeat). s.opening ≡ 0) (λ (s : UnitSeat). s.opening ≡ 0) (λ s is. is) now
+        (each-entered (λ (s : UnitSeat). s.opening ≡ 0) (λ (s : UnitSeat). s.opening ≡ 0) (λ b a u has is. ap (λ (s : UnitSeat). s.opening) has.taken.seat ∙ is) old now units entered keeps.openings);
+    seqs_are = rw long-back keeps.seqs_are;
+  }
+
+  pub keeps-back : KeepsRoot (config_of (gates_of back)) made seqs root back
+  keeps-back = subst (λ g. KeepsRoot (config_of g) made seqs root back) (sym gates-back) keeps-back-old
+
+  pub handed-back : WasHandedBack (root_view config made root old) (root_view (config_of (gates_of back)) made root back)
+  handed-back = record {
+    longer = rw seens-back (entered-longer old now units entered);
+    marks = rw (map-back (λ (s : UnitSeat). s.marks) (λ s. refl) now) (entered-above old now units entered);
+    root = rw gates-back refl;
+  }
+
+  -- ---- all gates are closed
+
+  pub ready : root.out ≡ [] → AreReady now
+  ready none = are-ready now
+      (each-entered (λ (s : UnitSeat). s.first ≡ true) (λ (s : UnitSeat). s.first ≡ true) (λ b a u has is. ap (λ (s : UnitSeat). s.first) has.taken.seat ∙ is) old now units entered keeps.firsts)
+      (each-entered (λ (s : UnitSeat). s.out ≡ length root.out) (λ (s : UnitSeat). s.out ≡ 0) (λ b a u has is. ap (λ (s : UnitSeat). s.out) has.taken.seat ∙ is ∙ ap length none) old now units entered keeps.outs)
+      (each-entered (λ (s : UnitSeat). s.own ≡ []) (λ (s : UnitSeat). s.own ≡ []) (λ b a u has is. ap (λ (s : UnitSeat). s.own) has.taken.seat ∙ is) old now units entered keeps.nothing)
+      (each-entered (λ (s : UnitSeat). s.opening ≡ 0) (λ (s : UnitSeat). s.opening ≡ 0) (λ b a u has is. ap (λ (s : UnitSeat). s.opening) has.taken.seat ∙ is) old now units entered keeps.openings)
+
+  histories : AreHistories config (seens now)
+  histories = record {
+    units = length-map now (λ (s : UnitSeat). s.seen) ∙ long ∙ keeps.units;
+    own = λ unit. let e : 0 + unit ≡ unit = omega arith in subst (λ u. Each (λ (x : Entry). x.unit ≡ u) (of_unit (seens now) unit)) e (of-from 0 (seens now) unit from.0).0;
+    rising = λ unit. (of-from 0 (seens now) unit from.0).1;
+  }
+
+  module _ {R : Type 0} (facts : R → RecorderFacts) (fits : R → Entry → Type 0) where
+    closed-made : (seats : List UnitSeat) (us : List RecordedState) (left : List (ClosedUnit R)) → AreClosed facts fits seats us left → (unit : ℕ) → Each (λ (e : Entry). In e (of_unit (kepts seats) unit)) (of_unit (seens seats) unit)
+    closed-made [] us left all unit = tt
+    closed-made (s ∷ ss) [] left all unit = absurd all
+    closed-made (s ∷ ss) (u ∷ us) [] all unit = absurd all
+    closed-made (s ∷ ss) (u ∷ us) (l ∷ ls) all zero = all.0.made
+    closed-made (s ∷ ss) (u ∷ us) (l ∷ ls) all (suc unit) = closed-made ss us ls all.1 unit
+
+    closed-kept : (seats : List UnitSeat) (us : List RecordedState) (left : List (ClosedUnit R)) → AreClosed facts fits seats us left → kept_of facts fits left ≡ kept_in us
+    closed-kept [] [] [] all = refl
+    closed-kept [] [] (l ∷ ls) all = absurd all
+    closed-kept [] (u ∷ us) left all = absurd all
+    closed-kept (s ∷ ss) [] left all = absurd all
+    closed-kept (s ∷ ss) (u ∷ us) [] all = absurd all
+    closed-kept (s ∷ ss) (u ∷ us) (l ∷ ls) all = ap (λ x. x ∷ kept_of facts fits ls) all.0.kept_is ∙ ap (λ x. u.unit.kept ∷ x) (closed-kept ss us ls all.1)
+
+    closed-marks : (seats : List UnitSeat) (us : List RecordedState) (left : List (ClosedUnit R)) → AreHeld seats us → AreClosed facts fits seats us left → marks_left facts fits left ≡ map (λ (s : UnitSeat). s.marks) seats
+    closed-marks [] [] [] held all = refl
+    closed-marks [] [] (l ∷ ls) held all = absurd all
+    closed-marks [] (u ∷ us) left held all = absurd all
+    closed-marks (s ∷ ss) [] left held all = absurd all
+    closed-marks (s ∷ ss) (u ∷ us) [] held all = absurd all
+    closed-marks (s ∷ ss) (u ∷ us) (l ∷ ls) held all =
+        ap (λ x. x ∷ marks_left facts fits ls) (all.0.marks_are ∙ sym held.0.marks) ∙ ap (λ x. s.marks ∷ x) (closed-marks ss us ls held.1 all.1)
+
+    closed-left : (seats : List UnitSeat) (us : List RecordedState) (left : List (ClosedUnit R)) → AreHeld seats us → AreClosed facts fits seats us left → AreLeftOf facts fits (gates_of seats) (seens seats) left
+    closed-left [] [] [] held all = tt
+    closed-left [] [] (l ∷ ls) held all = absurd all
+    closed-left [] (u ∷ us) left held all = absurd all
+    closed-left (s ∷ ss) [] left held all = absurd all
+    closed-left (s ∷ ss) (u ∷ us) [] held all = absurd all
+    closed-left (s ∷ ss) (u ∷ us) (l ∷ ls) held all =
+        (subst (λ k. IfSome k (λ kin. IsLeftOf facts fits kin s.seen l)) (sym held.0.kin_is) all.0.left_of, closed-left ss us ls held.1 all.1)
+
+    -- what is kept where no unit has a recorder
+    kept-whole : (seats : List UnitSeat) (us : List RecordedState) (left : List (ClosedUnit R)) → AreHeld seats us → AreClosed facts fits seats us left → Each HasNoRecorder (gates_of seats) → kept_of facts fits left ≡ seens seats
+    kept-whole [] [] [] held all none = refl
+    kept-whole [] [] (l ∷ ls) held all none = absurd all
+    kept-whole [] (u ∷ us) left held all none = absurd all
+    kept-whole (s ∷ ss) [] left held all none = absurd all
+    kept-whole (s ∷ ss) (u ∷ us) [] held all none = absurd all
+    kept-whole (s ∷ ss) (u ∷ us) (l ∷ ls) held all none =
+        let same : kin_of u ≡ none.0.kin = (let x = held.0.kin_is in let y = none.0.has in let z : Some (kin_of u) ≡ Some none.0.kin = sym x ∙ y in cc) in
+        let zero : l.folded ≡ 0 = all.0.left_of.unfolded (ap (λ (k : UnitKin). k.opening.absent) same ∙ none.0.absent) in
+        ap (λ x. x ∷ kept_of facts fits ls) (all.0.left_of.kept ∙ ap (λ n. drop n s.seen) zero) ∙ ap (λ x. s.seen ∷ x) (kept-whole ss us ls held.1 all.1 none.1)
+
+    pub was-closed : (left : List (ClosedUnit R)) (merged_kept : Record) → root.out ≡ [] → AreClosed facts fits now units left → merged_kept.entries ≡ merged (kept_in units)
+        → WasClosed facts fits (root_view config made root old) left merged_kept
+    was-closed left merged_kept none closed is = record {
+      histories = seens now;
+      longer = entered-longer old now units entered;
+      whole = root-closes config made (seens now) (kepts now) root.joined (subst (λ l. IsRoot config made (seens now) (kepts now) l root.joined) none root-looks) histories (closed-made now units left closed);
+      left = subst (λ g. AreLeftOf facts fits g (seens now) left) gates-now (closed-left now units left held closed);
+      marks = rw (closed-marks now units left held closed) (entered-above old now units entered);
+      merged_is = is ∙ sym (ap merged (closed-kept now units left closed));
+      merged_whole = λ nothing. is ∙ sym (ap merged (closed-kept now units left closed)) ∙ ap merged (kept-whole now units left held closed (subst (Each HasNoRecorder) (sym gates-now) nothing));
+    }

@@ -1,0 +1,17 @@
+pub mod Places
+pub mod Members
+pub mod Splitting
+pub mod Taking
+pub mod Making
+pub mod Joined
+pub mod Last
+pub mod Turning
+pub mod Acted
+pub mod NotDone
+pub mod Staying
+pub mod Keeping
+pub mod Opening
+pub mod Made
+pub mod Entering
+pub mod Leaving
+pub mod Closings

@@ -1,0 +1,6 @@
+pub mod Worlds
+pub mod Roots
+pub mod Opening
+pub mod Holding
+pub mod Closing
+pub mod inner

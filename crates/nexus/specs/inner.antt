@@ -1,0 +1,5 @@
+pub mod Gates
+pub mod Seats
+pub mod Keeping
+pub mod Building
+pub mod Closing

@@ -1,0 +1,30 @@
+use pass_register::RootSeat;
+use recorder::Recorder;
+use std::marker::Model;
+use turn_gate::GateSeat;
+use unit_gate::RecordedUnit;
+
+/// What makes the passes of a world and joins them. Contracts see the passes that are out, those that were joined
+/// with what they made, and for each unit what is seen of its history.
+#[derive(Drop)]
+pub struct Root<R: Recorder + Drop> {
+    pub(crate) slip: RootSeat,
+    /// How many passes of nexuses were made.
+    pub(crate) made: u32,
+    /// How many entries the joined passes of each unit's pump have made.
+    pub(crate) seqs: Vec<u64>,
+    /// The first seat at the gate of each unit.
+    pub(crate) seats: Vec<GateSeat<RecordedUnit<R>>>,
+}
+
+impl<R: Recorder + Drop> Model for Root<R> {
+    ghost use Rattle.nexus.specs.inner.Gates.{config_of};
+    ghost use Rattle.nexus.specs.Roots.{RootView};
+    ghost use Rattle.nexus.specs.inner.Keeping.{gates_of, root_view, KeepsRoot};
+
+    ghost Value = { RootView };
+
+    ghost view = { λ r. root_view (config_of (gates_of r.seats.items)) r.made r.slip r.seats.items };
+
+    ghost invariant = { λ r. KeepsRoot (config_of (gates_of r.seats.items)) r.made r.seqs.items r.slip r.seats.items };
+}

@@ -1,0 +1,5 @@
+pub mod Asking
+pub mod Recorded
+pub mod UnitActs
+pub mod SeatActs
+pub mod inner
