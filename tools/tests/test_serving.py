@@ -29,8 +29,8 @@ GOOD = frames.good(b"")
 DATA = frames.good(WRITE.out + bytes(512))
 
 
-class Serving:
-    """The same of each program."""
+class Links:
+    """Connections to a program that serves."""
 
     WORDS = None
 
@@ -66,6 +66,10 @@ class Serving:
             _, sensed, length = struct.unpack(">BBI", front)
             replies += front + self.got(link, sensed + length)
         return replies
+
+
+class Serving(Links):
+    """The same of each program."""
 
     def reported(self, server, unit, **wanted):
         """The report has these numbers, and of the sole unit these."""
@@ -171,6 +175,27 @@ class Plain(Serving, unittest.TestCase):
 
 class Program(Serving, unittest.TestCase):
     WORDS = PROGRAM
+
+
+class Floor(Links, unittest.TestCase):
+    """What bench/run-serving measures beside."""
+
+    WORDS = [str(support.TOP / "bench/floor.py")]
+
+    def test_blocks(self):
+        server = self.start(2)
+        first, second = self.link(server), self.link(server)
+        past = frames.Request(0, cdbs.encode(0x28, lba=99, count=2), b"")
+        replies = self.asked(first, WRITE, READ, past, WRITE._replace(out=b""), ZERO_WRITE, READ._replace(unit=1))
+        refusals = [(5, 0x21, 0), (5, 0x24, 0), (5, 0x20, 0), (5, 0x25, 0)]
+        self.assertEqual(replies, GOOD + DATA + b"".join(map(frames.check, refusals)))
+        capacity = frames.Request(0, cdbs.encode(0x25), b"")
+        replies = self.asked(second, READ, capacity)
+        self.assertEqual(replies, DATA + frames.good(struct.pack(">II", 99, 512)))
+        first.close()
+        second.close()
+        report = server.report(SECONDS)
+        self.assertEqual((report.sessions, report.commands), (2, 8))
 
 
 class Addresses(unittest.TestCase):
