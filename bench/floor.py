@@ -7,10 +7,10 @@ example:
   $ bench/floor.py 127.0.0.1:0 1 < HEADER
 
 It takes the words and the configuration of `copymgr serve`, and nothing of it is verified. A unit is memory that all
-connections share, with a lock; each connection is served by a process of its own, so that they use as many processors as
-there are. It answers READ and WRITE, (10) and (16), TEST UNIT READY, INQUIRY, READ CAPACITY, (10) and (16), and REPORT
-LUNS, and refuses all else. It knows neither mapped blocks nor quotas, and keeps no record of what it did, so it reports
-how many commands there were and no more.
+connections share, with a lock; each connection is served by a process of its own, so that they use as many processors
+as there are. It answers READ and WRITE, (10) and (16), TEST UNIT READY, INQUIRY, READ CAPACITY, (10) and (16), and
+REPORT LUNS, and refuses all else. It knows neither mapped blocks nor quotas, and keeps no record of what it did, so it
+reports how many commands there were and no more.
 """
 
 import mmap

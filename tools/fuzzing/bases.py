@@ -86,7 +86,8 @@ class Base:
         """As many descriptors of both kinds as there may be."""
         cscds = [lists.cscd_bytes(rod_token.unit_name(unit % 2), 512) for unit in range(16)]
         segments = [lists.segment_bytes(*self.rng.sample(range(16), 2), 1, at % 50, 7) for at in range(64)]
-        return self.with_list(0, 0x83, 0x00, lists.copy_bytes(self.list_id(), cscds, segments, self.rng.choice([0, 2, 3])))
+        out = lists.copy_bytes(self.list_id(), cscds, segments, self.rng.choice([0, 2, 3]))
+        return self.with_list(0, 0x83, 0x00, out)
 
     def populate(self):
         unit = self.unit()
@@ -113,8 +114,8 @@ class Base:
         cscds = [lists.cscd_bytes(rod_token.unit_name(unit), SHAPES[unit].block_length) for unit in units]
         segments = []
         for _ in range(self.rng.choice([1, 1, 2, 3])):
-            source, destination = self.rng.randrange(2), self.rng.randrange(2)
-            segments.append(lists.segment_bytes(source, destination, self.rng.randint(0, 4), self.rng.randint(0, 9), self.rng.randint(0, 9)))
+            most = (1, 1, 4, 9, 9)
+            segments.append(lists.segment_bytes(*(self.rng.randint(0, number) for number in most)))
         out = lists.copy_bytes(self.list_id(), cscds, segments, self.rng.choice([0, 2, 3]))
         return self.with_list(self.unit(), 0x83, 0x00, out)
 

@@ -1,4 +1,5 @@
-"""The changes of a request, of a header, and of the last items of a trace. Each is a pair: what it is, and what comes."""
+"""The changes of a request, of a header, and of the last items of a trace. Each is a pair: what it is, and what
+comes."""
 
 import struct
 
@@ -11,7 +12,8 @@ from . import fields
 # of the data of a WRITE, whose bytes are no fields
 WRITE_ENDS = [0, 1, 2, 22, 511, 512, 513, 1023, 1024, 4095, 4096, 4097]
 LONGER = [1, 2, 4, 7, 8, 15, 16, 17, 28, 32, 33, 64, 512, 600]
-CODES = [(code, None) for code in range(256)] + [(code, action) for code in sorted(cdbs.WITH_ACTION) for action in range(32)]
+CODES = [(code, None) for code in range(256)]
+CODES += [(code, action) for code in sorted(cdbs.WITH_ACTION) for action in range(32)]
 
 
 def form_of(request):
@@ -116,8 +118,8 @@ def of_header(data):
 
 
 def of_items(items):
-    """Some items, in bytes, of which one is cut, left out, twice there, or has one field changed, also the length of its
-    data while the data stays."""
+    """Some items, in bytes, of which one is cut, left out, twice there, or has one field changed, also the length of
+    its data while the data stays."""
     for number, (item, data) in enumerate(items):
         before, behind = (b"".join(other for _, other in part) for part in (items[:number], items[number + 1 :]))
         for end in range(min(len(data), 60)):

@@ -102,7 +102,8 @@ class Endings:
         self.round += 1
         one = Base(rng, base.player, base.command)
         items = []
-        for initiator, name in zip((1, 2), rng.sample(["unmap", "populate", "use zero", "read of 88h", "write of 8ah"], 2)):
+        names = rng.sample(["unmap", "populate", "use zero", "read of 88h", "write of 8ah"], 2)
+        for initiator, name in zip((1, 2), names):
             items += [Begin(initiator, 0, BASES[name](one)), frames.Run(initiator, 0)]
         items.insert(rng.randrange(len(items) + 1), Pump(0, 0))
         self.found = changes.of_items([(item, frames.item_bytes(item)) for item in items])

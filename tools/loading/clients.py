@@ -130,7 +130,7 @@ class Client:
         region, (at, count) = self.rng.choice(self.regions), self.some(REGION)
         data = self.known(region.unit, 0x88, lba=region.first + at, count=count)
         if data is not None and data != region.data(at, count):
-            raise Differs(f"blocks of unit {region.unit} from {region.first + at} on, {count}, are not as they were written")
+            raise Differs(f"{count} blocks of unit {region.unit} at {region.first + at} are not as they were written")
 
     def unmap(self):
         region = self.rng.choice(self.regions)

@@ -218,7 +218,7 @@ def part(results, words, is_program):
             results.tell(begun(others[-1]), f"{kind.COUNT} connections: {kind.__doc__}")
             served_on(results, probes, kind.__doc__)
         standing, told = beyond(server.address)
-        results.tell(not told, f"{BEYOND} connections more than it takes: {standing} came to stand, none was told anything")
+        results.tell(not told, f"{BEYOND} connections more than it takes: {standing} stood, none was told anything")
         served_on(results, probes, f"{BEYOND} connections more")
         for probe in probes:
             probe.end()

@@ -32,7 +32,8 @@ def need(tallies, units):
 
 
 class Watch:
-    """Looks at a process all the time, until it is ended, and keeps the most that it had and the most beyond its need."""
+    """Looks at a process all the time, until it is ended, and keeps the most that it had and the most beyond its
+    need."""
 
     SECONDS = 0.5
 

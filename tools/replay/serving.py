@@ -23,7 +23,8 @@ FIELDS_OF_HEADER, FIELDS_OF_UNIT = (0, 8, 40), (0, 8, 12, 16, 24, 28, 29, 32)
 
 
 def read_configuration(data):
-    """The machine of one header with nothing behind it; where it ends early, BadInput has the field that is not whole."""
+    """The machine of one header with nothing behind it; where it ends early, BadInput has the field that is not
+    whole."""
     try:
         machine, end = frames.read_header(data)
     except BadInput as bad:

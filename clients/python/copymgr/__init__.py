@@ -9,8 +9,8 @@
     b'copymgr!'
 
 A host executes commands: `Replay` starts a program that replays a trace and feeds it command by command, `Connection`
-speaks to one that serves, and `Server` starts such a one. A command that is refused raises `CheckCondition` with its sense. It wants Python alone; the
-formats are those of tools/replay beside it. The files, from the bottom up:
+speaks to one that serves, and `Server` starts such a one. A command that is refused raises `CheckCondition` with its
+sense. It wants Python alone; the formats are those of tools/replay beside it. The files, from the bottom up:
 
     wire.py      where the formats come from
     errors.py    what may go wrong

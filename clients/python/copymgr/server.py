@@ -57,7 +57,8 @@ class Server:
         """Waits for its end, at most so long, and gives what it reports."""
         output, said = self.program.communicate(timeout=seconds)
         if self.program.returncode:
-            raise Ended(f"the server ended with status {self.program.returncode}: {said.decode(errors='replace').strip()}")
+            why = said.decode(errors="replace").strip()
+            raise Ended(f"the server ended with status {self.program.returncode}: {why}")
         return report_of(output.decode())
 
     def close(self):
