@@ -251,6 +251,7 @@ def run(address, number, machine, row, options, until, how):
     """A client from its begin to its end. It gives what was wrong, if something was."""
     try:
         client = Client(address, number, machine, row, options.seed, options.pause)
+        row.connected()
         client.go_on(until)
         client.end(how)
     except (Differs, Ended, OSError) as error:

@@ -6,7 +6,7 @@ import struct
 
 from .bounds import BUSY, CHECK, FULL, bounds_of
 
-NAMES = ["sent", "replies", "check", "busy", "full", "largest", "written"]
+NAMES = ["connected", "sent", "replies", "check", "busy", "full", "largest", "written"]
 
 
 class Row:
@@ -16,6 +16,10 @@ class Row:
         self.tallies = tallies
         self.place = number * tallies.form.size
         self.numbers = dict(zip(tallies.names, tallies.form.unpack_from(tallies.memory, self.place)))
+
+    def connected(self):
+        self.numbers["connected"] = 1
+        self.publish()
 
     def publish(self):
         self.tallies.form.pack_into(self.tallies.memory, self.place, *self.numbers.values())
