@@ -224,8 +224,10 @@ def part(results, words, is_program):
             probe.end()
         for other in others:
             other.end()
-        judge(results, server.report(SECONDS), probes)
+        report = results.reported(server)
         watch.end()
+    if report:
+        judge(results, report, probes)
     print(f"the longest time to two replies: {max(probe.longest for probe in probes):.2f} s")
     memory.show(results, watch, is_program)
 
