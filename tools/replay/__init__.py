@@ -17,4 +17,5 @@ It shares nothing with the program: it keeps lists and walks over them. The file
     entries.py    the entries of units' records, and their texts
     sessions.py   random sessions, which are the commands of one connection
     compared.py   what a program wrote, beside the replies of a player
+    serving.py    connections that are served
 """

@@ -101,13 +101,19 @@ def played_items(data):
     machine, at = frames.read_header(data)
     player = Player(machine)
     yield player, at
+    for at in items_from(player, data, at):
+        yield player, at
+
+
+def items_from(player, data, at):
+    """Plays the items from a place on, and gives after each where it ends."""
     while at < len(data):
         item, end = frames.read_item(data, at)
         if not player.fits(item):
             raise BadInput(frames.BAD_RECORD, at)
         player.play(item)
         at = end
-        yield player, at
+        yield at
 
 
 def line_of(bad):

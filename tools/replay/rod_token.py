@@ -1,5 +1,6 @@
 """The text of a token: who made it, how many bytes it stands for, and a nonce of the ChaCha20 generator."""
 
+import functools
 import struct
 
 ROD_TYPE = 0x00800000
@@ -37,6 +38,7 @@ def chacha20_block(key, stream, counter):
     return [(a + b) & 0xFFFFFFFF for a, b in zip(words, start)]
 
 
+@functools.lru_cache(4096)
 def nonce(secret, unit, serial):
     """Eight words of the generator whose key is the secret and whose stream is the unit's number."""
     half = serial % 2 * 8

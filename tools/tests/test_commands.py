@@ -13,8 +13,10 @@ STDIN, _, _ = support.run("row", "trace", "write then read")
 STDOUT, _, _ = support.run("row", "replies", "write then read")
 TEXT = b"unit 0 blocks=100\ni1 lun=0 write-16 lba=0 data=11*512,22*512 go\ni1 lun=0 read-16 lba=0 count=3 go\n"
 TOOLS = [
-    "tools/trace", "tools/plain-replay", "tools/row", "tools/random-traces", "tools/run-tests", "tools/fail-allocations",
-    "tools/check-repository", "tools/random-sessions", "bench/run", "bench/run-sessions", "bench/generate.py",
+    "tools/trace", "tools/plain-replay", "tools/row", "tools/random-traces", "tools/run-tests",
+    "tools/fail-allocations", "tools/check-repository", "tools/random-sessions", "tools/plain-serve",
+    "tools/serving-load", "tools/fuzz", "tools/iscsi-clients", "clients/iscsi/iscsi-target", "bench/run",
+    "bench/run-sessions", "bench/generate.py", "bench/run-serving", "bench/floor.py",
 ]
 
 

@@ -13,7 +13,10 @@ from replay import cdbs
 from tracetext import requests, traces
 
 DOCUMENTS = ["docs/first-trace.md", "clients/python/README.md"]
-HELPS = ["tools/trace", "tools/plain-replay", "tools/row", "tools/headline", "clients/python/cmgr"]
+HELPS = [
+    "tools/trace", "tools/plain-replay", "tools/plain-serve", "tools/row", "tools/headline", "clients/python/cmgr",
+    "clients/iscsi/iscsi-target",
+]
 
 
 def typed(lines):

@@ -9,12 +9,13 @@
     b'copymgr!'
 
 A host executes commands: `Replay` starts a program that replays a trace and feeds it command by command, `Connection`
-speaks to one that serves. A command that is refused raises `CheckCondition` with its sense. It wants Python alone; the
-formats are those of tools/replay beside it. The files, from the bottom up:
+speaks to one that serves, and `Server` starts such a one. A command that is refused raises `CheckCondition` with its
+sense. It wants Python alone; the formats are those of tools/replay beside it. The files, from the bottom up:
 
     wire.py      where the formats come from
     errors.py    what may go wrong
     hosts.py     the program that replays, and the connection
+    server.py    the program that serves
     status.py    what is told of a disk and of an operation
     disk.py      a disk
     command.py   the command cmgr
@@ -23,10 +24,11 @@ formats are those of tools/replay beside it. The files, from the bottom up:
 from .disk import Disk
 from .errors import Busy, CheckCondition, CommandError, Ended, OperationEnded, TaskSetFull
 from .hosts import Connection, Replay, Shape
+from .server import Report, Server
 from .status import CopyStatus, Inquiry, Operation
 from .wire import Capacity, Run, State
 
 __all__ = [
     "Busy", "Capacity", "CheckCondition", "CommandError", "Connection", "CopyStatus", "Disk", "Ended", "Inquiry",
-    "Operation", "OperationEnded", "Replay", "Run", "Shape", "State", "TaskSetFull",
+    "Operation", "OperationEnded", "Replay", "Report", "Run", "Server", "Shape", "State", "TaskSetFull",
 ]

@@ -9,8 +9,9 @@ example:
   $ cmgr map disk.trace --lun 1
   $ cmgr status disk.trace --lun 1
 
-DEVICE is a trace, which is replayed and to which the new commands are added (tools/trace text < disk.trace shows it);
-or tcp:HOST:PORT, a program that serves. Numbers are decimal, or hexadecimal as in 0x1f or 1fh.
+DEVICE is a trace, which is replayed and to which the new commands are added (tools/trace text < disk.trace shows it).
+With --connect HOST:PORT in its place the commands go to a program that serves, by a connection of their own; operations
+are known to the connection that began them. Numbers are decimal, or hexadecimal as in 0x1f or 1fh.
 
 The exit status is that of sg3_utils: 0 all was done, 5 illegal request, 7 data protect, 9 unknown operation code,
 10 copy aborted, 15 a file or the program failed, 20 no sense, 22 LBA out of range, 26 busy, 27 task set full,
@@ -29,6 +30,7 @@ from .hosts import Connection, Replay, Shape
 from .wire import frames, senses
 
 # pylint: disable=wrong-import-order
+from replay.serving import address_of
 from tracetext.command_line import Parser, end_quietly, fail
 from tracetext.replies import counted, hex_lines, run_text
 from tracetext.values import U16, U32, U64, ranges_of
@@ -69,6 +71,10 @@ def place(text):
     return number_of(lun, U16), number_of(lba, U64)
 
 
+def address(text):
+    return address_of(text)
+
+
 def unit(text):
     """A number of blocks, and behind / the bytes of one, as in 100/4096."""
     blocks, _, length = text.partition("/")
@@ -83,7 +89,8 @@ COUNT = ("--count", {"type": number(2**32), "required": True, "help": "how many 
 RANGES = ("--ranges", {"type": ranges, "required": True, "help": "as in 5+1,9+3"})
 PAGE = ("--page", {"type": number(255), "help": "a page of vital product data"})
 LIST_ID = ("--id", {"type": number(U32), "default": 1, "help": "the list identifier; 1 if left out"})
-REPLAY = [
+HOST = [
+    ("--connect", {"type": address, "metavar": "HOST:PORT", "help": "a program that serves, in the place of DEVICE"}),
     ("--program", {"help": "what replays the trace; else copymgr where it was built, or the plain replay"}),
     ("--moment", {"type": number(U64), "help": "of a trace: the moment in seconds; else that of its last item"}),
 ]
@@ -136,9 +143,9 @@ def parser():
     words = top.add_subparsers(metavar="|".join(kinds()), required=True)
     for name, (do, description, options) in kinds().items():
         one = words.add_parser(name, help=description, description=description)
-        one.set_defaults(do=do)
-        one.add_argument("device", metavar="DEVICE", help="a trace, or tcp:HOST:PORT")
-        for option, named in options + (REPLAY if do is not new else []):
+        one.set_defaults(do=do, parser=one)
+        one.add_argument("device", metavar="DEVICE", nargs=None if do is new else "?", help="a trace")
+        for option, named in options + (HOST if do is not new else []):
             one.add_argument(option, **named)
     return top
 
@@ -177,20 +184,17 @@ class TraceFile:
 class Served:
     """A connection."""
 
-    def __init__(self, address):
-        name, _, port = address.rpartition(":")
-        if not name or not port.isdigit():
-            fail(PROGRAM, f"tcp:{address} is no tcp:HOST:PORT")
-        self.host = Connection((name, int(port)))
+    def __init__(self, where):
+        self.host = Connection(where)
 
     def close(self):
         self.host.close()
 
 
 def opened(words):
-    if words.device.startswith("tcp:"):
-        return Served(words.device.removeprefix("tcp:"))
-    return TraceFile(words)
+    if (words.device is None) == (words.connect is None):
+        words.parser.error("the words name DEVICE or --connect HOST:PORT")
+    return TraceFile(words) if words.connect is None else Served(words.connect)
 
 
 # ---- commands
@@ -294,6 +298,7 @@ def main(arguments=None):
     except senses.BadInput as bad:
         fail(PROGRAM, f"{words.device}: no whole trace, at byte {bad.place}", FILE_ERROR)
     except OSError as error:
-        fail(PROGRAM, f"{error.filename or words.device}: {error.strerror}", FILE_ERROR)
+        where = words.device or "{}:{}".format(*words.connect)
+        fail(PROGRAM, f"{error.filename or where}: {error.strerror}", FILE_ERROR)
     except ValueError as error:
         fail(PROGRAM, error)

@@ -80,20 +80,28 @@ class Connection(Host):
     PAUSE = 0.1
 
     def __init__(self, address, timeout=None):
+        """To a host and a port. No reply within so many seconds is a TimeoutError, after which it is to be closed."""
         super().__init__()
         self.link = socket.create_connection(address, timeout)
-        self.file = self.link.makefile("rwb")
+        self.link.setsockopt(socket.IPPROTO_TCP, socket.TCP_NODELAY, 1)
+        self.source = self.link.makefile("rb")
+
+    def ask(self, lun, cdb, out=b""):
+        """The reply to a command, whatever its status."""
+        try:
+            self.link.sendall(frames.request_bytes(frames.Request(lun, cdb, out)))
+            return reply_from(self.source)
+        except ConnectionError as error:
+            raise Ended(f"the connection ended: {error.strerror}") from None
 
     def execute(self, lun, cdb, out=b""):
-        self.file.write(struct.pack(">IH16s", len(out), lun, cdb) + out)
-        self.file.flush()
-        return data_of(reply_from(self.file))
+        return data_of(self.ask(lun, cdb, out))
 
     def let_work(self, lun):
         time.sleep(self.PAUSE)
 
     def close(self):
-        self.file.close()
+        self.source.close()
         self.link.close()
 
 

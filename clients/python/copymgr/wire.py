@@ -13,4 +13,5 @@ from tracetext import returned
 from tracetext.returned import Capacity, Run, State
 
 PLAIN_REPLAY = TOP / "tools/plain-replay"
+PLAIN_SERVE = TOP / "tools/plain-serve"
 PROGRAM = TOP / "crates/copymgr/out/copymgr"

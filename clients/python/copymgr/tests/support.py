@@ -1,65 +1,27 @@
-"""What the tests of the client have in common: hosts of each kind, and a small server."""
+"""What the tests of the client have in common: hosts of each kind."""
 
 import os
-import socketserver
-import struct
-import threading
 
-from copymgr import Connection, Replay, Shape
-from copymgr.wire import PLAIN_REPLAY, PROGRAM, frames
-from replay.player import Player
-from replay.told import BACKGROUND
+from copymgr import Connection, Ended, Replay, Server, Shape
+from copymgr.server import can_serve
+from copymgr.wire import PLAIN_REPLAY, PLAIN_SERVE, PROGRAM
 
 PROGRAM = os.environ.get("COPYMGR", str(PROGRAM))
 NO_PROGRAM = None if os.access(PROGRAM, os.X_OK) else f"no program at {PROGRAM}: the plain replay alone was asked"
+PROGRAM_SERVER = [PROGRAM, "serve"] if can_serve(PROGRAM) else None
+NO_SERVER = f"no program that serves at {PROGRAM}: the plain server alone was asked"
 SHAPES = [Shape(10_000), Shape(10_000), Shape(500, 4096), Shape(10_000, quota=1500), Shape(100, entries=4)]
 
 
-class Server(socketserver.ThreadingTCPServer):
-    """Serves connections by the plain replay: each is an initiator, and behind each command work in the background has
-    a Pump."""
-
-    daemon_threads = True
-    allow_reuse_address = True
-
-    def __init__(self, shapes):
-        super().__init__(("127.0.0.1", 0), Session)
-        self.player = Player(frames.Machine(bytes(range(32)), shapes))
-        self.lock = threading.Lock()
-        self.initiators = 0
-        threading.Thread(target=self.serve_forever, daemon=True).start()
-
-    def reply(self, initiator, request):
-        with self.lock:
-            self.player.play(frames.Begin(initiator, 0, request))
-            while initiator in self.player.pending:
-                self.player.play(frames.Run(initiator, 0))
-            for unit in self.player.units:
-                if any(operation.background and operation.state == BACKGROUND for operation in unit.operations):
-                    self.player.play(frames.Pump(unit.number, 0))
-            return self.player.replies.pop().bytes[4:]
-
-
-class Session(socketserver.StreamRequestHandler):
-    """A connection: requests one way and replies the other, one at a time."""
-
-    def handle(self):
-        with self.server.lock:
-            self.server.initiators += 1
-            initiator = self.server.initiators
-        while front := self.rfile.read(22):
-            length, unit, cdb = struct.unpack(">IH16s", front)
-            self.wfile.write(self.server.reply(initiator, frames.Request(unit, cdb, self.rfile.read(length))))
-
-
-def server_for(test):
-    """A server that ends with the test, which is skipped where there are no sockets."""
+def server_for(test, words, sessions):
+    """A server of the shapes that ends with the test, which is skipped where there are no sockets."""
+    if not words:
+        test.skipTest(NO_SERVER)
     try:
-        server = Server(SHAPES)
-    except OSError as error:
+        server = Server(SHAPES, sessions, words)
+    except Ended as error:
         test.skipTest(f"no sockets here: {error}")
-    test.addCleanup(server.server_close)
-    test.addCleanup(server.shutdown)
+    test.addCleanup(server.close)
     return server
 
 
@@ -83,11 +45,19 @@ class ProgramHost:
         return host
 
 
-class ServedHost:
-    """A connection to the small server."""
+class PlainServedHost:
+    """A connection to the plain server."""
+
+    SERVER = [str(PLAIN_SERVE)]
 
     def host(self):
-        host = Connection(server_for(self).server_address, timeout=60)
+        host = Connection(server_for(self, self.SERVER, 1).address, timeout=60)
         host.PAUSE = 0.001
         self.addCleanup(host.close)
         return host
+
+
+class ProgramServedHost(PlainServedHost):
+    """A connection to the proved program."""
+
+    SERVER = PROGRAM_SERVER

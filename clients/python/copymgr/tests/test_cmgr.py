@@ -7,9 +7,9 @@ import subprocess
 import tempfile
 import unittest
 
-from copymgr.wire import PLAIN_REPLAY, TOP
+from copymgr.wire import PLAIN_REPLAY, PLAIN_SERVE, TOP
 
-from .support import NO_PROGRAM, PROGRAM, server_for
+from .support import NO_PROGRAM, PROGRAM, PROGRAM_SERVER, server_for
 
 CMGR = TOP / "clients/python/cmgr"
 
@@ -85,7 +85,7 @@ class Traces(unittest.TestCase):
         self.bad(15, "No such file", "readcap", self.trace + "x")
         self.bad(15, "File exists", "new", self.trace, "--unit", "1")
         self.bad(15, "no whole trace, at byte 0", "readcap", str(CMGR))
-        self.bad(15, "tcp:127.0.0.1:1: ", "readcap", "tcp:127.0.0.1:1")
+        self.bad(15, "127.0.0.1:1: ", "readcap", "--connect", "127.0.0.1:1")
 
     def test_wrong_use(self):
         for words in [
@@ -95,7 +95,9 @@ class Traces(unittest.TestCase):
             ["copy", self.trace, "--from", "0", "--to", "1:0", "--count", "1"],
             ["copy", self.trace, "--from", "0:0", "--to", "1:0", "--count", "1", "--segments", "--id", "256"],
             ["unmap", self.trace, "--ranges", "5"],
-            ["readcap", "tcp:nowhere"],
+            ["readcap", "--connect", "nowhere"],
+            ["readcap", "--connect", "127.0.0.1:1", self.trace],
+            ["readcap"],
             ["new", self.trace + "2", "--unit", "5/100"],
         ]:
             with self.subTest(words):
@@ -124,10 +126,67 @@ class ProgramTraces(Traces):
     PROGRAM = PROGRAM
 
 
-class Served(unittest.TestCase):
-    def test_blocks_of_a_server(self):
-        device = f"tcp:127.0.0.1:{server_for(self).server_address[1]}"
-        subprocess.run([CMGR, "write", device, "--lba", "3"], input=b"s" * 512, check=True)
-        subprocess.run([CMGR, "copy", device, "--from", "0:3", "--to", "1:0", "--count", "1"], check=True)
-        words = [CMGR, "read", device, "--lun", "1", "--count", "1"]
-        self.assertEqual(subprocess.run(words, capture_output=True, check=True).stdout, b"s" * 512)
+class PlainServed(unittest.TestCase):
+    """Words with --connect."""
+
+    SERVER = [str(PLAIN_SERVE)]
+
+    def start(self, sessions):
+        """A server of so many connections; a file of 3000 blocks, of which the last 1000 hold zeros."""
+        self.server = server_for(self, self.SERVER, sessions)
+        self.where = ["--connect", "{}:{}".format(*self.server.address)]
+        folder = tempfile.TemporaryDirectory()
+        self.addCleanup(folder.cleanup)
+        self.folder = pathlib.Path(folder.name)
+        self.data = b"".join(bytes([1 + at % 255]) * 512 for at in range(2000)) + bytes(512 * 1000)
+        (self.folder / "in").write_bytes(self.data)
+
+    def run_words(self, word, *words):
+        return subprocess.run([CMGR, word, *self.where, *words], capture_output=True, check=False)
+
+    def good(self, *words):
+        done = self.run_words(*words)
+        self.assertEqual((done.returncode, done.stderr), (0, b""), words)
+        return done.stdout
+
+    def test_a_file_is_written_cloned_and_read_back(self):
+        self.start(5)
+        self.good("write", "--lba", "5", "--in", str(self.folder / "in"))
+        self.good("copy", "--from", "0:5", "--to", "1:100", "--count", "3000")
+        self.good("read", "--lun", "1", "--lba", "100", "--count", "3000", "--out", str(self.folder / "out"))
+        self.assertEqual((self.folder / "out").read_bytes(), self.data)
+        self.assertEqual(self.good("map", "--lun", "1").splitlines()[1], b"100+3000 mapped")
+        self.assertEqual(self.good("readcap", "--lun", "2"), b"500 blocks of 4096 bytes: 2048000 bytes\n")
+        report = self.server.report(60)
+        self.assertEqual((report.sessions, report.faults, report.memory), (5, 0, 0))
+        # READ CAPACITY and two WRITEs; POPULATE TOKEN, RECEIVE ROD TOKEN INFORMATION, WRITE USING TOKEN and at least
+        # one look at it; two READs; READ CAPACITY and a GET LBA STATUS; READ CAPACITY
+        self.assertGreaterEqual(report.commands, 3 + 4 + 2 + 2 + 1)
+        self.assertEqual([unit.mapped for unit in report.units], [3000, 3000, 0, 0, 0])
+        self.assertEqual([unit.live for unit in report.units], [0, 0, 0, 0, 0])
+        self.assertEqual(sum(unit.steps for unit in report.units), report.total)
+
+    def test_a_copy_of_segments_and_what_was_unmapped(self):
+        self.start(4)
+        self.good("write", "--in", str(self.folder / "in"))
+        self.good("unmap", "--ranges", "7+2,9+1")
+        self.good("copy", "--from", "0:0", "--to", "3:0", "--count", "20", "--segments")
+        runs = self.good("map", "--lun", "3").splitlines()
+        self.assertEqual(runs, [b"0+7 mapped", b"7+3 deallocated", b"10+10 mapped", b"20+9980 deallocated"])
+
+    def test_refusals_and_what_is_not_there(self):
+        self.start(2)
+        for words, status, why in [
+            (["read", "--lba", "9999", "--count", "2"], 22, "out of range (05/21/00)"),
+            (["status", "--id", "9"], 5, "invalid field in CDB (05/24/00)"),
+        ]:
+            done = self.run_words(*words)
+            self.assertEqual((done.returncode, done.stdout), (status, b""))
+            self.assertIn(why, done.stderr.decode())
+        self.server.report(60)
+        done = self.run_words("readcap")
+        self.assertEqual((done.returncode, done.stdout, done.stderr.count(b"\n")), (15, b"", 1), done.stderr)
+
+
+class ProgramServed(PlainServed):
+    SERVER = PROGRAM_SERVER

@@ -6,7 +6,7 @@ from copymgr import Busy, Capacity, CheckCondition, Disk, Ended, Inquiry, Replay
 from copymgr.hosts import Reply, data_of
 from copymgr.wire import PLAIN_REPLAY, rod_token
 
-from .support import SHAPES, PlainHost, ProgramHost, ServedHost
+from .support import SHAPES, PlainHost, PlainServedHost, ProgramHost, ProgramServedHost
 
 
 class Disks:
@@ -126,7 +126,11 @@ class Programs(Disks, ProgramHost, unittest.TestCase):
     pass
 
 
-class Connections(Disks, ServedHost, unittest.TestCase):
+class PlainConnections(Disks, PlainServedHost, unittest.TestCase):
+    pass
+
+
+class ProgramConnections(Disks, ProgramServedHost, unittest.TestCase):
     pass
 
 

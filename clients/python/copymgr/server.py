@@ -1,0 +1,88 @@
+"""A program that serves, started here."""
+
+import collections
+import re
+import subprocess
+
+from .errors import Ended
+from .wire import PLAIN_SERVE, PROGRAM, frames
+
+Report = collections.namedtuple("Report", "sessions faults memory commands units total")
+UnitReport = collections.namedtuple("UnitReport", "steps live mapped")
+
+USAGE = 6
+
+
+def can_serve(program):
+    """Whether a program has the word `serve`: it then looks at the configuration, of which there is none."""
+    words = [str(program), "serve", "127.0.0.1:0", "1"]
+    try:
+        return subprocess.run(words, stdin=subprocess.DEVNULL, capture_output=True, check=False).returncode != USAGE
+    except OSError:
+        return False
+
+
+def default_server():
+    """The words by which the proved program serves, where it was built and can, or else the plain server."""
+    return [str(PROGRAM), "serve"] if can_serve(PROGRAM) else [str(PLAIN_SERVE)]
+
+
+class Server:
+    """A program that serves units of these shapes, from new ones on, to so many connections: `WORDS ADDRESS SESSIONS`.
+
+    Its `address` is where it serves. It ends when all connections have ended, and then gives its report.
+    """
+
+    def __init__(self, shapes, sessions, words=None, host="127.0.0.1"):
+        pipe = subprocess.PIPE
+        words = [*(words or default_server()), f"{host}:0", str(sessions)]
+        self.program = subprocess.Popen(words, stdin=pipe, stdout=pipe, stderr=pipe)
+        try:
+            self.program.stdin.write(frames.header_bytes(frames.Machine(frames.SECRET, list(shapes))))
+            self.program.stdin.close()
+        except BrokenPipeError:
+            pass  # why it ended is told below
+        self.program.stdin = None
+        self.address = self.told_address()
+
+    def told_address(self):
+        line = self.program.stderr.readline().decode(errors="replace")
+        found = re.fullmatch(r"copymgr: serving at (.*):([0-9]+)\n", line)
+        if not found:
+            said = (line + self.program.stderr.read().decode(errors="replace")).strip()
+            raise Ended(f"the server ended with status {self.program.wait()}: {said}")
+        return found[1].strip("[]"), int(found[2])
+
+    def report(self, seconds=None):
+        """Waits for its end, at most so long, and gives what it reports."""
+        output, said = self.program.communicate(timeout=seconds)
+        if self.program.returncode:
+            why = said.decode(errors="replace").strip()
+            raise Ended(f"the server ended with status {self.program.returncode}: {why}")
+        return report_of(output.decode())
+
+    def close(self):
+        """Ends the program, also where connections are left."""
+        self.program.kill()
+        self.program.wait()
+        self.program.stdout.close()
+        self.program.stderr.close()
+
+    def __enter__(self):
+        return self
+
+    def __exit__(self, *_):
+        self.close()
+
+
+def report_of(text):
+    """The numbers of a report."""
+    counts, units = {}, []
+    for line in text.splitlines():
+        if line.startswith("unit "):
+            units.append(UnitReport(*map(int, line.split()[3::2])))
+        else:
+            name, number = line.split()
+            counts[name] = int(number)
+    names = ("sessions", "faults", "memory", "commands", "total")
+    return Report(units=units, **{name: counts[name] for name in names})

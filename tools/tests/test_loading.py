@@ -1,0 +1,83 @@
+"""What tools/serving-load counts of a command holds: the acts of each unit lie within the bounds."""
+
+import collections
+import random
+import sys
+import unittest
+
+from . import support
+
+sys.path.insert(0, str(support.TOP / "clients/python"))
+
+# pylint: disable=wrong-import-position
+from loading import bounds, clients
+from loading.tallies import Row, Tallies
+from replay import frames
+from replay.player import Player
+from replay.requests import Requests
+from replay.traces import STYLES
+
+STATUS_OF = {0x00: "good", 0x02: "check", 0x28: "full"}
+Told = collections.namedtuple("Told", "status data")
+
+
+class Bounds(unittest.TestCase):
+    def played(self, player, request):
+        """The reply to a command that is played whole, with the Pumps that it brings, and the acts of each unit."""
+        before = [unit.entries for unit in player.units]
+        player.play(frames.Begin(1, 0, request))
+        while 1 in player.pending:
+            player.play(frames.Run(1, 0))
+        reply = player.replies.pop().bytes[4:]
+        for unit in player.units:
+            while any(operation.background and operation.reserved() for operation in unit.operations):
+                player.play(frames.Pump(unit.number, 0))
+        return reply, [unit.entries - count for unit, count in zip(player.units, before)]
+
+    def test_acts_lie_within_the_bounds(self):
+        seen = collections.Counter()
+        for number, name in enumerate(["mixed", "pieces", "copies", "full", "lists"] * 4):
+            rng = random.Random(f"bounds {number}")
+            style = STYLES[name]
+            machine = frames.Machine(frames.SECRET, [style.shape(rng)._replace(quota=0) for _ in range(2)])
+            machine.shapes[0] = machine.shapes[0]._replace(quota=machine.shapes[0].blocks)
+            player = Player(machine)
+            requests = Requests(rng, player, style)
+            for _ in range(120):
+                request = requests.request(1)
+                if request.cdb[:2] == b"\x83\x1c":
+                    continue
+                reply, acts = self.played(player, request)
+                sense = frames.sense_of(reply[6:]) if reply[0] == bounds.CHECK else None
+                before, after = bounds.bounds_of(machine, request), bounds.bounds_of(machine, request, reply[0], sense)
+                for unit, count in enumerate(acts):
+                    told = (name, unit, request, reply[:30].hex(), count)
+                    self.assertLessEqual(after.low[unit], count, told)
+                    self.assertLessEqual(count, after.high[unit], told)
+                    self.assertLessEqual(after.high[unit], before.high[unit], told)
+                seen[STATUS_OF[reply[0]]] += sum(acts) > 0
+        self.assertGreater(min(seen["good"], seen["check"]), 100, seen)
+
+    def test_most_commands_are_known_exactly(self):
+        machine = frames.Machine(frames.SECRET, clients.shapes_of(2))
+        rng = random.Random(1)
+        requests = Requests(rng, Player(machine), STYLES["mixed"])
+        found = [bounds.bounds_of(machine, requests.write(1), bounds.GOOD) for _ in range(20)]
+        self.assertTrue(all(one.low == one.high for one in found))
+
+
+class Rows(unittest.TestCase):
+    def test_a_row_is_seen_by_all(self):
+        machine = frames.Machine(frames.SECRET, clients.shapes_of(2))
+        tallies = Tallies(3, 4)
+        row = Row(tallies, 1)
+        request = frames.Request(2, b"\x8a\0" + bytes(11) + b"\x01\0\0", bytes(512))
+        row.begin(machine, request)
+        row.maps(2, 0, 1)
+        seen = Row(tallies, 1).numbers
+        self.assertEqual((seen["sent"], seen["replies"], seen["written"], seen["largest"]), (1, 0, 512, 512))
+        self.assertEqual((seen["low 2"], seen["high 2"], seen["fewest 2"], seen["most 2"]), (0, 1, 0, 1))
+        row.end(machine, request, Told(bounds.GOOD, b""), None)
+        row.maps(2, 1, 1)
+        self.assertEqual((tallies.sum("low 2"), tallies.sum("high 2"), tallies.sum("fewest 2")), (1, 1, 1))
+        self.assertEqual((tallies.sum("replies"), tallies.sum("check")), (1, 0))

@@ -1,0 +1,216 @@
+"""Programs that serve: what connections are replied, how they end, and the report."""
+
+import socket
+import struct
+import subprocess
+import sys
+import unittest
+
+from . import support
+
+sys.path.insert(0, str(support.TOP / "clients/python"))
+
+# pylint: disable=wrong-import-position
+from copymgr import Ended, Server, Shape
+from copymgr.server import UnitReport, can_serve
+from replay import cdbs, frames, lists, rod_token, serving
+
+PLAIN = [str(support.TOOLS / "plain-serve")]
+PROGRAM = [support.PROGRAM, "serve"] if can_serve(support.PROGRAM) else None
+NO_PROGRAM = f"no program that serves at {support.PROGRAM}: the plain server alone was asked"
+SECONDS = 60
+
+SHAPES = [Shape(100)]
+READ = frames.Request(0, cdbs.encode(0x88, lba=0, count=3), b"")
+WRITE = frames.Request(0, cdbs.encode(0x8A, lba=0, count=2), b"\x11" * 512 + b"\x22" * 512)
+OUT = lists.write_bytes(rod_token.ZERO, [(0, 1)], immed=1)
+ZERO_WRITE = frames.Request(0, cdbs.encode(0x83, 0x11, id=1, length=len(OUT)), OUT)
+GOOD = frames.good(b"")
+DATA = frames.good(WRITE.out + bytes(512))
+
+
+class Links:
+    """Connections to a program that serves."""
+
+    WORDS = None
+
+    def setUp(self):
+        if not self.WORDS:
+            self.skipTest(NO_PROGRAM)
+
+    def start(self, sessions, shapes=()):
+        try:
+            server = Server(shapes or SHAPES, sessions, self.WORDS)
+        except Ended as error:
+            self.skipTest(f"no sockets here: {error}")
+        self.addCleanup(server.close)
+        return server
+
+    def link(self, server):
+        link = socket.create_connection(server.address, SECONDS)
+        self.addCleanup(link.close)
+        return link
+
+    def got(self, link, size):
+        data = b""
+        while len(data) < size and (more := link.recv(size - len(data))):
+            data += more
+        return data
+
+    def asked(self, link, *requests):
+        """The bytes of the replies to requests, each sent when the reply to the one before it was there."""
+        replies = b""
+        for request in requests:
+            link.sendall(frames.request_bytes(request))
+            front = self.got(link, 6)
+            _, sensed, length = struct.unpack(">BBI", front)
+            replies += front + self.got(link, sensed + length)
+        return replies
+
+
+class Serving(Links):
+    """The same of each program."""
+
+    def reported(self, server, unit, **wanted):
+        """The report has these numbers, and of the sole unit these."""
+        report = server.report(SECONDS)
+        numbers = {"faults": 0, "memory": 0, "total": unit.steps, **wanted}
+        self.assertEqual({name: getattr(report, name) for name in numbers}, numbers)
+        self.assertEqual(report.units, [unit])
+
+    def test_the_worked_reports(self):
+        server = self.start(1)
+        link = self.link(server)
+        self.assertEqual(self.asked(link, WRITE, READ), GOOD + DATA)
+        link.close()
+        self.reported(server, UnitReport(3, 0, 2), sessions=1, commands=2)
+        server = self.start(1)
+        link = self.link(server)
+        self.assertEqual(self.asked(link, ZERO_WRITE), GOOD)
+        link.close()
+        self.reported(server, UnitReport(4, 0, 0), sessions=1, commands=1)
+
+    def test_requests_in_pieces_and_ahead(self):
+        server = self.start(2)
+        link = self.link(server)
+        for byte in frames.request_bytes(WRITE) + frames.request_bytes(READ):
+            link.sendall(bytes([byte]))
+        self.assertEqual(self.got(link, len(GOOD + DATA)), GOOD + DATA)
+        other = self.link(server)
+        other.sendall(frames.request_bytes(READ) * 20)
+        other.shutdown(socket.SHUT_WR)
+        self.assertEqual(self.got(other, 20 * len(DATA)), 20 * DATA)
+        link.close()
+        self.reported(server, UnitReport(23, 0, 2), sessions=2, commands=22)
+
+    def test_broken_connections_are_faults_and_others_go_on(self):
+        server = self.start(5)
+        first = self.link(server)
+        self.assertEqual(self.asked(first, WRITE), GOOD)
+        for data in [
+            frames.request_bytes(READ)[:-1],
+            frames.request_bytes(WRITE)[:-1],
+            struct.pack(">I", frames.DATA_LIMIT + 1),
+        ]:
+            link = self.link(server)
+            self.assertEqual(self.asked(link, READ), DATA)
+            link.sendall(data)
+            link.shutdown(socket.SHUT_WR)
+        self.link(server).close()
+        self.assertEqual(self.asked(first, READ), DATA)
+        first.close()
+        self.reported(server, UnitReport(6, 0, 2), sessions=5, commands=5, faults=3)
+
+    def test_the_longest_frame(self):
+        """A command that does not want its data is refused, and the next one is served."""
+        server = self.start(1)
+        link = self.link(server)
+        replies = self.asked(link, READ._replace(out=bytes(frames.DATA_LIMIT)), READ)
+        self.assertEqual(replies, frames.check((5, 0x24, 0)) + frames.good(bytes(1536)))
+        link.close()
+        self.reported(server, UnitReport(2, 0, 0), sessions=1, commands=2)
+
+    def test_work_in_the_background_is_done(self):
+        server = self.start(1, [Shape(10_000)])
+        link = self.link(server)
+        out = lists.write_bytes(rod_token.ZERO, [(0, 5000)], immed=1)
+        zero = frames.Request(0, cdbs.encode(0x83, 0x11, id=1, length=len(out)), out)
+        status = frames.Request(0, cdbs.encode(0x84, 0x05, id=1, length=100), b"")
+        self.assertEqual(self.asked(link, zero), GOOD)
+        looks = 1
+        while self.asked(link, status)[11] == 0x12:
+            looks += 1
+        link.close()
+        # Start, five pieces and the Pump that finds none, the looks, and the last Pump
+        self.reported(server, UnitReport(1 + 5 + 1 + looks + 1, 0, 0), sessions=1, commands=1 + looks)
+
+    def test_words_and_configurations(self):
+        header = frames.header_bytes(frames.Machine(frames.SECRET, SHAPES))
+        for words, data, status, said in [
+            (["127.0.0.1:0", "1"], b"", 5, "copymgr: bad header at byte 0\n"),
+            (["127.0.0.1:0", "1"], header[:10], 5, "copymgr: bad header at byte 8\n"),
+            (["127.0.0.1:0", "1"], header[:41], 5, "copymgr: bad header at byte 40\n"),
+            (["127.0.0.1:0", "1"], header[:55], 5, "copymgr: bad header at byte 54\n"),
+            (["127.0.0.1:0", "1"], header[:73], 5, "copymgr: bad header at byte 71\n"),
+            (["127.0.0.1:0", "1"], b"X" + header[1:], 5, "copymgr: bad header at byte 0\n"),
+            (["127.0.0.1:0", "1"], header + b"\0", 5, "copymgr: bad header at byte 74\n"),
+            (["127.0.0.1:0", "0"], header, None, ""),
+            (["127.0.0.1:0", "257"], header, None, ""),
+            (["127.0.0.1:0", "01"], header, None, ""),
+            (["127.0.0.1:0"], header, None, ""),
+            (["nowhere", "1"], header, None, ""),
+        ]:
+            with self.subTest(words=words, length=len(data)):
+                words = [*self.WORDS, *words]
+                done = subprocess.run(words, input=data, capture_output=True, timeout=SECONDS, check=False)
+                lines = [line for line in done.stderr.decode().splitlines(True) if "serving at" not in line]
+                self.assertEqual((done.stdout, len(lines)), (b"", 1))
+                if status is None:
+                    self.assertNotEqual(done.returncode, 0)
+                else:
+                    self.assertEqual((done.returncode, lines[0]), (status, said))
+
+
+class Plain(Serving, unittest.TestCase):
+    WORDS = PLAIN
+
+
+class Program(Serving, unittest.TestCase):
+    WORDS = PROGRAM
+
+
+class Floor(Links, unittest.TestCase):
+    """What bench/run-serving measures beside."""
+
+    WORDS = [str(support.TOP / "bench/floor.py")]
+
+    def test_blocks(self):
+        server = self.start(2)
+        first, second = self.link(server), self.link(server)
+        past = frames.Request(0, cdbs.encode(0x28, lba=99, count=2), b"")
+        replies = self.asked(first, WRITE, READ, past, WRITE._replace(out=b""), ZERO_WRITE, READ._replace(unit=1))
+        refusals = [(5, 0x21, 0), (5, 0x24, 0), (5, 0x20, 0), (5, 0x25, 0)]
+        self.assertEqual(replies, GOOD + DATA + b"".join(map(frames.check, refusals)))
+        capacity = frames.Request(0, cdbs.encode(0x25), b"")
+        replies = self.asked(second, READ, capacity)
+        self.assertEqual(replies, DATA + frames.good(struct.pack(">II", 99, 512)))
+        first.close()
+        second.close()
+        report = server.report(SECONDS)
+        self.assertEqual((report.sessions, report.commands), (2, 8))
+
+
+class Addresses(unittest.TestCase):
+    def test_addresses(self):
+        self.assertEqual(serving.address_of("127.0.0.1:3260"), ("127.0.0.1", 3260))
+        self.assertEqual(serving.address_of("[::1]:0"), ("::1", 0))
+        for text in ["", ":1", "host", "host:", "host:x", "host:65536", "host:-1"]:
+            with self.assertRaisesRegex(ValueError, "no HOST:PORT"):
+                serving.address_of(text)
+
+    def test_a_port_that_is_taken(self):
+        with socket.create_server(("127.0.0.1", 0)) as taken:
+            words = [*PLAIN, f"127.0.0.1:{taken.getsockname()[1]}", "1"]
+            header = frames.header_bytes(frames.Machine(frames.SECRET, SHAPES))
+            done = subprocess.run(words, input=header, capture_output=True, timeout=SECONDS, check=False)
+        self.assertEqual((done.stdout, done.returncode), (b"", 9))
