@@ -43,12 +43,18 @@ fn a_unit_is_named_and_described(rt: HostRuntime) -> Result<(), Fail> {
     Ok(())
 }
 
+/// 300,000 bytes of which a pull gives 100,000. The last is 2, and the third pull fails.
+fn long_source(rt: &HostRuntime) -> Result<MemorySource, Fail> {
+    let pulls = listed(rt, 3)?;
+    let mut bytes = vec![in rt.alloc(); 1u8; 299_999]?;
+    bytes.push(2)?;
+    Ok(MemorySource::new(Bytes::from_vec(bytes), 100_000, pulls))
+}
+
 /// An input grows past its first window, moves to its front, and keeps its bytes at a fault.
 #[test]
 fn an_input_is_filled(rt: HostRuntime) -> Result<(), Fail> {
-    let mut bytes = vec![in rt.alloc(); 1u8; 300_000]?;
-    bytes[299_999] = 2;
-    let mut source = MemorySource::new(Bytes::from_vec(bytes), 100_000, listed(&rt, 3)?);
+    let mut source = long_source(&rt)?;
     let mut input = InputBuffer::new(rt.alloc());
     assert_eq!(rt; input.fill(&mut source), Ok(100_000));
     assert_eq!(rt; input.fill(&mut source), Ok(100_000));
@@ -78,18 +84,28 @@ fn an_input_is_fed(rt: HostRuntime) -> Result<(), Fail> {
     Ok(())
 }
 
+/// Flushes an output: how that ended, and whether its sink has these bytes then.
+fn flushed(
+    output: &mut OutputBuffer,
+    sink: &mut MemorySink,
+    bytes: &[u8],
+) -> (Result<(), WriteFailed>, bool) {
+    let end = output.flush(sink);
+    (end, sink.as_slice() == bytes)
+}
+
 /// An output keeps what a sink did not take, and hands it on at the next flush.
 #[test]
 fn an_output_is_flushed(rt: HostRuntime) -> Result<(), Fail> {
-    let mut sink = MemorySink::new(rt.alloc(), 4, listed(&rt, 2)?);
+    let pushes = listed(&rt, 2)?;
+    let mut sink = MemorySink::new(rt.alloc(), 4, pushes);
     let mut output = OutputBuffer::new(rt.alloc());
     output.write(b"from ")?;
     output.write(b"block")?;
-    assert_eq!(rt; output.flush(&mut sink), Err(WriteFailed));
-    assert_eq!(rt; sink.as_slice(), b"from".as_slice());
+    assert!(rt; flushed(&mut output, &mut sink, b"from") == (Err(WriteFailed), true));
     assert_eq!(rt; output.len(), 6);
     output.write(b" to ")?;
-    assert_eq!(rt; output.flush(&mut sink), Ok(()));
+    assert!(rt; flushed(&mut output, &mut sink, b"from block to ") == (Ok(()), true));
     assert!(rt; output.is_empty());
     assert_eq!(rt; push_all(&mut sink, b"block"), Ok(()));
     assert_eq!(rt; sink.as_slice(), b"from block to block".as_slice());

@@ -1,5 +1,5 @@
 ghost use Rattle.std.specs.Prelude.{◌≤◌, length};
-ghost use Rattle.cm_frame.specs.Grammar.{data_limit, data_in};
+ghost use Rattle.cm_frame.specs.Grammar.{data_limit, data_in, data_out};
 
 use super::*;
 use cm_base::{Bytes, CallList, InputBuffer, MemorySource, Payload};
@@ -43,8 +43,13 @@ fn is_read_and_written(rt: &HostRuntime, header: &[u8]) -> Result<bool, Fail> {
     let Parsed::Whole { value, used } = read_header(rt.alloc(), header)? else {
         return Ok(false);
     };
-    let same = write_header(rt.alloc(), &value)?.as_slice() == header;
-    Ok(same && used == header.len() && value.units() == 1 && value.secret()[31] == 31)
+    let written = write_header(rt.alloc(), &value)?;
+    Ok(
+        written.as_slice() == header
+            && used == header.len()
+            && value.units() == 1
+            && value.secret()[31] == 31,
+    )
 }
 
 #[test]
@@ -87,28 +92,42 @@ const WRITE: [u8; 35] = [
     0, 2, 0, 0,
 ];
 
+/// Whether an item begins a command with this operation code and data-out, whose request is written as these bytes.
+fn begins(
+    rt: &HostRuntime,
+    item: &TraceItem,
+    code: u8,
+    out: &[u8],
+    bytes: &[u8],
+) -> Result<bool, Fail>
+    requires { length (data_out item.now) ≤ data_limit }
+{
+    let TraceItem::Begin { request, .. } = item else {
+        return Ok(false);
+    };
+    let written = write_request(rt.alloc(), request)?;
+    Ok(request.cdb[0] == code && request.out.as_slice() == out && written.as_slice() == bytes)
+}
+
+/// Whether these bytes are read as one item that begins a WRITE, and written as they were.
+fn is_a_write(rt: &HostRuntime, bytes: &[u8]) -> Result<bool, Fail>
+    requires { 35 ≤ length bytes.now }
+{
+    let Parsed::Whole { value, used } = read_item(rt.alloc(), bytes)? else {
+        return Ok(false);
+    };
+    let written = write_item(rt.alloc(), &value)?;
+    let same = used == bytes.len() && written.as_slice() == bytes;
+    Ok(same && begins(rt, &value, 0x8a, &bytes[35..], &bytes[13..])?)
+}
+
 #[test]
 fn items_are_read_and_written(rt: HostRuntime) -> Result<(), Fail> {
     let mut bytes = Bytes::copy(rt.alloc(), &WRITE)?;
     bytes.extend(&[0x11; 512])?;
     bytes.extend(&[0x22; 512])?;
-    let Parsed::Whole { value, used } = read_item(rt.alloc(), bytes.as_slice())? else {
-        return Err(Fail::new("no item"));
-    };
-    assert_eq!(rt; used, 1059);
-    assert_eq!(rt;
-        write_item(rt.alloc(), &value)?.as_slice(),
-        bytes.as_slice()
-    );
-    let TraceItem::Begin { request, .. } = value else {
-        return Err(Fail::new("no command"));
-    };
-    assert_eq!(rt; request.cdb[0], 0x8a);
-    assert_eq!(rt; request.out.as_slice(), &bytes.as_slice()[35..]);
-    assert_eq!(rt;
-        write_request(rt.alloc(), &request)?.as_slice(),
-        &bytes.as_slice()[13..]
-    );
+    assert_eq!(rt; bytes.len(), 1059);
+    assert!(rt; is_a_write(&rt, bytes.as_slice())?);
     let found = ending_of(read_request(rt.alloc(), &bytes.as_slice()[13..])?);
     assert_eq!(rt; found, Ending::Whole(1046));
     Ok(())
@@ -134,37 +153,56 @@ fn begins_with(item: Option<TraceItem>, count: usize, first: u8, last: u8) -> bo
     out.len() == count && out.first() == Some(&first) && out.last() == Some(&last)
 }
 
+/// Adds 65,536 bytes, the first one 3 and the last one 7.
+fn add_long_data(bytes: &mut Bytes) -> Result<(), Fail> {
+    bytes.push(3)?;
+    for _ in 0..65_534 {
+        bytes.push(1)?;
+    }
+    bytes.push(7)?;
+    Ok(())
+}
+
 /// A WRITE of 65,536 bytes, the first one 3 and the last one 7, and then a run.
 fn long_write(rt: &HostRuntime) -> Result<Bytes, Fail> {
-    let mut data = vec![in rt.alloc(); 1u8; 65_536]?;
-    data[0] = 3;
-    data[65_535] = 7;
     let mut bytes = Bytes::copy(rt.alloc(), &WRITE[..13])?;
     bytes.extend(&65_536_u32.to_be_bytes())?;
     bytes.extend(&WRITE[17..])?;
-    bytes.extend(&data)?;
+    add_long_data(&mut bytes)?;
     bytes.extend(&[2, 0, 0, 0, 1, 0, 0, 0, 0, 0, 0, 0, 5])?;
     Ok(bytes)
+}
+
+/// No item is whole yet.
+fn is_waiting(rt: &HostRuntime, waits: &mut ItemBuffer) -> Result<bool, Fail> {
+    Ok(take_item(rt, waits)?.is_none())
+}
+
+/// Pulls once more, where no item is whole yet: how many bytes came.
+fn pull_more(
+    rt: &HostRuntime,
+    waits: &mut ItemBuffer,
+    source: &mut MemorySource,
+) -> Result<usize, Fail> {
+    if !is_waiting(rt, waits)? {
+        return Err(Fail::new("an item before its end"));
+    }
+    Ok(waits.fill(&mut rt.alloc(), source)?)
 }
 
 /// A long data-out comes in four pulls, and the item behind it with the last of them.
 #[test]
 fn a_long_item_is_gathered(rt: HostRuntime) -> Result<(), Fail> {
-    let none = CallList::empty(rt.alloc());
-    let mut source = MemorySource::new(long_write(&rt)?, 20_000, none);
+    let bytes = long_write(&rt)?;
+    let mut source = MemorySource::new(bytes, 20_000, CallList::empty(rt.alloc()));
     let mut waits = ItemBuffer::new(InputBuffer::new(rt.alloc()));
     assert!(rt; waits.is_empty());
     for count in [20_000, 20_000, 20_000, 5584] {
-        assert!(rt; take_item(&rt, &mut waits)?.is_none());
-        assert_eq!(rt; waits.fill(&mut rt.alloc(), &mut source)?, count);
+        assert_eq!(rt; pull_more(&rt, &mut waits, &mut source)?, count);
     }
     assert!(rt; begins_with(take_item(&rt, &mut waits)?, 65_536, 3, 7));
-    assert!(rt;
-        matches!(
-            take_item(&rt, &mut waits)?,
-            Some(TraceItem::Run { moment: 5, .. })
-        )
-    );
+    let run = take_item(&rt, &mut waits)?;
+    assert!(rt; matches!(&run, Some(TraceItem::Run { moment: 5, .. })));
     assert!(rt; waits.is_empty());
     Ok(())
 }
@@ -202,8 +240,9 @@ fn items_are_judged(rt: HostRuntime) -> Result<(), Fail> {
 fn spelled(rt: &HostRuntime, reply: Reply, bytes: &[u8]) -> Result<bool, Fail>
     requires { length (data_in reply) ≤ data_limit }
 {
-    let same = write_reply(rt.alloc(), &reply)?.as_slice() == bytes;
-    Ok(same && ending_of(read_reply(rt.alloc(), bytes)?) == Ending::Whole(bytes.len()))
+    let written = write_reply(rt.alloc(), &reply)?;
+    let found = ending_of(read_reply(rt.alloc(), bytes)?);
+    Ok(written.as_slice() == bytes && found == Ending::Whole(bytes.len()))
 }
 
 #[test]

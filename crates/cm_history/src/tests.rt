@@ -1,4 +1,4 @@
-ghost use Rattle.std.specs.Prelude.{◌≡◌, length, IfOk};
+ghost use Rattle.std.specs.Prelude.{◌≡◌, ◌≤◌, length, IfOk};
 ghost use Rattle.cm_history.specs.Legal.{IsLegal};
 
 use super::*;
@@ -24,7 +24,8 @@ fn one_unit(rt: &HostRuntime) -> Result<Config, Fail>
 
 /// A Write of one block, all of whose bytes are this one.
 fn write(rt: &HostRuntime, lba: u64, byte: u8) -> Result<Act, Fail> {
-    let bytes = Payload::from_vec(vec![in rt.alloc(); byte; 512]?)?;
+    let bytes = vec![in rt.alloc(); byte; 512]?;
+    let bytes = Payload::from_vec(bytes)?;
     let list = BlockList::from_payload(rt.alloc(), 512, 1, bytes)?;
     Ok(Act::Write { lba, list })
 }
@@ -103,36 +104,47 @@ fn capture(count: u32) -> Act {
     Act::Capture { lba: 0, count }
 }
 
+/// The act may be asked of unit 0.
+fn allows(config: &Config, act: Act) -> bool
+    requires { 1 ≤ length config.now.units }
+{
+    within_limits(config, 0, &act)
+}
+
 #[test]
 fn numbers_have_limits(rt: HostRuntime) -> Result<(), Fail> {
     let config = one_unit(&rt)?;
-    let alloc = rt.alloc();
+    assert!(rt; allows(&config, read(2048)) && !allows(&config, read(2049)));
+    assert!(rt; allows(&config, capture(65_535)) && !allows(&config, capture(65_536)));
+    assert!(rt; allows(&config, close(CopyState::Done)));
+    assert!(rt; !allows(&config, close(CopyState::Running)));
+    assert!(rt; allows(&config, Act::Pump));
+    Ok(())
+}
+
+#[test]
+fn texts_of_tokens_have_limits(rt: HostRuntime) -> Result<(), Fail> {
+    let config = one_unit(&rt)?;
     let text = token_of_unit_0();
-    let acts = [
-        (read(2048), true),
-        (read(2049), false),
-        (redeem(alloc, &text, 0)?, true),
-        (redeem(alloc, &text, 1)?, false),
-        (redeem(alloc, &[0; 512], 0)?, false),
-        (capture(65_535), true),
-        (capture(65_536), false),
-        (close(CopyState::Done), true),
-        (close(CopyState::Running), false),
-        (Act::Pump, true),
-    ];
-    for (place, (act, allowed)) in acts.iter().enumerate() {
-        assert_eq!(rt; within_limits(&config, 0, act), *allowed, "act {place}");
-    }
+    assert!(rt; allows(&config, redeem(rt.alloc(), &text, 0)?));
+    assert!(rt; !allows(&config, redeem(rt.alloc(), &text, 1)?));
+    assert!(rt; !allows(&config, redeem(rt.alloc(), &[0; 512], 0)?));
     Ok(())
 }
 
 #[test]
 fn acts_are_copied(rt: HostRuntime) -> Result<(), Fail> {
-    let alloc = rt.alloc();
-    let act = start(ranges(&rt, 5, 9)?, holes(&rt, 512, 4)?).copy(alloc)?;
+    let rod = holes(&rt, 512, 4)?;
+    let act = start(ranges(&rt, 5, 9)?, rod);
+    let act = act.copy(rt.alloc())?;
     assert!(rt;
         matches!(&act, Act::Start { ranges, rod, .. } if ranges.total() == 4 && rod.blocks() == 4)
     );
+    Ok(())
+}
+
+#[test]
+fn entries_are_copied(rt: HostRuntime) -> Result<(), Fail> {
     let entry = Entry {
         stamp: 6,
         unit: 0,
@@ -141,26 +153,29 @@ fn acts_are_copied(rt: HostRuntime) -> Result<(), Fail> {
         moment: 8,
         act: write(&rt, 3, 0x44)?,
     };
-    let entry = entry.copy(alloc)?;
+    let entry = entry.copy(rt.alloc())?;
     assert!(rt; entry.stamp == 6 && entry.seq == 7 && entry.moment == 8);
     assert!(rt; matches!(&entry.act, Act::Write { lba: 3, list } if list.blocks() == 1));
     Ok(())
 }
 
 #[test]
-fn answers_are_copied(rt: HostRuntime) -> Result<(), Fail> {
-    let alloc = rt.alloc();
-    let rod = Answer::Rod(holes(&rt, 512, 4)?).copy(alloc)?;
+fn rods_are_copied(rt: HostRuntime) -> Result<(), Fail> {
+    let rod = Answer::Rod(holes(&rt, 512, 4)?);
+    let rod = rod.copy(rt.alloc())?;
     assert!(rt; matches!(&rod, Answer::Rod(list) if list.blocks() == 4));
-    let runs = StatusList::copy(
-        alloc,
-        &[MapRun {
-            lba: 5,
-            count: 2,
-            mapped: true,
-        }],
-    )?;
-    let told = Answer::Status(runs).copy(alloc)?;
+    Ok(())
+}
+
+#[test]
+fn runs_are_copied(rt: HostRuntime) -> Result<(), Fail> {
+    let run = MapRun {
+        lba: 5,
+        count: 2,
+        mapped: true,
+    };
+    let runs = Answer::Status(StatusList::copy(rt.alloc(), &[run])?);
+    let told = runs.copy(rt.alloc())?;
     assert!(rt; matches!(&told, Answer::Status(runs) if runs.len() == 1));
     Ok(())
 }
@@ -175,16 +190,16 @@ fn lists_of_blocks_have_limits(rt: HostRuntime) -> Result<(), Fail> {
     ] {
         let list = holes(&rt, block_length, count)?;
         let put = Act::Put { lba: 0, list };
-        assert_eq!(rt; within_limits(&config, 0, &put), allowed, "{count} blocks");
+        assert_eq!(rt; allows(&config, put), allowed, "{count} blocks");
     }
     let list = holes(&rt, 512, 1)?;
-    assert!(rt; !within_limits(&config, 0, &Act::Write { lba: 0, list }));
-    assert!(rt; within_limits(&config, 0, &write(&rt, 9, 0x11)?));
+    assert!(rt; !allows(&config, Act::Write { lba: 0, list }));
+    assert!(rt; allows(&config, write(&rt, 9, 0x11)?));
     Ok(())
 }
 
 #[test]
-fn lists_of_ranges_have_limits(rt: HostRuntime) -> Result<(), Fail> {
+fn populates_have_limits(rt: HostRuntime) -> Result<(), Fail> {
     let config = one_unit(&rt)?;
     for (second, timeout, allowed) in [
         (2, 1, true),
@@ -194,20 +209,23 @@ fn lists_of_ranges_have_limits(rt: HostRuntime) -> Result<(), Fail> {
         (1, 1, false),
     ] {
         let act = populate(timeout, ranges(&rt, 0, second)?);
-        assert_eq!(rt;
-            within_limits(&config, 0, &act),
-            allowed,
-            "{timeout} seconds"
-        );
+        assert_eq!(rt; allows(&config, act), allowed, "{timeout} seconds");
     }
+    Ok(())
+}
+
+#[test]
+fn starts_have_limits(rt: HostRuntime) -> Result<(), Fail> {
+    let config = one_unit(&rt)?;
     for (second, block_length, count, allowed) in [
         (2, 512, 4, true),
         (2, 512, 3, false),
         (1, 512, 4, false),
         (2, 4096, 4, false),
     ] {
-        let act = start(ranges(&rt, 0, second)?, holes(&rt, block_length, count)?);
-        assert_eq!(rt; within_limits(&config, 0, &act), allowed, "{count} blocks");
+        let rod = holes(&rt, block_length, count)?;
+        let act = start(ranges(&rt, 0, second)?, rod);
+        assert_eq!(rt; allows(&config, act), allowed, "{count} blocks");
     }
     Ok(())
 }
@@ -265,7 +283,8 @@ fn a_history_grows_at_its_end(rt: HostRuntime) -> Result<(), Fail> {
     next.seq = 1;
     history.push(next)?;
     assert_eq!(rt; history.len(), 2);
-    assert!(rt; matches!(history.pop(), Some(Entry { seq: 1, .. })));
+    let last = history.pop();
+    assert!(rt; matches!(&last, Some(Entry { seq: 1, .. })));
     assert!(rt; history.at(0).seq == 0 && history.spare() == 0);
     Ok(())
 }

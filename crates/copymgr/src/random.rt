@@ -2,15 +2,15 @@
 
 ghost use Rattle.std.specs.Prelude.{◌≡◌, ◌*◌, ◌<◌, ◌≤◌, ℕ, List, length, true, IfOk, OnOk};
 ghost use Rattle.cm_base.specs.Configuration.{Configuration};
+ghost use Rattle.cm_frame.specs.Grammar.{data_limit, data_out};
 ghost use Rattle.cm_history.specs.declared.act.Entry.{Entry};
 ghost use Rattle.cm_history.specs.Limits.{within_limits};
 ghost use Rattle.plain_model.specs.Holds.{AreWithin};
 
 use crate::status::Status;
+use crate::tests::words_of;
 use crate::top::top;
-use cm_base::{
-    Bytes, CallList, Config, MemorySink, MemorySource, Payload, UnitConfig, UnitList, Word,
-};
+use cm_base::{Bytes, CallList, Config, MemorySink, MemorySource, Payload, UnitConfig, UnitList};
 use cm_frame::{Request, TraceItem, write_header, write_item};
 use cm_history::{Act, Actor, Answer, Entry, History, within_limits};
 use lba_ranges::BlockList;
@@ -171,23 +171,36 @@ fn two_units(alloc: Global) -> Result<Config, Fail> {
     Ok(Config::new([7; 32], UnitList::copy(alloc, &[small, large])?))
 }
 
+/// Adds GOOD with the bytes of blocks.
+fn good(alloc: Global, replies: &mut Bytes, list: &BlockList) -> Result<(), Fail> {
+    let mut data = Bytes::empty(alloc);
+    list.read_into(&mut data)?;
+    replies.extend(&[0x00, 0x00])?;
+    replies.extend(&(data.len() as u64).to_be_bytes()[4..])?;
+    replies.extend(data.as_slice())?;
+    Ok(())
+}
+
 /// Adds the reply to an answer.
-fn reply(alloc: Global, replies: &mut Bytes, initiator: u32, answer: Answer) -> Result<(), Fail> {
+fn reply(alloc: Global, replies: &mut Bytes, initiator: u32, answer: &Answer) -> Result<(), Fail> {
     replies.extend(&initiator.to_be_bytes())?;
     match answer {
-        Answer::Blocks(list) => {
-            let mut data = Bytes::empty(alloc);
-            list.read_into(&mut data)?;
-            replies.extend(&[0x00, 0x00])?;
-            replies.extend(&(data.len() as u64).to_be_bytes()[4..])?;
-            replies.extend(data.as_slice())?;
-        }
+        Answer::Blocks(list) => good(alloc, replies, list)?,
         Answer::Refused(sense) => {
             replies.extend(&[0x02, 0x12, 0, 0, 0, 0])?;
             replies.extend(&sense.to_bytes())?;
         }
         _ => replies.extend(&[0x00, 0x00, 0, 0, 0, 0])?,
     }
+    Ok(())
+}
+
+/// Adds an item to the end.
+fn add_item(alloc: Global, bytes: &mut Bytes, item: &TraceItem) -> Result<(), Fail>
+    requires { length (data_out item.now) ≤ data_limit }
+{
+    let text = write_item(alloc, item)?;
+    bytes.extend(text.as_slice())?;
     Ok(())
 }
 
@@ -244,8 +257,7 @@ impl Trace {
             moment,
             request,
         };
-        self.bytes.extend(write_item(alloc, &item)?.as_slice())?;
-        Ok(())
+        add_item(alloc, &mut self.bytes, &item)
     }
 
     /// Adds the Run of a command, with the reply that is wanted, and notes its act.
@@ -267,9 +279,9 @@ impl Trace {
         let act = command.act(alloc, config.unit(unit).block_length)?;
         let act = allowed(config, unit, act)?;
         let item = TraceItem::Run { initiator, moment };
-        self.bytes.extend(write_item(alloc, &item)?.as_slice())?;
+        add_item(alloc, &mut self.bytes, &item)?;
         let answer = plain_answer(alloc, config, &self.history, unit, actor, moment, &act)?;
-        reply(alloc, &mut self.replies, initiator, answer)?;
+        reply(alloc, &mut self.replies, initiator, &answer)?;
         let entry = Entry {
             stamp: (self.history.len() as u64).saturating_add(1),
             unit,
@@ -317,20 +329,22 @@ impl Trace {
     }
 }
 
+/// Whether a trace is played to its end, and gives these replies.
+fn is_played(alloc: Global, trace: Bytes, replies: &[u8]) -> Result<bool, Fail> {
+    let words = words_of(alloc, &["replay"])?;
+    let mut input = MemorySource::new(trace, 100, CallList::empty(alloc));
+    let mut output = MemorySink::new(alloc, 100, CallList::empty(alloc));
+    let status = top(alloc, &words, &mut input, &mut output);
+    Ok(status == Status::Done && output.as_slice() == replies)
+}
+
 #[test]
 fn random_traces(rt: HostRuntime) -> Result<(), Fail> {
     let alloc = rt.alloc();
     let config = two_units(alloc)?;
-    let mut words = Vec::new(alloc);
-    words.push(Word::from_text(alloc, "replay")?)?;
     for seed in 1..=8 {
-        let trace = Trace::random(alloc, &config, seed)?;
-        let replies = trace.replies;
-        let mut input = MemorySource::new(trace.bytes, 100, CallList::empty(alloc));
-        let mut output = MemorySink::new(alloc, 100, CallList::empty(alloc));
-        let status = top(alloc, &words, &mut input, &mut output);
-        assert!(rt; status == Status::Done, "seed {seed}: {status}");
-        assert!(rt; output.as_slice() == replies.as_slice(), "seed {seed}");
+        let Trace { bytes, replies, .. } = Trace::random(alloc, &config, seed)?;
+        assert!(rt; is_played(alloc, bytes, replies.as_slice())?, "seed {seed}");
     }
     Ok(())
 }

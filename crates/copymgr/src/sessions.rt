@@ -2,7 +2,7 @@
 ghost use Rattle.std.specs.Prelude.{◌<◌};
 
 use crate::rows::first_path::HEADER;
-use crate::rows::sessions::{SESSIONS, TWO_UNITS};
+use crate::rows::sessions::{SESSIONS, TWO_UNITS, WorkedSession};
 use crate::tests::{bytes_of, only};
 use cm_base::{Bytes, CallList, Config, MemoryLink, MemorySink, MemorySource, SetClock};
 use cm_frame::{Parsed, read_header};
@@ -51,7 +51,8 @@ fn served(
     sink: MemorySink,
 ) -> Result<(SessionEnd, MemoryLink), Fail> {
     let config = config_of(alloc, header)?;
-    let mut units = UnitRuns::new(alloc, config.copy(alloc)?, 0)?;
+    let own = config.copy(alloc)?;
+    let mut units = UnitRuns::new(alloc, own, 0)?;
     let mut link = MemoryLink::new(source, sink);
     let end = session(alloc, &config, &mut link, &mut units, &SetClock::new(0));
     Ok((end, link))
@@ -194,10 +195,11 @@ fn a_session_meets_too_much_data(rt: HostRuntime) -> Result<(), Fail> {
     let alloc = rt.alloc();
     let mut input = bytes_of(alloc, &REQUESTS)?;
     input.extend(&8_388_609u32.to_be_bytes())?;
+    let replies = bytes_of(alloc, &REPLIES)?;
     let (end, link) = served_whole(alloc, HEADER, input, 7)?;
     assert_eq!(rt; end.frames, 2);
     assert_eq!(rt; end.fault, Some(SessionFault::BadFrame));
-    assert_eq!(rt; link.taken(), bytes_of(alloc, &REPLIES)?.as_slice());
+    assert_eq!(rt; link.taken(), replies.as_slice());
     Ok(())
 }
 
@@ -223,7 +225,8 @@ fn is_served_at_each_pull(alloc: Global, step: usize, pulls: usize) -> Result<bo
     let worked = Worked::new(alloc)?;
     for before in 0..pulls {
         let wanted = after_pulls(step.saturating_mul(before).min(BOTH));
-        let source = worked.source(alloc, BOTH, step, only(alloc, before as u64 + 1)?)?;
+        let failing = only(alloc, before as u64 + 1)?;
+        let source = worked.source(alloc, BOTH, step, failing)?;
         let sink = MemorySink::new(alloc, 4096, CallList::empty(alloc));
         if !worked.is_served(alloc, source, sink, wanted)? {
             return Ok(false);
@@ -297,25 +300,31 @@ fn a_session_pulls_and_pushes_no_more(rt: HostRuntime) -> Result<(), Fail> {
     };
     let worked = Worked::new(alloc)?;
     for (step, pull, push) in [(1, 1070, 1549), (7, 155, 223), (4096, 3, 3)] {
-        let source = worked.source(alloc, BOTH, step, only(alloc, pull)?)?;
+        let failing = only(alloc, pull)?;
+        let source = worked.source(alloc, BOTH, step, failing)?;
         let sink = MemorySink::new(alloc, step, only(alloc, push)?);
         assert!(rt; worked.is_served(alloc, source, sink, wanted)?, "by {step}");
     }
     Ok(())
 }
 
-/// Sessions of every command are replied as was worked out.
+/// A worked session is served by pulls and pushes of so many bytes, and replied as was worked out.
+fn is_as_worked(alloc: Global, worked: &WorkedSession, step: usize) -> Result<bool, Fail>
+    requires { 0 < step }
+{
+    let replies = bytes_of(alloc, worked.replies)?;
+    let input = bytes_of(alloc, worked.requests)?;
+    let (end, link) = served_whole(alloc, TWO_UNITS, input, step)?;
+    Ok(end.fault.is_none() && link.taken() == replies.as_slice())
+}
+
+/// Sessions of every command.
 #[test]
 fn worked_sessions(rt: HostRuntime) -> Result<(), Fail> {
-    let alloc = rt.alloc();
     for worked in &SESSIONS {
-        let replies = bytes_of(alloc, worked.replies)?;
         for step in [1, 7, 4096] {
-            let input = bytes_of(alloc, worked.requests)?;
-            let (end, link) = served_whole(alloc, TWO_UNITS, input, step)?;
-            assert!(rt; end.fault.is_none(), "{} by {step}", worked.name);
             assert!(rt;
-                link.taken() == replies.as_slice(),
+                is_as_worked(rt.alloc(), worked, step)?,
                 "{} by {step}",
                 worked.name
             );
@@ -324,7 +333,7 @@ fn worked_sessions(rt: HostRuntime) -> Result<(), Fail> {
     Ok(())
 }
 
-/// A long reply is pushed from where its data stands, behind its head; the push of the data may fail.
+/// A long reply is pushed from where its data stands, behind its head.
 #[test]
 fn a_session_replies_with_long_data(rt: HostRuntime) -> Result<(), Fail> {
     let alloc = rt.alloc();
@@ -333,6 +342,13 @@ fn a_session_replies_with_long_data(rt: HostRuntime) -> Result<(), Fail> {
     let (end, link) = served_whole(alloc, LONG_BLOCKS, input, 100_000)?;
     assert!(rt; end.frames == 1 && end.fault.is_none());
     assert!(rt; link.taken() == reply.as_slice());
+    Ok(())
+}
+
+/// The push of long data, behind that of the head, may fail.
+#[test]
+fn a_push_of_long_data_fails(rt: HostRuntime) -> Result<(), Fail> {
+    let alloc = rt.alloc();
     let input = bytes_of(alloc, &[LONG_READ])?;
     let source = MemorySource::new(input, 100_000, CallList::empty(alloc));
     let sink = MemorySink::new(alloc, 100_000, only(alloc, 2)?);

@@ -16,21 +16,42 @@ use std::test::Fail;
 use std::thread::{self, Parker, Threads};
 use trace_replay::replay;
 
+/// Adds the bytes of hex text.
+fn add(alloc: Global, bytes: &mut Bytes, text: &str) -> Result<(), Fail> {
+    let decoded = hex::decode(alloc, text)?;
+    bytes.extend(&decoded)?;
+    Ok(())
+}
+
+/// Adds the bytes of hex text so many times.
+fn add_times(alloc: Global, bytes: &mut Bytes, text: &str, count: u32) -> Result<(), Fail> {
+    let decoded = hex::decode(alloc, text)?;
+    for _ in 0..count {
+        bytes.extend(&decoded)?;
+    }
+    Ok(())
+}
+
 /// The bytes of pieces of hex text.
 pub(crate) fn bytes_of(alloc: Global, pieces: &[&str]) -> Result<Bytes, Fail> {
     let mut bytes = Bytes::empty(alloc);
     for piece in pieces {
         match piece.split_once('*') {
-            Some((byte, count)) => {
-                let byte = hex::decode(alloc, byte)?;
-                for _ in 0..count.parse::<u32>()? {
-                    bytes.extend(&byte)?;
-                }
-            }
-            None => bytes.extend(&hex::decode(alloc, *piece)?)?,
+            Some((byte, count)) => add_times(alloc, &mut bytes, byte, count.parse()?)?,
+            None => add(alloc, &mut bytes, piece)?,
         }
     }
     Ok(bytes)
+}
+
+/// The words of a command line.
+pub(crate) fn words_of(alloc: Global, line: &[&str]) -> Result<Vec<Word>, Fail> {
+    let mut words = Vec::new(alloc);
+    for word in line {
+        let word = Word::from_text(alloc, word)?;
+        words.push(word)?;
+    }
+    Ok(words)
 }
 
 /// Plays a trace by pulls and pushes of so many bytes, of which those listed fail.
@@ -43,9 +64,9 @@ fn played(
 ) -> Result<(Status, MemorySink), Fail>
     requires { 0 < step }
 {
-    let mut words = Vec::new(alloc);
-    words.push(Word::from_text(alloc, "replay")?)?;
-    let mut input = MemorySource::new(bytes_of(alloc, row.trace)?, step, pulls);
+    let words = words_of(alloc, &["replay"])?;
+    let trace = bytes_of(alloc, row.trace)?;
+    let mut input = MemorySource::new(trace, step, pulls);
     let mut output = MemorySink::new(alloc, step, pushes);
     let status = top(alloc, &words, &mut input, &mut output);
     Ok((status, output))
@@ -144,27 +165,28 @@ fn worked_usual_copy(rt: HostRuntime) -> Result<(), Fail> {
 
 /// A POPULATE TOKEN of one block with a list identifier, and its Run.
 fn populate(alloc: Global, trace: &mut Bytes, id: u32) -> Result<(), Fail> {
-    trace.extend(&hex::decode(alloc, "01000000010000000000000000000000200000831000000000")?)?;
+    add(
+        alloc,
+        trace,
+        "01000000010000000000000000000000200000831000000000",
+    )?;
     trace.extend(&id.to_be_bytes())?;
-    trace.extend(&hex::decode(alloc, "000000200000001e02000000012c0080000000000010")?)?;
-    trace.extend(&hex::decode(alloc, "00000000000000000000000100000000")?)?;
-    trace.extend(&hex::decode(alloc, RUN)?)?;
-    Ok(())
+    add(alloc, trace, "000000200000001e02000000012c0080000000000010")?;
+    add(alloc, trace, "00000000000000000000000100000000")?;
+    add(alloc, trace, RUN)
 }
 
 /// A RECEIVE ROD TOKEN INFORMATION of a list identifier, and its Run.
 fn information(alloc: Global, trace: &mut Bytes, id: u32) -> Result<(), Fail> {
-    trace.extend(&hex::decode(alloc, "010000000100000000000000000000000000008407")?)?;
+    add(alloc, trace, "010000000100000000000000000000000000008407")?;
     trace.extend(&id.to_be_bytes())?;
-    trace.extend(&hex::decode(alloc, "00000000000004000000")?)?;
-    trace.extend(&hex::decode(alloc, RUN)?)?;
-    Ok(())
+    add(alloc, trace, "00000000000004000000")?;
+    add(alloc, trace, RUN)
 }
 
 /// Plays bytes, and says whether these are the replies.
 fn replies_are(alloc: Global, trace: Bytes, replies: &Bytes) -> Result<bool, Fail> {
-    let mut words = Vec::new(alloc);
-    words.push(Word::from_text(alloc, "replay")?)?;
+    let words = words_of(alloc, &["replay"])?;
     let mut input = MemorySource::new(trace, 4096, CallList::empty(alloc));
     let mut output = MemorySink::new(alloc, 4096, CallList::empty(alloc));
     let status = top(alloc, &words, &mut input, &mut output);
@@ -175,9 +197,10 @@ fn replies_are(alloc: Global, trace: Bytes, replies: &Bytes) -> Result<bool, Fai
 fn dropped_replies(alloc: Global) -> Result<Bytes, Fail> {
     let mut replies = Bytes::empty(alloc);
     for _ in 0..257 {
-        replies.extend(&hex::decode(alloc, "00000001000000000000")?)?;
+        add(alloc, &mut replies, "00000001000000000000")?;
     }
-    replies.extend(bytes_of(alloc, &operations::DROPPED)?.as_slice())?;
+    let last = bytes_of(alloc, &operations::DROPPED)?;
+    replies.extend(last.as_slice())?;
     Ok(replies)
 }
 
@@ -208,18 +231,32 @@ fn last_rounds(alloc: Global) -> Result<Bytes, Fail> {
     bytes_of(alloc, &generated::LAST_ROUNDS)
 }
 
-fn generated_replies(alloc: Global) -> Result<Bytes, Fail> {
+pub(crate) fn generated_replies(alloc: Global) -> Result<Bytes, Fail> {
     bytes_of(alloc, &generated::REPLIES)
 }
 
-/// The generated trace of 20 rounds, which is put together of its parts, and the replies to it.
+/// The trace of 20 rounds, put together of its parts.
+fn worked_rounds(alloc: Global) -> Result<Bytes, Fail> {
+    let mut trace = first_rounds(alloc)?;
+    let middle = middle_rounds(alloc)?;
+    trace.extend(middle.as_slice())?;
+    let last = last_rounds(alloc)?;
+    trace.extend(last.as_slice())?;
+    Ok(trace)
+}
+
+/// The generated trace of 20 rounds is this one.
+fn is_generated(alloc: Global, trace: &[u8]) -> Result<bool, Fail> {
+    let generated = generate(alloc, 20)?;
+    Ok(generated.as_slice() == trace)
+}
+
+/// The generated trace of 20 rounds, and the replies to it.
 #[test]
 fn worked_generated_trace(rt: HostRuntime) -> Result<(), Fail> {
     let alloc = rt.alloc();
-    let mut trace = first_rounds(alloc)?;
-    trace.extend(middle_rounds(alloc)?.as_slice())?;
-    trace.extend(last_rounds(alloc)?.as_slice())?;
-    assert!(rt; generate(alloc, 20)?.as_slice() == trace.as_slice());
+    let trace = worked_rounds(alloc)?;
+    assert!(rt; is_generated(alloc, trace.as_slice())?);
     let replies = generated_replies(alloc)?;
     assert!(rt; replies_are(alloc, trace, &replies)?);
     Ok(())
@@ -346,9 +383,9 @@ fn is_played_ready<R: Threads + Wait + Sync>(
     let parker = Parker::new();
     let maker = &parker;
     let memory = ReadyMemory::new(alloc, orders, ready, maker);
-    let mut words = Vec::new(alloc);
-    words.push(Word::from_text(alloc, "replay")?)?;
-    let input = MemorySource::new(bytes_of(alloc, row.trace)?, 50_000, CallList::empty(alloc));
+    let words = words_of(alloc, &["replay"])?;
+    let trace = bytes_of(alloc, row.trace)?;
+    let input = MemorySource::new(trace, 50_000, CallList::empty(alloc));
     let ((status, output), ()) = thread::join(
         rt,
         move || plays(alloc, memory, words, input),
@@ -369,10 +406,7 @@ fn worked_traces_over_ready_memory(rt: HostRuntime) -> Result<(), Fail> {
 /// What the program does by its words, over a trace that it could read and an output that fails at the listed
 /// pushes.
 fn said(alloc: Global, line: &[&str], pushes: CallList) -> Result<(Status, MemorySink), Fail> {
-    let mut words = Vec::new(alloc);
-    for word in line {
-        words.push(Word::from_text(alloc, word)?)?;
-    }
+    let words = words_of(alloc, line)?;
     let trace = bytes_of(alloc, ROWS[3].trace)?;
     let mut input = MemorySource::new(trace, 4096, CallList::empty(alloc));
     let mut output = MemorySink::new(alloc, 7, pushes);
@@ -431,7 +465,8 @@ fn statuses(rt: HostRuntime) -> Result<(), Fail> {
     ];
     for (status, code, line) in all {
         assert!(rt; status.code() == code);
-        assert!(rt; status.to_string(rt.alloc())?.as_str() == line);
+        let told = status.to_string(rt.alloc())?;
+        assert!(rt; told.as_str() == line);
     }
     Ok(())
 }

@@ -1,4 +1,5 @@
-ghost use Rattle.std.specs.Prelude.{◌≡◌, ◌+◌, ◌<◌, ◌≤◌, ◌++◌, ◌∷◌, [], length, IfOk, OnOk, OnErr};
+ghost use Rattle.std.specs.Prelude.{◌≡◌, ◌+◌, ◌<◌, ◌≤◌, ◌^◌, ◌++◌, ◌∷◌, [], length, IsTrue, IfOk, OnOk, OnErr};
+ghost use Rattle.lba_ranges.specs.Denoted.{total, is_within};
 ghost use Rattle.lba_ranges.specs.HeldBlocks.{IsFull};
 
 use super::*;
@@ -6,18 +7,34 @@ use cm_base::{Bytes, OutOfMemory, Payload};
 use std::alloc::Global;
 use std::test::Fail;
 
-/// Blocks 10, 11, 12, 20 and 21, and the part of them from 12 to 20.
-#[test]
-fn ranges(rt: HostRuntime) -> Result<(), Fail> {
-    let alloc = rt.alloc();
+/// Blocks 10, 11, 12, 20 and 21.
+fn two_ranges(alloc: Global) -> Result<RangeList, Fail>
+    ensures total { IfOk result (λ list. total list ≡ 5) }
+    ensures numbers { IfOk result (λ list. IsTrue (is_within (2 ^ 64) list)) }
+{
     let mut list = RangeList::empty(alloc);
     list.push(Range { lba: 10, count: 3 })?;
     list.push(Range { lba: 20, count: 2 })?;
-    let list = list.copy(alloc)?;
+    Ok(list.copy(alloc)?)
+}
+
+/// The list denotes these blocks, in order.
+fn denotes(alloc: Global, list: &RangeList, blocks: &[u64]) -> Result<bool, Fail>
+    requires { IsTrue (is_within (2 ^ 64) list.now) }
+{
+    let numbers = list.blocks(alloc)?;
+    Ok(numbers.as_slice() == blocks)
+}
+
+/// Two ranges, and the part of them from 12 to 20.
+#[test]
+fn ranges(rt: HostRuntime) -> Result<(), Fail> {
+    let alloc = rt.alloc();
+    let list = two_ranges(alloc)?;
     assert!(rt; list.total() == 5 && !list.overlap() && list.within(22) && !list.within(21));
-    assert!(rt; list.blocks(alloc)?.as_slice() == [10, 11, 12, 20, 21].as_slice());
+    assert!(rt; denotes(alloc, &list, &[10, 11, 12, 20, 21])?);
     let part = list.slice(alloc, 2, 2)?;
-    assert!(rt; part.blocks(alloc)?.as_slice() == [12, 20].as_slice());
+    assert!(rt; denotes(alloc, &part, &[12, 20])?);
     Ok(())
 }
 
@@ -46,9 +63,9 @@ fn ranges_with_room(rt: HostRuntime) -> Result<(), Fail> {
 }
 
 /// Two blocks of four bytes, two holes, and one more block.
-#[test]
-fn blocks(rt: HostRuntime) -> Result<(), Fail> {
-    let alloc = rt.alloc();
+fn five_blocks(alloc: Global) -> Result<BlockList, Fail>
+    ensures { IfOk result (λ list. length list.items ≡ 5) }
+{
     let bytes = Payload::copy_from_slice(alloc, &[1, 2, 3, 4, 5, 6, 7, 8])?;
     let mut list = BlockList::from_payload(alloc, 4, 2, bytes)?;
     list.push(Piece {
@@ -59,8 +76,16 @@ fn blocks(rt: HostRuntime) -> Result<(), Fail> {
         count: 1,
         fill: Fill::Hole,
     })?;
-    let last = Payload::copy_from_slice(alloc, &[9, 9, 9, 9])?;
-    list.append(BlockList::from_payload(alloc, 4, 1, last)?)?;
+    let bytes = Payload::copy_from_slice(alloc, &[9, 9, 9, 9])?;
+    let last = BlockList::from_payload(alloc, 4, 1, bytes)?;
+    list.append(last)?;
+    Ok(list)
+}
+
+#[test]
+fn blocks(rt: HostRuntime) -> Result<(), Fail> {
+    let alloc = rt.alloc();
+    let list = five_blocks(alloc)?;
     let list = list.copy(alloc)?;
     assert!(rt; list.blocks() == 5 && list.mapped() == 3);
     let mut read = Bytes::empty(alloc);
@@ -68,7 +93,16 @@ fn blocks(rt: HostRuntime) -> Result<(), Fail> {
     assert!(rt;
         read.as_slice() == [1, 2, 3, 4, 5, 6, 7, 8, 0, 0, 0, 0, 0, 0, 0, 0, 9, 9, 9, 9].as_slice()
     );
-    let items = list.slice(alloc, 1, 2)?.items(alloc)?;
+    Ok(())
+}
+
+/// The second block and the first hole of the five.
+#[test]
+fn items_of_blocks(rt: HostRuntime) -> Result<(), Fail> {
+    let alloc = rt.alloc();
+    let list = five_blocks(alloc)?;
+    let part = list.slice(alloc, 1, 2)?;
+    let items = part.items(alloc)?;
     assert_eq!(rt; items.len(), 2);
     assert!(rt; matches!(&items[0], Some(bytes) if bytes.as_slice() == [5, 6, 7, 8].as_slice()));
     assert!(rt; items[1].is_none());
@@ -124,13 +158,14 @@ fn pieces(alloc: Global) -> Result<BlockList, Fail>
     Ok(list)
 }
 
-/// What the blocks of a part hold, a byte each, and 0 where one is unmapped.
-fn read_part(alloc: Global, list: &BlockList, from: u64, count: u64) -> Result<Bytes, Fail>
-    requires { from + count ≤ length list.now.items }
+/// Whether the blocks of a part hold these bytes, one each, and 0 where one is unmapped.
+fn part_holds(alloc: Global, list: &BlockList, from: u64, bytes: &[u8]) -> Result<bool, Fail>
+    requires { from + length bytes.now ≤ length list.now.items }
 {
+    let part = list.slice(alloc, from, bytes.len() as u64)?;
     let mut read = Bytes::empty(alloc);
-    list.slice(alloc, from, count)?.read_into(&mut read)?;
-    Ok(read)
+    part.read_into(&mut read)?;
+    Ok(read.as_slice() == bytes)
 }
 
 fn holds(list: &BlockList, index: u64, byte: u8) -> bool {
@@ -152,13 +187,11 @@ fn blocks_at_the_borders_of_pieces(rt: HostRuntime) -> Result<(), Fail> {
 fn parts_across_the_borders_of_pieces(rt: HostRuntime) -> Result<(), Fail> {
     let alloc = rt.alloc();
     let list = pieces(alloc)?;
-    assert!(rt;
-        read_part(alloc, &list, 0, 9)?.as_slice() == [1, 2, 3, 0, 0, 6, 7, 0, 9].as_slice()
-    );
-    assert!(rt; read_part(alloc, &list, 1, 3)?.as_slice() == [2, 3, 0].as_slice());
-    assert!(rt; read_part(alloc, &list, 4, 2)?.as_slice() == [0, 6].as_slice());
-    assert!(rt; read_part(alloc, &list, 6, 3)?.as_slice() == [7, 0, 9].as_slice());
-    assert!(rt; read_part(alloc, &list, 8, 1)?.as_slice() == [9].as_slice());
-    assert!(rt; read_part(alloc, &list, 5, 0)?.as_slice() == [].as_slice());
+    assert!(rt; part_holds(alloc, &list, 0, &[1, 2, 3, 0, 0, 6, 7, 0, 9])?);
+    assert!(rt; part_holds(alloc, &list, 1, &[2, 3, 0])?);
+    assert!(rt; part_holds(alloc, &list, 4, &[0, 6])?);
+    assert!(rt; part_holds(alloc, &list, 6, &[7, 0, 9])?);
+    assert!(rt; part_holds(alloc, &list, 8, &[9])?);
+    assert!(rt; part_holds(alloc, &list, 5, &[])?);
     Ok(())
 }

@@ -29,7 +29,8 @@ fn read_of_three() -> Entry
 /// The 44 bytes were worked out by hand from docs/formats.md, and are read as the entry.
 #[test]
 fn a_read_as_bytes(rt: HostRuntime) -> Result<(), Fail> {
-    let text = write_entry(rt.alloc(), &read_of_three())?;
+    let entry = read_of_three();
+    let text = write_entry(rt.alloc(), &entry)?;
     let bytes = [
         0, 0, 0, 0, 0, 0, 0, 2, 0, 0, 0, 0, 0, 0, 1, 0, 0, 0, 0, 0, 0, 0, 1, 0, 0, 0, 0, 0, 0, 0,
         0, 1, 0, 0, 0, 0, 0, 0, 0, 0, 0, 0, 0, 3,

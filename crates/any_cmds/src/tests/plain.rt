@@ -1,4 +1,5 @@
 use super::driving;
+use super::script::{Came, Seen, plays};
 use cm_base::{Config, Payload, UnitConfig, UnitList};
 use cm_frame::{Reply, Request};
 use cm_history::{Act, Answer};
@@ -58,22 +59,31 @@ fn steps(rt: &HostRuntime, request: Request, outcome: Outcome) -> Result<(Step, 
     }
 }
 
+/// The step asks unit 0 to write the block to LBA 7.
+fn is_write(step: &Step) -> bool {
+    match step {
+        Step::Do {
+            unit: 0,
+            act: Act::Write { lba: 7, list },
+        } => list.blocks() == 1 && list.held(0) == Some(BLOCK.as_slice()),
+        _ => false,
+    }
+}
+
+/// The step is GOOD with these bytes.
+fn is_good(step: &Step, bytes: &[u8]) -> bool {
+    match step {
+        Step::Done(Reply::Good(data)) => data.as_slice() == bytes,
+        _ => false,
+    }
+}
+
 #[test]
 fn a_write_is_asked_and_done(rt: HostRuntime) -> Result<(), Fail> {
     let done = Outcome::Answered(Answer::Done);
     let (asked, told) = steps(&rt, request(0, WRITE, &BLOCK), done)?;
-    let Step::Do {
-        unit,
-        act: Act::Write { lba, list },
-    } = asked
-    else {
-        return Err(Fail::new("no Write"));
-    };
-    assert_eq!(rt; unit, 0);
-    assert_eq!(rt; lba, 7);
-    assert_eq!(rt; list.blocks(), 1);
-    assert!(rt; list.held(0) == Some(BLOCK.as_slice()));
-    assert!(rt; matches!(&told, Step::Done(Reply::Good(data)) if data.is_empty()));
+    assert!(rt; is_write(&asked));
+    assert!(rt; is_good(&told, &[]));
     Ok(())
 }
 
@@ -91,6 +101,14 @@ fn half_mapped(alloc: Global) -> Result<BlockList, Fail> {
     Ok(list)
 }
 
+/// The data of a step that is GOOD; no bytes of another.
+fn data_of(step: &Step) -> &[u8] {
+    match step {
+        Step::Done(Reply::Good(data)) => data.as_slice(),
+        _ => &[],
+    }
+}
+
 /// An unmapped block is read as zeros.
 #[test]
 fn a_read_is_asked_and_told(rt: HostRuntime) -> Result<(), Fail> {
@@ -98,17 +116,14 @@ fn a_read_is_asked_and_told(rt: HostRuntime) -> Result<(), Fail> {
     let (asked, told) = steps(&rt, request(0, READ, &[]), came)?;
     assert!(rt;
         matches!(
-            asked,
+            &asked,
             Step::Do {
                 unit: 0,
                 act: Act::Read { lba: 7, count: 2 }
             }
         )
     );
-    let Step::Done(Reply::Good(data)) = told else {
-        return Err(Fail::new("not GOOD"));
-    };
-    let bytes = data.as_slice();
+    let bytes = data_of(&told);
     assert_eq!(rt; bytes.len(), 1024);
     for (place, byte) in [(0, 0x5a), (511, 0x5a), (512, 0), (1023, 0)] {
         assert_eq!(rt; bytes.get(place), Some(&byte), "at {place}");
@@ -155,28 +170,23 @@ fn commands_are_refused(rt: HostRuntime) -> Result<(), Fail> {
     Ok(())
 }
 
-/// What a WRITE does after what came of its act.
-fn ending(rt: &HostRuntime, outcome: Outcome) -> Result<Step, Fail> {
-    let (_, told) = steps(rt, request(0, WRITE, &BLOCK), outcome)?;
-    Ok(told)
-}
-
 #[test]
 fn a_write_ends_as_it_must(rt: HostRuntime) -> Result<(), Fail> {
-    let over_quota = Answer::Refused(Sense::new(0x07, 0x27, 0x07));
-    let refused = ending(&rt, Outcome::Answered(over_quota))?;
-    assert!(rt; is_check(&refused, 0x07, 0x27, 0x07));
-    assert!(rt; matches!(&ending(&rt, Outcome::Full)?, Step::Done(Reply::Full)));
-    assert!(rt; matches!(&ending(&rt, Outcome::NoMemory)?, Step::Done(Reply::Busy)));
-    Ok(())
-}
-
-/// The step is GOOD with these bytes.
-fn is_good(step: &Step, bytes: &[u8]) -> bool {
-    match step {
-        Step::Done(Reply::Good(data)) => data.as_slice() == bytes,
-        _ => false,
+    let over_quota = Seen::Check {
+        key: 0x07,
+        asc: 0x27,
+        ascq: 0x07,
+    };
+    let ends = [
+        (Came::Refused(Sense::new(0x07, 0x27, 0x07)), over_quota),
+        (Came::Full, Seen::Full),
+        (Came::NoMemory, Seen::Busy),
+    ];
+    for (came, end) in ends {
+        let out = Payload::from_static(&BLOCK);
+        assert!(rt; plays(rt.alloc(), WRITE, out, &[(Seen::OtherAct, came)], end)?);
     }
+    Ok(())
 }
 
 /// The first command that is not at once GOOD with its bytes.
@@ -316,23 +326,36 @@ fn single_acts_are_refused(rt: HostRuntime) -> Result<(), Fail> {
     Ok(())
 }
 
+/// The step asks unit 1 to unmap two blocks from LBA 7 on, and no others.
+fn is_unmap(step: &Step) -> bool {
+    match step {
+        Step::Do {
+            unit: 1,
+            act: Act::Unmap { ranges },
+        } => ranges.len() == 1 && matches!(ranges.at(0), Range { lba: 7, count: 2 }),
+        _ => false,
+    }
+}
+
 #[test]
 fn an_unmap_is_asked_and_done(rt: HostRuntime) -> Result<(), Fail> {
     let unmap = encode(&Cdb::Unmap { length: 31 });
     let done = Outcome::Answered(Answer::Done);
     let (asked, told) = steps(&rt, request(1, unmap, UNMAP_LIST), done)?;
-    let Step::Do {
-        unit,
-        act: Act::Unmap { mut ranges },
-    } = asked
-    else {
-        return Err(Fail::new("no Unmap"));
-    };
-    assert_eq!(rt; unit, 1);
-    assert!(rt; matches!(ranges.pop(), Some(Range { lba: 7, count: 2 })));
-    assert!(rt; ranges.pop().is_none());
+    assert!(rt; is_unmap(&asked));
     assert!(rt; is_good(&told, &[]));
     Ok(())
+}
+
+/// The step asks unit 0 to unmap no blocks.
+fn is_empty_unmap(step: &Step) -> bool {
+    match step {
+        Step::Do {
+            unit: 0,
+            act: Act::Unmap { ranges },
+        } => ranges.len() == 0,
+        _ => false,
+    }
 }
 
 /// The list of an UNMAP may be empty.
@@ -340,15 +363,8 @@ fn an_unmap_is_asked_and_done(rt: HostRuntime) -> Result<(), Fail> {
 fn an_unmap_of_nothing_is_asked(rt: HostRuntime) -> Result<(), Fail> {
     let unmap = encode(&Cdb::Unmap { length: 0 });
     let (asked, told) = steps(&rt, request(0, unmap, &[]), Outcome::Full)?;
-    let Step::Do {
-        unit: 0,
-        act: Act::Unmap { ranges },
-    } = asked
-    else {
-        return Err(Fail::new("no Unmap"));
-    };
-    assert_eq!(rt; ranges.len(), 0);
-    assert!(rt; matches!(told, Step::Done(Reply::Full)));
+    assert!(rt; is_empty_unmap(&asked));
+    assert!(rt; matches!(&told, Step::Done(Reply::Full)));
     Ok(())
 }
 
@@ -378,7 +394,7 @@ fn runs_are_asked_and_told(rt: HostRuntime) -> Result<(), Fail> {
         let (asked, told) = status_told(&rt, length)?;
         assert!(rt;
             matches!(
-                asked,
+                &asked,
                 Step::Do {
                     unit: 0,
                     act: Act::MapStatus { lba: 7 }

@@ -1,5 +1,5 @@
 // Entries with a field that breaks its limit.
-use super::entries::{NEXUS, PUMP, text};
+use super::entries::{NEXUS, PUMP, is_short, text};
 use crate::read_entry;
 use cm_base::{OutOfMemory, Parsed};
 use std::alloc::Global;
@@ -80,11 +80,6 @@ fn is_bad(alloc: Global, bytes: &[u8], at: usize) -> Result<bool, OutOfMemory> {
         Parsed::Bad { place } => Ok(place == at as u64),
         _ => Ok(false),
     }
-}
-
-/// The bytes are too few to tell.
-fn is_short(alloc: Global, bytes: &[u8]) -> Result<bool, OutOfMemory> {
-    Ok(matches!(read_entry(alloc, bytes)?, Parsed::Short))
 }
 
 /// The fault is found as soon as all of its field is there, and then whatever follows.

@@ -25,8 +25,9 @@ impl ToldSink {
     fn new(alloc: Global, failing: u64) -> Result<ToldSink, Fail>
         ensures { IfOk result (λ s. IsAtEnd (⟦<ToldSink as Sink>⟧.taken s)) }
     {
+        let failing = CallList::copy(alloc, &[failing])?;
         Ok(ToldSink {
-            sink: MemorySink::new(alloc, 20, CallList::copy(alloc, &[failing])?),
+            sink: MemorySink::new(alloc, 20, failing),
             faults: 0,
         })
     }
@@ -104,7 +105,8 @@ fn record_all(alloc: Global, recorder: &mut SinkRecorder<ToldSink>) -> Result<()
     requires { (e : Entry) → ⟦<SinkRecorder<ToldSink> as Recorder>⟧.fits recorder.old e }
 {
     for place in 0..ENTRIES {
-        record(recorder, &entry_at(alloc, place)?)?;
+        let entry = entry_at(alloc, place)?;
+        record(recorder, &entry)?;
     }
     Ok(())
 }
@@ -115,13 +117,25 @@ fn record_some(alloc: Global, recorder: &mut SinkRecorder<ToldSink>) -> Result<u
     ensures { IfOk result (λ count. count ≤ 3) }
 {
     for place in 0..ENTRIES {
-        match recorder.record(&entry_at(alloc, place)?) {
+        let entry = entry_at(alloc, place)?;
+        match recorder.record(&entry) {
             Ok(()) => {}
             Err(RecordRefused::Failed) => return Ok(place),
             Err(_) => return Err(Fail::new("no memory")),
         }
     }
     Ok(ENTRIES)
+}
+
+/// A sink has the texts of the first entries, so many, and a part of one more.
+fn has_a_part(alloc: Global, sink: &MemorySink, count: usize) -> Result<bool, Fail>
+    requires { count ≤ 3 }
+{
+    let taken = sink.as_slice();
+    let whole = texts(alloc, count)?;
+    let next = texts(alloc, count + 1)?;
+    let begins = taken.starts_with(whole.as_slice()) && next.as_slice().starts_with(taken);
+    Ok(begins && taken.len() < next.len())
 }
 
 /// Where a push fails, the sink has the texts of the entries before, and a part of one more.
@@ -131,20 +145,17 @@ fn a_push_fails(rt: HostRuntime) -> Result<(), Fail> {
     for failing in 1..=PUSHES {
         let mut recorder = SinkRecorder::new(alloc, ToldSink::new(alloc, failing)?);
         let count = record_some(alloc, &mut recorder)?;
-        let ToldSink { sink, faults } = recorder.into_sink();
-        let next = texts(alloc, count + 1)?;
-        assert_eq!(rt; faults, 1, "push {failing}");
-        assert!(rt;
-            sink.as_slice().starts_with(texts(alloc, count)?.as_slice()),
-            "push {failing}"
-        );
-        assert!(rt;
-            next.as_slice().starts_with(sink.as_slice()),
-            "push {failing}"
-        );
-        assert!(rt; sink.as_slice().len() < next.len(), "push {failing}");
+        let told = recorder.into_sink();
+        assert_eq!(rt; told.faults, 1, "push {failing}");
+        assert!(rt; has_a_part(alloc, &told.sink, count)?, "push {failing}");
     }
     Ok(())
+}
+
+/// A sink has the texts of all entries.
+fn has_all(alloc: Global, sink: &MemorySink) -> Result<bool, Fail> {
+    let all = texts(alloc, ENTRIES)?;
+    Ok(sink.as_slice() == all.as_slice())
 }
 
 /// Each entry is in the sink once and whole, though a push failed.
@@ -154,13 +165,9 @@ fn records_go_on_after_a_failed_push(rt: HostRuntime) -> Result<(), Fail> {
     for failing in 1..=PUSHES + 1 {
         let mut recorder = SinkRecorder::new(alloc, ToldSink::new(alloc, failing)?);
         record_all(alloc, &mut recorder)?;
-        let ToldSink { sink, faults } = recorder.into_sink();
-        assert_eq!(rt; faults, u64::from(failing <= PUSHES), "push {failing}");
-        assert_eq!(rt;
-            sink.as_slice(),
-            texts(alloc, ENTRIES)?.as_slice(),
-            "push {failing}"
-        );
+        let told = recorder.into_sink();
+        assert_eq!(rt; told.faults, u64::from(failing <= PUSHES), "push {failing}");
+        assert!(rt; has_all(alloc, &told.sink)?, "push {failing}");
     }
     Ok(())
 }
