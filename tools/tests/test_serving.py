@@ -1,9 +1,11 @@
 """Programs that serve: what connections are replied, how they end, and the report."""
 
+import pathlib
 import socket
 import struct
 import subprocess
 import sys
+import tempfile
 import unittest
 
 from . import support
@@ -13,7 +15,7 @@ sys.path.insert(0, str(support.TOP / "clients/python"))
 # pylint: disable=wrong-import-position
 from copymgr import Ended, Server, Shape
 from copymgr.server import UnitReport, can_serve
-from replay import cdbs, frames, lists, rod_token, serving
+from replay import acts, cdbs, entries, frames, lists, player, rod_token, serving
 
 PLAIN = [str(support.TOOLS / "plain-serve")]
 PROGRAM = [support.PROGRAM, "serve"] if can_serve(support.PROGRAM) else None
@@ -38,9 +40,9 @@ class Links:
         if not self.WORDS:
             self.skipTest(NO_PROGRAM)
 
-    def start(self, sessions, shapes=()):
+    def start(self, sessions, shapes=(), folder=None):
         try:
-            server = Server(shapes or SHAPES, sessions, self.WORDS)
+            server = Server(shapes or SHAPES, sessions, self.WORDS, folder=folder)
         except Ended as error:
             self.skipTest(f"no sockets here: {error}")
         self.addCleanup(server.close)
@@ -177,6 +179,28 @@ class Plain(Serving, unittest.TestCase):
 
 class Program(Serving, unittest.TestCase):
     WORDS = PROGRAM
+
+    def test_entries_go_to_a_folder(self):
+        """Where the record is full it is written out; the rest is written in the end."""
+        shapes = [Shape(100, entries=4), Shape(100)]
+        folder = tempfile.TemporaryDirectory()
+        self.addCleanup(folder.cleanup)
+        server = self.start(1, shapes, folder.name)
+        link = self.link(server)
+        writes = [WRITE._replace(cdb=cdbs.encode(0x8A, lba=lba, count=2)) for lba in range(10)]
+        self.assertEqual(self.asked(link, *writes), GOOD * 10)
+        link.close()
+        report = server.report(SECONDS)
+        self.assertEqual((report.kept, report.units[0], report.total), (0, UnitReport(11, 0, 11), 12))
+        acted = [acts.Write(lba, [WRITE.out[:512], WRITE.out[512:]]) for lba in range(10)]
+        wanted = [entries.Entry(at + 1, 0, 512, 0, at, 0, act) for at, act in enumerate(acted)]
+        wanted.append(entries.Entry(11, 0, 512, player.PUMP, 0, 0, acts.Pump()))
+        # the moments are the clock's
+        found = pathlib.Path(folder.name, "unit-0").read_bytes()
+        for text in map(entries.text, wanted):
+            self.assertEqual((found[:23], found[31 : len(text)]), (text[:23], text[31:]))
+            found = found[len(text) :]
+        self.assertEqual(found, b"")
 
 
 class Floor(Links, unittest.TestCase):

@@ -7,7 +7,8 @@ import subprocess
 from .errors import Ended
 from .wire import PLAIN_SERVE, PROGRAM, frames
 
-Report = collections.namedtuple("Report", "sessions faults memory commands units total")
+# `kept` are the entries that were not written to a folder, where there was one
+Report = collections.namedtuple("Report", "sessions faults memory commands units total kept")
 UnitReport = collections.namedtuple("UnitReport", "steps live mapped")
 
 USAGE = 6
@@ -28,14 +29,15 @@ def default_server():
 
 
 class Server:
-    """A program that serves units of these shapes, from new ones on, to so many connections: `WORDS ADDRESS SESSIONS`.
+    """A program that serves units of these shapes, from new ones on, to so many connections: `WORDS ADDRESS SESSIONS`,
+    and behind them a folder for the records of the units, where there is one.
 
     Its `address` is where it serves. It ends when all connections have ended, and then gives its report.
     """
 
-    def __init__(self, shapes, sessions, words=None, host="127.0.0.1"):
+    def __init__(self, shapes, sessions, words=None, host="127.0.0.1", folder=None):
         pipe = subprocess.PIPE
-        words = [*(words or default_server()), f"{host}:0", str(sessions)]
+        words = [*(words or default_server()), f"{host}:0", str(sessions), *([folder] if folder else [])]
         self.program = subprocess.Popen(words, stdin=pipe, stdout=pipe, stderr=pipe)
         try:
             self.program.stdin.write(frames.header_bytes(frames.Machine(frames.SECRET, list(shapes))))
@@ -85,4 +87,4 @@ def report_of(text):
             name, number = line.split()
             counts[name] = int(number)
     names = ("sessions", "faults", "memory", "commands", "total")
-    return Report(units=units, **{name: counts[name] for name in names})
+    return Report(units=units, kept=counts.get("kept"), **{name: counts[name] for name in names})

@@ -15,3 +15,5 @@ pub mod Made
 pub mod Entering
 pub mod Leaving
 pub mod Closings
+pub mod Sent
+pub mod PublicLaws

@@ -5,3 +5,4 @@ pub mod Acting
 pub mod Refusing
 pub mod Seats
 pub mod PublicLaws
+pub mod Sent

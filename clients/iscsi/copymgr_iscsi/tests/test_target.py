@@ -87,10 +87,10 @@ class Logins(unittest.TestCase):
     def test_a_program_that_takes_no_more(self):
         self.behind = Behind(self, sessions=1)
         self.address = self.behind.listener.getsockname()
-        target.SECONDS, before = 0.5, target.SECONDS
-        self.addCleanup(setattr, target, "SECONDS", before)
         first = self.new()
         self.assertEqual(first.login(), 0)
+        target.SECONDS, before = 0.5, target.SECONDS
+        self.addCleanup(setattr, target, "SECONDS", before)
         self.assertEqual(self.new().login(), login.NO_SERVICE)
         self.assertEqual(first.command(0x00).status, GOOD)
 
