@@ -1,0 +1,13 @@
+use denote.Param.{param}
+use denote.Param.Send.{IsSend, sendable}
+use Rattle.cm_server.proofs.Sent.{ended_send, session_send}
+use Rattle.cm_server.proofs.sessions.beginning.begin.Goals as goal
+
+pub spawn_with-requires-send-F : goal.spawn_with-requires-send-F
+spawn_with-requires-send-F g c κs within =
+    let sent = λ (n : _) (ℓ ℓ' : _). session_send (param 2 g.row.R) (param 3 g.row.C) (param 4 g.row.G) (param 5 g.row.W) g.C.Clock g.R.Recorder
+    c.type_bounds.send-R c.type_bounds.sync-C c.type_bounds.sync-G c.type_bounds.sync-W n ℓ ℓ' (param 1 g.row.K) c.type_bounds.send-K in
+    search (sendable, sent) depth 20
+
+pub spawn_with-requires-send-T : goal.spawn_with-requires-send-T
+spawn_with-requires-send-T g c κs within = search (sendable, ended_send) depth 20
