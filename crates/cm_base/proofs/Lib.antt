@@ -1,4 +1,3 @@
-pub mod Spelled
 pub mod Writes
 pub mod Windows
 pub mod Pushed

@@ -1,5 +1,5 @@
-// The program: replays a recorded trace from standard input to standard output, or a generated one, checks the replies
-// that were recorded with a trace, or serves connections.
+// The program: replays a recorded trace from standard input to standard output, or a generated one, or checks the
+// replies that were recorded with a trace.
 #![tactic(auto)]
 
 #[cfg(test)]
@@ -12,32 +12,24 @@ mod random;
 mod ready;
 #[cfg(test)]
 mod rows;
-mod serving;
-#[cfg(test)]
-mod serving_tests;
 #[cfg(test)]
 mod sessions;
 mod status;
 #[cfg(test)]
 mod tests;
 mod top;
-mod unit_files;
 
 use cm_base::{OutOfMemory, StandardInput, StandardOutput, Word};
 use ready::{Empty, ReadyMemory, make_ready};
 use rtrb::RingBuffer;
-use serving::{are_serving, serve_words};
 use status::Status;
 use std::alloc::{AllocError, Global};
 use std::env::{self, Args};
-use std::fs::{File, Files};
-use std::io::{self, Eprint, Input, Print};
-use std::net::{Net, TcpListener, TcpStream};
+use std::io::{self, Input, Print};
 use std::process::ExitCode;
 use std::rt::Env;
 use std::sync::Wait;
 use std::thread::{self, Parker, Threads};
-use std::time::Clock;
 
 /// The words of the command line, without the program's name.
 fn words(alloc: Global, args: Args<Global>) -> Result<Vec<Word>, OutOfMemory> {
@@ -83,25 +75,12 @@ fn work<R: Threads + Wait + Input + Print + Sync>(
 }
 
 /// Does what the command line says. Words that are no text are words that the program doesn't know.
-fn run<
-    R: Threads
-        + Wait
-        + Env
-        + Input
-        + Print
-        + Eprint
-        + Files<File = File>
-        + Net<Listener = TcpListener, Stream = TcpStream>
-        + Clock
-        + Alloc<A = Global>
-        + Sync,
->(rt: &R) -> Status {
+fn run<R: Threads + Wait + Env + Input + Print + Alloc<A = Global> + Sync>(rt: &R) -> Status {
     let args = match env::args(rt) {
         Ok(args) => args,
         Err(error) => return unread(error),
     };
     match words(rt.alloc(), args) {
-        Ok(words) if are_serving(&words) => serve_words(rt, rt.alloc(), &words),
         Ok(words) => work(rt, rt.alloc(), &words).unwrap_or(Status::OutOfMemory),
         Err(OutOfMemory) => Status::OutOfMemory,
     }

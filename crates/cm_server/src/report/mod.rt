@@ -1,4 +1,0 @@
-// What is told when all connections were served.
-pub(crate) mod counts;
-pub(crate) mod keeping;
-pub(crate) mod text;
