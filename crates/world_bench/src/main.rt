@@ -9,8 +9,7 @@
 // where one differs.
 #![tactic(auto)]
 
-ghost use Rattle.std.specs.Prelude.{IfSome};
-ghost use Rattle.world_bench.specs.Jobs.{HasUnits};
+ghost use Rattle.std.specs.Prelude.{◌≤◌, IfSome};
 
 mod checking;
 mod failed;
@@ -41,7 +40,8 @@ struct Job {
 
 /// What the words ask for, if they are as above. The first is the program's name.
 fn read_words(mut words: Args<Global>) -> Option<Job>
-    ensures { IfSome result HasUnits }
+    ensures units { IfSome result (λ job. (1 ≤ job.work.units) × (job.work.units ≤ 16)) }
+    ensures threads { IfSome result (λ job. job.threads ≤ 65_534) }
 {
     let kind = match words.nth(1)?.as_str() {
         "blocks" => Kind::Blocks,
@@ -64,7 +64,8 @@ fn read_words(mut words: Args<Global>) -> Option<Job>
 
 /// Does what the words ask for, and tells how many entries there are in the end.
 fn run<R: Wait + Threads + Sync>(rt: &R, alloc: Global, job: Job) -> Result<usize, Failed>
-    requires { HasUnits job }
+    requires units { (1 ≤ job.work.units) × (job.work.units ≤ 16) }
+    requires threads { job.threads ≤ 65_534 }
 {
     let config = units_of(alloc, job.work.units)?;
     let (world, root) = World::new(alloc, &config)?;
