@@ -1,3 +1,4 @@
+pub mod Spelled
 pub mod Writes
 pub mod Windows
 pub mod Pushed

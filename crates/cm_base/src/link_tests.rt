@@ -143,6 +143,20 @@ fn sockets_are_read_and_written(rt: HostRuntime) -> Result<(), Fail> {
     Ok(())
 }
 
+/// A connection that is closed ends at the other end, and fails at this one.
+#[test]
+fn a_socket_is_closed(rt: HostRuntime) -> Result<(), Fail> {
+    let listener = listen(&rt)?;
+    let mut client = net::TcpStream::connect(&rt, listener.local_addr()?)?;
+    let mut link = TcpConnections::new(listener).accept()?;
+    link.close();
+    let mut bytes = [0; 4];
+    assert_eq!(rt; client.read(&mut bytes)?, 0);
+    assert_eq!(rt; link.pull(&mut bytes), Err(ReadFailed));
+    assert_eq!(rt; link.push(b"late"), Err(WriteFailed));
+    Ok(())
+}
+
 /// A read that would wait fails, and so does a write to a stream that was shut down.
 #[test]
 fn a_socket_fails(rt: HostRuntime) -> Result<(), Fail> {

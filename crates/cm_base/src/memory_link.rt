@@ -92,4 +92,9 @@ impl Link for MemoryLink {
     ghost pulls_apart = { λ k. refl };
 
     ghost pushes_apart = { λ k. refl };
+
+    /// A link in memory is kept whole, with what it took.
+    fn close(&mut self)
+        ensures { self.new ≡ self.old }
+    {}
 }

@@ -10,7 +10,8 @@ use std::net::{Shutdown, TcpListener, TcpStream};
 /// A connection over a TCP stream. It tells nothing of the bytes to come, and of those that it took.
 #[derive(Drop)]
 pub struct TcpLink {
-    stream: TcpStream,
+    /// None once the connection was ended: a pull or push fails then.
+    stream: Option<TcpStream>,
     read_faults: u64,
     write_faults: u64,
 }
@@ -24,7 +25,7 @@ impl TcpLink {
         ensures writes { ⟦<TcpLink as Sink>⟧.write_faults result ≡ 0 }
     {
         TcpLink {
-            stream,
+            stream: Some(stream),
             read_faults: 0,
             write_faults: 0,
         }
@@ -39,13 +40,13 @@ impl Source for TcpLink {
     ghost unpulled = { λ k. record { bytes = None; faults = k.write_faults } };
 
     fn pull(&mut self, into: &mut [u8]) -> Result<usize, ReadFailed> {
-        match self.stream.read(into) {
-            Ok(count) => Ok(count),
-            Err(_) => {
-                self.read_faults = self.read_faults.saturating_add(1);
-                Err(ReadFailed)
+        if let Some(stream) = &mut self.stream {
+            if let Ok(count) = stream.read(into) {
+                return Ok(count);
             }
         }
+        self.read_faults = self.read_faults.saturating_add(1);
+        Err(ReadFailed)
     }
 }
 
@@ -58,13 +59,14 @@ impl Sink for TcpLink {
 
     /// A stream that takes none of some bytes has failed.
     fn push(&mut self, from: &[u8]) -> Result<usize, WriteFailed> {
-        match self.stream.write(from) {
-            Ok(count) if count > 0 || from.is_empty() => Ok(count),
-            _ => {
-                self.write_faults = self.write_faults.saturating_add(1);
-                Err(WriteFailed)
+        if let Some(stream) = &mut self.stream {
+            match stream.write(from) {
+                Ok(count) if count > 0 || from.is_empty() => return Ok(count),
+                _ => {}
             }
         }
+        self.write_faults = self.write_faults.saturating_add(1);
+        Err(WriteFailed)
     }
 }
 
@@ -72,6 +74,13 @@ impl Link for TcpLink {
     ghost pulls_apart = { λ k. refl };
 
     ghost pushes_apart = { λ k. refl };
+
+    /// Ends both directions and closes the socket.
+    fn close(&mut self) {
+        if let Some(stream) = self.stream.take() {
+            stream.shutdown(Shutdown::Both).ok();
+        }
+    }
 }
 
 /// The connections that come to a TCP listener. It tells nothing of them.
@@ -120,9 +129,9 @@ impl Listener for TcpConnections {
         }
     }
 
-    /// Ends both directions of the connection, so that the other end sees it at once.
-    fn done(&mut self, link: TcpLink) {
-        link.stream.shutdown(Shutdown::Both).ok();
+    /// Ends the connection, where it was not ended before.
+    fn done(&mut self, mut link: TcpLink) {
+        link.close();
     }
 
     ghost told_together = { λ l. refl };

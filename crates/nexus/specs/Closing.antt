@@ -31,6 +31,7 @@ module _ {R : Type 0} (facts : R → RecorderFacts) (fits : R → Entry → Type
     -- without a recorder no entry is dropped
     pub unfolded : kin.opening.absent ≡ true → left.folded ≡ 0
     pub kept : left.history.entries ≡ drop left.folded history
+    pub absent : (facts left.recorder).absent ≡ kin.opening.absent
     pub recorded : (facts left.recorder).recorded ≡ with_more kin.opening.recorded (take left.folded history)
     pub fits_next : FirstFits (fits left.recorder) left.history.entries
     pub steps : left.count.steps ≡ length history

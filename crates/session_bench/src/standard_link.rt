@@ -45,6 +45,9 @@ impl<R: Read, W: Write> Sink for StandardLink<R, W> {
 }
 
 impl<R: Read, W: Write> Link for StandardLink<R, W> {
+    /// The streams are the process's, and end with it.
+    fn close(&mut self) {}
+
     ghost pulls_apart = { λ k. refl };
 
     ghost pushes_apart = { λ k. refl };

@@ -255,6 +255,7 @@ impl<R: Recorder + Drop> RecordedUnit<R> {
         ensures mapped { (h : List Entry) → StandsFor self h
             → result.count.mapped ≡ mapped (unit_of self.unit.config self.unit.unit) (past (kin_of self) h) }
         ensures recorder { facts R.recorded R.record_faults R.absent result.recorder ≡ self.recorder }
+        ensures absent { R.absent result.recorder ≡ self.opening.absent }
         ensures fits { FirstFits (R.fits result.recorder) result.history.entries }
     {
         let count = UnitCount {

@@ -22,6 +22,7 @@ returns g c =
       left_of = record {
         few = e.few s.seen stands;
         unfolded = e.unfolded;
+        absent = e.absent;
         kept = e.rest s.seen stands;
         recorded = ap (λ (r : RecorderFacts). r.recorded) e.recorder ∙ stands.recorded ∙ ap (λ n. with_more v.opening.recorded (take n s.seen)) (sym e.folded);
         fits_next = e.fits;
