@@ -15,6 +15,8 @@ It shares nothing with the program: it keeps lists and walks over them. The file
     requests.py   random requests
     traces.py     random traces
     entries.py    the entries of units' records, and their texts
+    written.py    those texts as files of units have them
+    recording.py  units whose records go to files
     sessions.py   random sessions, which are the commands of one connection
     compared.py   what a program wrote, beside the replies of a player
     serving.py    connections that are served

@@ -5,13 +5,18 @@ import tempfile
 from . import frames
 
 
+def first_difference(got, wanted):
+    """The first place at which they differ, or one of them ends."""
+    return next((i for i, (a, b) in enumerate(zip(got, wanted)) if a != b), min(len(got), len(wanted)))
+
+
 def difference(wrote, names, replies):
     """At which reply the bytes that were written differ, and from which of its bytes on; None where they are all."""
     at = 0
     for number, (name, reply) in enumerate(zip(names, replies)):
         got = wrote[at : at + len(reply)]
         if got != reply:
-            first = next((i for i, (a, b) in enumerate(zip(got, reply)) if a != b), len(got))
+            first = first_difference(got, reply)
             place = f"reply {number}, to {name}, at byte {at}, differs from its byte {first} on"
             return f"{place}: {got[:60].hex()} and not {reply[:60].hex()}"
         at += len(reply)

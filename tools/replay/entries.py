@@ -76,13 +76,29 @@ def text(entry):
     return front + fields(entry.act, entry.block_length)
 
 
+class Actors:
+    """What is known of actors beyond one unit: how many entries each has, and the stamp of its last one."""
+
+    def __init__(self):
+        self.asked = collections.Counter()
+        self.stamps = collections.Counter()
+
+    def next(self, actor, stamp):
+        """The stamp of an actor's next entry, on a unit whose last one has this stamp, and its number."""
+        seq = self.asked[actor]
+        self.asked[actor] += 1
+        self.stamps[actor] = 1 + max(stamp, self.stamps[actor])
+        return self.stamps[actor], seq
+
+
 class NotedUnit(Unit):
     """A unit that keeps its record. An act for which the record is full is no entry."""
 
-    def __init__(self, machine, number):
+    def __init__(self, machine, number, actors=None):
         super().__init__(machine, number)
         self.record = []
-        self.asked = collections.Counter()
+        self.actors = actors or Actors()
+        self.stamp = 0
 
     def act(self, actor, moment, act):
         try:
@@ -94,6 +110,6 @@ class NotedUnit(Unit):
         return answer
 
     def note(self, actor, moment, act):
-        stamp, seq = len(self.record) + 1, self.asked[actor]
-        self.asked[actor] += 1
-        self.record.append(Entry(stamp, self.number, self.shape.block_length, actor, seq, moment, act))
+        # the pump of each unit is an actor of its own
+        self.stamp, seq = self.actors.next((actor, self.number) if actor == PUMP else actor, self.stamp)
+        self.record.append(Entry(self.stamp, self.number, self.shape.block_length, actor, seq, moment, act))

@@ -59,9 +59,10 @@ class Pending:
 class Player:
     """How things stand between two items."""
 
-    def __init__(self, machine):
+    def __init__(self, machine, units=None):
+        """With new units, or with these."""
         self.machine = machine
-        self.units = [Unit(machine, number) for number in range(len(machine.shapes))]
+        self.units = units or [Unit(machine, number) for number in range(len(machine.shapes))]
         self.pending = {}
         self.replies = []
 

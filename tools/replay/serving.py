@@ -12,6 +12,7 @@ import time
 
 from . import acts, frames
 from .player import PUMP, Pending
+from .recording import recorded_units
 from .senses import BadInput, RecordFull
 from .unit import Unit
 
@@ -120,11 +121,13 @@ class Bell:
 
 
 class Server:
-    """Units that are served. One act at a time is done, whoever asks."""
+    """Units that are served. One act at a time is done, whoever asks. Their records may go to a folder."""
 
-    def __init__(self, machine):
+    def __init__(self, machine, folder=None):
         self.machine = machine
-        self.units = [Unit(machine, number) for number in range(len(machine.shapes))]
+        self.is_recorded = folder is not None
+        plain = [] if self.is_recorded else [Unit(machine, number) for number in range(len(machine.shapes))]
+        self.units = plain or recorded_units(machine, folder)
         self.turn = threading.Lock()
         self.bells = [Bell() for _ in self.units]
         self.sessions = self.faults = self.commands = 0
@@ -149,6 +152,8 @@ class Server:
             pump.join()
         for unit in self.units:
             self.pump(unit)
+            if self.is_recorded:
+                unit.fold()
 
     def session(self, nexus, link):
         """Serves one connection: each request is run when the reply to the one before it was sent."""
@@ -201,4 +206,6 @@ class Server:
             counts = f"steps {unit.entries} live {len(unit.live())} mapped {len(unit.held)}"
             lines.append(f"unit {unit.number} {counts}")
         lines.append(f"total {sum(unit.entries for unit in self.units)}")
+        if self.is_recorded:
+            lines.append(f"kept {sum(len(unit.record) for unit in self.units)}")
         return "".join(line + "\n" for line in lines)

@@ -57,25 +57,35 @@ class Unit:
         self.tokens = []
         self.operations = []
         self.entries = 0
+        # how many of them left the record, and what the Writes of the others hold
+        self.folded = 0
         self.payload = 0
 
     # ---- one act
 
     def act(self, actor, moment, act):
         """The answer to an act, which is kept in the record; or it is refused, or finds the record full."""
-        length = len(act.blocks) * self.shape.block_length if isinstance(act, Write) else 0
         served = self.served_by(actor, act)
-        if self.entries + self.reserved() + self.need(act, served) > self.shape.entries:
-            raise RecordFull
-        if length and self.payload + length > self.shape.payload:
+        if self.is_full(act, served):
             raise RecordFull
         self.entries += 1
-        self.payload += length
+        self.payload += self.length_of(act)
         self.moment = max(self.moment, moment)
         self.expire()
         if isinstance(act, (Advance, Pump, Abort, Close)):
             return self.serve(act, served)
         return getattr(self, "do_" + type(act).__name__.lower())(actor, act)
+
+    def is_full(self, act, served):
+        """Whether the record has no room for an act, which serves this operation or none."""
+        if self.entries - self.folded + self.reserved() + self.need(act, served) > self.shape.entries:
+            return True
+        length = self.length_of(act)
+        return length > 0 and self.payload + length > self.shape.payload
+
+    def length_of(self, act):
+        """The bytes of a Write."""
+        return len(act.blocks) * self.shape.block_length if isinstance(act, Write) else 0
 
     def reserved(self):
         return sum(operation.reserved() for operation in self.operations)

@@ -16,7 +16,7 @@ TOOLS = [
     "tools/trace", "tools/plain-replay", "tools/row", "tools/random-traces", "tools/run-tests",
     "tools/fail-allocations", "tools/check-repository", "tools/random-sessions", "tools/plain-serve",
     "tools/serving-load", "tools/fuzz", "tools/iscsi-clients", "clients/iscsi/iscsi-target", "bench/run",
-    "bench/run-sessions", "bench/generate.py", "bench/run-serving", "bench/floor.py",
+    "bench/run-sessions", "bench/generate.py", "bench/run-serving", "bench/floor.py", "tools/served-history",
 ]
 
 

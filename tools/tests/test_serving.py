@@ -146,6 +146,37 @@ class Serving(Links):
         # Start, five pieces and the Pump that finds none, the looks, and the last Pump
         self.reported(server, UnitReport(1 + 5 + 1 + looks + 1, 0, 0), sessions=1, commands=1 + looks)
 
+    def test_entries_go_to_a_folder(self):
+        """Where the record is full it is written out; the rest is written in the end."""
+        shapes = [Shape(100, entries=4), Shape(100)]
+        folder = tempfile.TemporaryDirectory()
+        self.addCleanup(folder.cleanup)
+        server = self.start(1, shapes, folder.name)
+        link = self.link(server)
+        writes = [WRITE._replace(cdb=cdbs.encode(0x8A, lba=lba, count=2)) for lba in range(10)]
+        self.assertEqual(self.asked(link, *writes), GOOD * 10)
+        link.close()
+        report = server.report(SECONDS)
+        self.assertEqual((report.kept, report.units[0], report.total), (0, UnitReport(11, 0, 11), 12))
+        acted = [acts.Write(lba, [WRITE.out[:512], WRITE.out[512:]]) for lba in range(10)]
+        wanted = [entries.Entry(at + 1, 0, 512, 0, at, 0, act) for at, act in enumerate(acted)]
+        wanted.append(entries.Entry(11, 0, 512, player.PUMP, 0, 0, acts.Pump()))
+        # the moments are the clock's
+        found = pathlib.Path(folder.name, "unit-0").read_bytes()
+        for text in map(entries.text, wanted):
+            self.assertEqual((found[:23], found[31 : len(text)]), (text[:23], text[31:]))
+            found = found[len(text) :]
+        self.assertEqual(found, b"")
+
+    def test_a_folder_that_is_not_there(self):
+        """No entry is written, and a record without room is full."""
+        server = self.start(1, [Shape(100, entries=4)], "/nowhere/at/all")
+        link = self.link(server)
+        self.assertEqual(self.asked(link, *[WRITE] * 5), GOOD * 4 + frames.full())
+        link.close()
+        report = server.report(SECONDS)
+        self.assertEqual((report.kept, report.total), (4, 4))
+
     def test_words_and_configurations(self):
         header = frames.header_bytes(frames.Machine(frames.SECRET, SHAPES))
         for words, data, status, said in [
@@ -179,28 +210,6 @@ class Plain(Serving, unittest.TestCase):
 
 class Program(Serving, unittest.TestCase):
     WORDS = PROGRAM
-
-    def test_entries_go_to_a_folder(self):
-        """Where the record is full it is written out; the rest is written in the end."""
-        shapes = [Shape(100, entries=4), Shape(100)]
-        folder = tempfile.TemporaryDirectory()
-        self.addCleanup(folder.cleanup)
-        server = self.start(1, shapes, folder.name)
-        link = self.link(server)
-        writes = [WRITE._replace(cdb=cdbs.encode(0x8A, lba=lba, count=2)) for lba in range(10)]
-        self.assertEqual(self.asked(link, *writes), GOOD * 10)
-        link.close()
-        report = server.report(SECONDS)
-        self.assertEqual((report.kept, report.units[0], report.total), (0, UnitReport(11, 0, 11), 12))
-        acted = [acts.Write(lba, [WRITE.out[:512], WRITE.out[512:]]) for lba in range(10)]
-        wanted = [entries.Entry(at + 1, 0, 512, 0, at, 0, act) for at, act in enumerate(acted)]
-        wanted.append(entries.Entry(11, 0, 512, player.PUMP, 0, 0, acts.Pump()))
-        # the moments are the clock's
-        found = pathlib.Path(folder.name, "unit-0").read_bytes()
-        for text in map(entries.text, wanted):
-            self.assertEqual((found[:23], found[31 : len(text)]), (text[:23], text[31:]))
-            found = found[len(text) :]
-        self.assertEqual(found, b"")
 
 
 class Floor(Links, unittest.TestCase):
