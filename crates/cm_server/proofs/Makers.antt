@@ -1,0 +1,245 @@
+-- Who made the entries of a world that was closed
+use Rattle.std.proofs.Common.{◌≡◌, ◌<◌, ◌≤◌, ℕ, suc, ◌+◌, ◌-◌, ◌^◌, List, [], ◌∷◌, ◌++◌, length, refl, ap, sym, ◌∙◌, subst, arith, false, inl, inr, append-nil}
+use Rattle.std.specs.Prelude.{◌⊎◌, ◌==◌, All, AllPairs, Contains}
+use Rattle.std.proofs.lemmas.Bool.{cases_eq, eqb-true}
+use Rattle.std.proofs.lemmas.List.Elements.{recursion_from_All, All-head, All-tail}
+use Rattle.std.proofs.lemmas.List.Kept.{AllPairs-filter}
+use mathlib.Core.List.{IsPrefix}
+use Rattle.cm_history.specs.Deeds.{Deed, last_stamp}
+use Rattle.cm_history.specs.History.{on, past_of}
+use Rattle.cm_history.specs.declared.act.Actor.{Actor}
+use Rattle.cm_history.specs.declared.act.Actor.TheVariants.{Nexus, Pump}
+use Rattle.cm_history.specs.declared.act.Entry.{Entry}
+use Rattle.cm_history.proofs.PublicLaws.{Each, Each-all, Each-by, Each-in, In, In-filter, filter-passes, past_of-on}
+use Rattle.cmd_program.specs.Exchanges.{calls_of}
+use Rattle.cmd_program.specs.Running.{Call}
+use Rattle.cm_server.specs.Served.{works_behind, IsIdle}
+use Rattle.cm_server.specs.inner.Pumping.{IsSomePump, IsLast, AreLast}
+use Rattle.cm_server.specs.inner.Sessions.{EndedSession, IsStart, IsSession, AreSessions}
+use Rattle.cm_server.proofs.Closed.{IsClosedWorld, SeesIn, Place, AtSpare, AtSession, AtWorker, AtLast, maker, place-of, all_passes, passes_of}
+use Rattle.cm_server.proofs.Passing.{prefix-in, led-ticket, led-stands, led-shown}
+use Rattle.merged_history.proofs.PublicLaws.{In-append}
+use Rattle.merged_history.specs.PassRules.{AreLonger, AreSeen}
+use Rattle.merged_history.specs.Passes.{of_unit}
+use Rattle.nexus.specs.Roots.{RootView}
+use Rattle.nexus.specs.Worlds.{WorldView, PassView}
+use Rattle.pass_register.specs.declared.known.Ticket.{Ticket}
+
+-- ---- lists
+
+pub all-each : {X : Type 0} (P : X → Type 0) (xs : List X) → All P xs → Each P xs
+all-each P [] all = tt
+all-each P (x ∷ xs) all = (All-head P x xs all, all-each P xs (All-tail P x xs all))
+
+in-middle : {X : Type 0} (xs ys : List X) (x : X) → In x (xs ++ x ∷ ys)
+in-middle [] ys x = inl refl
+in-middle (y ∷ xs) ys x = inr (in-middle xs ys x)
+
+In-append_right : {X : Type 0} (xs ys : List X) (x : X) → In x ys → In x (xs ++ ys)
+In-append_right [] ys x i = i
+In-append_right (y ∷ xs) ys x i = inr (In-append_right xs ys x i)
+
+-- what holds of each two in order holds of each element before this one
+pairs-before : {X : Type 0} (R : X → X → Type 0) (xs ys : List X) (x : X) → AllPairs R (xs ++ x ∷ ys) → Each (λ y. R y x) xs
+pairs-before R [] ys x all = tt
+pairs-before R (y ∷ xs) ys x all = (
+  Each-in (R y) (xs ++ x ∷ ys) x (all-each (R y) (xs ++ x ∷ ys) (λ k d low. all 0 (suc k) d (omega arith) (omega (arith, low)))) (in-middle xs ys x),
+  pairs-before R xs ys x (λ i j d lt low. all (suc i) (suc j) d (omega (arith, lt)) (omega (arith, low))),
+)
+
+-- of one unit stamps rise
+abbrev InOrder : Entry → Entry → Type 0
+InOrder a b = a.unit ≡ b.unit → a.stamp < b.stamp
+
+-- a beginning that has each element is all of the list
+whole-front : (xs more ys : List Entry) → xs ++ more ≡ ys → AllPairs InOrder ys → Each (λ (e : Entry). In e xs) ys → xs ≡ ys
+whole-front xs [] ys is order all = sym (append-nil xs) ∙ is
+whole-front xs (x ∷ more) ys is order all =
+    let here : In x xs = Each-in (λ (e : Entry). In e xs) ys x all (subst (In x) is (in-middle xs more x)) in
+    let before : Each (λ (y : Entry). InOrder y x) xs = pairs-before InOrder xs more x (subst (AllPairs InOrder) (sym is) order) in
+    let lower : x.stamp < x.stamp = Each-in (λ (y : Entry). InOrder y x) xs x before here refl in
+    absurd (omega (arith, lower))
+
+-- ---- sessions by their passes
+
+module _ (world : WorldView) (root : RootView) (Shows : ℕ → Type 0) where
+  -- a session, by its pass and its nexus
+  pub record IsSessionOf (n count : ℕ) (p : PassView) : Type 0 where
+    pub nexus : ℕ
+    pub session : EndedSession
+    pub low : n ≤ nexus
+    pub high : nexus < n + count
+    pub pass : session.pass ≡ p
+    pub start : IsStart world root nexus session.start
+    pub fact : IsSession world.config Shows nexus session
+
+  pub session-of : (n : ℕ) (ss : List EndedSession) (p : PassView) → AreSessions world root Shows n ss → In p (passes_of ss) → IsSessionOf n (length ss) p
+  session-of n [] p are i = absurd i
+  session-of n (s ∷ ss) p are (inl here) = record {
+    nexus = n;
+    session = s;
+    low = omega arith;
+    high = omega arith;
+    pass = here;
+    start = are.0;
+    fact = are.1;
+  }
+  session-of n (s ∷ ss) p are (inr i) =
+      let later = session-of (suc n) ss p are.2 i in
+      let a = later.low in
+      let b = later.high in
+      record {
+        nexus = later.nexus;
+        session = later.session;
+        low = omega (arith, a);
+        high = omega (arith, b);
+        pass = later.pass;
+        start = later.start;
+        fact = later.fact;
+      }
+
+  pub session-actor : (n : ℕ) (s : EndedSession) → IsStart world root n s.start → IsSession world.config Shows n s → s.pass.ticket.actor ≡ Nexus n
+  session-actor n s start fact =
+      ap (λ (t : Ticket). t.actor) (led-ticket s.start.pass (calls_of fact.spoken.exchanges) s.pass fact.spoken.made) ∙ start.pass.is
+
+  pub session-stands : (n : ℕ) (s : EndedSession) → IsStart world root n s.start → IsSession world.config Shows n s → AreSeen s.pass.seen s.pass.own
+  session-stands n s start fact =
+      led-stands s.start.pass (calls_of fact.spoken.exchanges) s.pass fact.spoken.made (subst (AreSeen s.start.pass.seen) (sym start.pass.none) tt)
+
+  pub session-shown : (n : ℕ) (s : EndedSession) → IsStart world root n s.start → IsSession world.config Shows n s → Each (λ (e : Entry). Shows e.moment) s.pass.own
+  session-shown n s start fact =
+      led-shown Shows s.start.pass (calls_of fact.spoken.exchanges) s.pass
+      (recursion_from_All (λ (c : Call). Shows c.moment) (calls_of fact.spoken.exchanges) fact.spoken.shown) fact.spoken.made
+      (subst (Each (λ (e : Entry). Shows e.moment)) (sym start.pass.none) tt)
+
+-- ---- last passes by their units
+
+module _ (world : WorldView) (Shows : ℕ → Type 0) (seen : List (List Entry)) where
+  pub last-of : (n : ℕ) (ps : List PassView) (p : PassView) → AreLast world Shows seen n ps → In p ps → (unit : ℕ) × (n ≤ unit) × IsLast world Shows seen unit p
+  last-of n [] p are i = absurd i
+  last-of n (x ∷ xs) p are (inl same) = (n, omega arith, subst (IsLast world Shows seen n) same are.0)
+  last-of n (x ∷ xs) p are (inr i) = let later = last-of (suc n) xs p are.1 i in let a = later.1 in (later.0, omega (arith, a), later.2)
+
+  pub last-at : (n : ℕ) (ps : List PassView) (unit : ℕ) → AreLast world Shows seen n ps → n ≤ unit → unit < n + length ps → (p : PassView) × In p ps × IsLast world Shows seen unit p
+  last-at n [] unit are low high = absurd (omega (arith, low, high))
+  last-at n (x ∷ xs) unit are low high = go (cases_eq n unit) (λ above. last-at (suc n) xs unit are.1 above (omega (arith, high)))
+    where
+      go : (n ≡ unit) ⊎ (n ≡ unit → ⊥) → (suc n ≤ unit → (p : PassView) × In p xs × IsLast world Shows seen unit p) → (p : PassView) × In p (x ∷ xs) × IsLast world Shows seen unit p
+      go (inl same) later = (x, inl refl, subst (λ u. IsLast world Shows seen u x) same are.0)
+      go (inr other) later = let found = later (omega (arith, low, other)) in (found.0, inr found.1, found.2)
+
+  one-unit : (p : PassView) (u v : ℕ) → p.ticket.actor ≡ Pump u → p.ticket.actor ≡ Pump v → u ≡ v
+  one-unit p u v a b = let same : Pump u ≡ Pump v = sym a ∙ b in cc
+
+  -- no two last passes are of one unit
+  pub last-same : (n : ℕ) (ps : List PassView) (p q : PassView) (unit : ℕ) → AreLast world Shows seen n ps → In p ps → In q ps
+      → p.ticket.actor ≡ Pump unit → q.ticket.actor ≡ Pump unit → p ≡ q
+  last-same n [] p q unit are i j a b = absurd i
+  last-same n (x ∷ xs) p q unit are (inl s) (inl t) a b = sym s ∙ t
+  last-same n (x ∷ xs) p q unit are (inl s) (inr j) a b =
+      let later = last-of (suc n) xs q are.1 j in
+      let here : n ≡ unit = one-unit p n unit (subst (λ (y : PassView). y.ticket.actor ≡ Pump n) s are.0.pump.actor) a in
+      let there : later.0 ≡ unit = one-unit q later.0 unit later.2.pump.actor b in
+      let above = later.1 in absurd (omega (arith, here, there, above))
+  last-same n (x ∷ xs) p q unit are (inr i) (inl t) a b =
+      let later = last-of (suc n) xs p are.1 i in
+      let here : n ≡ unit = one-unit q n unit (subst (λ (y : PassView). y.ticket.actor ≡ Pump n) t are.0.pump.actor) b in
+      let there : later.0 ≡ unit = one-unit p later.0 unit later.2.pump.actor a in
+      let above = later.1 in absurd (omega (arith, here, there, above))
+  last-same n (x ∷ xs) p q unit are (inr i) (inr j) a b = last-same (suc n) xs p q unit are.1 i j a b
+
+-- ---- all entries
+
+module _ (world : WorldView) (root : RootView) (Shows : ℕ → Type 0) (first : ℕ) (seen : List (List Entry)) (entries : List Entry) (high : List (List ℕ))
+    (spare : List PassView) (sessions : List EndedSession) (workers lasts : List PassView)
+    (is : IsClosedWorld world root Shows first seen entries high spare sessions workers lasts) where
+  abbrev Stood : PassView → Type 0
+  Stood p = Place world root Shows first seen entries high spare sessions workers lasts is p
+
+  -- each pass has the moments of its entries from the clock
+  shown-at : (p : PassView) → Stood p → Each (λ (e : Entry). Shows e.moment) p.own
+  shown-at p (AtSpare i) = subst (Each (λ (e : Entry). Shows e.moment)) (sym (Each-in (λ (x : PassView). x.own ≡ []) spare p is.spare_are i)) tt
+  shown-at p (AtSession i) =
+      let s = session-of world root Shows first sessions p is.are i in
+      subst (λ (x : PassView). Each (λ (e : Entry). Shows e.moment) x.own) s.pass (session-shown world root Shows s.nexus s.session s.start s.fact)
+  shown-at p (AtWorker i) = (Each-in (IsSomePump world Shows) workers p is.workers_are i).1.shown
+  shown-at p (AtLast i) = (last-of world Shows seen 0 lasts p is.lasts_are i).2.pump.shown
+
+  -- each entry has a moment that the clock shows
+  pub all-shown : All (λ (e : Entry). Contains [] e ⊎ Shows e.moment) entries
+  all-shown =
+      Each-all (λ (e : Entry). Contains [] e ⊎ Shows e.moment) entries
+      (Each-by (λ (e : Entry). Contains [] e ⊎ Shows e.moment) entries
+      (λ e i. (let m = maker world root Shows first seen entries high spare sessions workers lasts is e i in
+      inr (Each-in (λ (x : Entry). Shows x.moment) m.0.own e (shown-at m.0 (place-of world root Shows first seen entries high spare sessions workers lasts is m.0 m.1)) m.3))))
+
+  -- a pump, or the nexus of a session
+  abbrev pub IsOfServed : Actor → Type 0
+  IsOfServed (Pump unit) = Unit {0}
+  IsOfServed (Nexus n) = (first ≤ n) × (n < first + length sessions)
+
+  of-served : (p : PassView) → Stood p → (e : Entry) → In e p.own → IsOfServed p.ticket.actor
+  of-served p (AtSpare i) e j = absurd (subst (In e) (Each-in (λ (x : PassView). x.own ≡ []) spare p is.spare_are i) j)
+  of-served p (AtSession i) e j =
+      let s = session-of world root Shows first sessions p is.are i in
+      subst IsOfServed (sym (session-actor world root Shows s.nexus s.session s.start s.fact) ∙ ap (λ (x : PassView). x.ticket.actor) s.pass) (s.low, s.high)
+  of-served p (AtWorker i) e j = subst IsOfServed (sym (Each-in (IsSomePump world Shows) workers p is.workers_are i).1.actor) tt
+  of-served p (AtLast i) e j = subst IsOfServed (sym (last-of world Shows seen 0 lasts p is.lasts_are i).2.pump.actor) tt
+
+  -- each entry is a pump's or a session's
+  pub all-served : Each (λ (e : Entry). IsOfServed e.actor) entries
+  all-served =
+      Each-by (λ (e : Entry). IsOfServed e.actor) entries
+      (λ e i. (let m = maker world root Shows first seen entries high spare sessions workers lasts is e i in
+      subst IsOfServed m.2 (of-served m.0 (place-of world root Shows first seen entries high spare sessions workers lasts is m.0 m.1) e m.3)))
+
+  -- ---- each unit is idle
+
+  -- what stood in what was seen of a unit before stands in what its last pass has seen
+  stood-in : (unit : ℕ) (p q : PassView) (e : Entry) → IsLast world Shows seen unit p → AreLonger q.seen seen → AreSeen q.seen q.own → In e q.own → e.unit ≡ unit → In e (of_unit p.seen unit)
+  stood-in unit p q e last longer stands i here =
+      let was : In e (of_unit q.seen unit) = subst (λ u. In e (of_unit q.seen u)) here (Each-in (λ (x : Entry). In x (of_unit q.seen x.unit)) q.own e stands i) in
+      prefix-in (of_unit seen unit) (of_unit p.seen unit) e (last.longer unit) (prefix-in (of_unit q.seen unit) (of_unit seen unit) e (longer unit) was)
+
+  front-longer : (q : PassView) → In q ((spare ++ passes_of sessions) ++ workers) → AreLonger q.seen seen
+  front-longer q i = Each-in (λ (x : PassView). AreLonger x.seen seen) ((spare ++ passes_of sessions) ++ workers) q is.earlier i
+
+  last-has : (unit : ℕ) (p q : PassView) (e : Entry) → In p lasts → IsLast world Shows seen unit p → Stood q → In e q.own → e.unit ≡ unit → In e (of_unit p.seen unit)
+  last-has unit p q e at last (AtSpare j) i here = absurd (subst (In e) (Each-in (λ (x : PassView). x.own ≡ []) spare q is.spare_are j) i)
+  last-has unit p q e at last (AtSession j) i here =
+      let s = session-of world root Shows first sessions q is.are j in
+      let stands = subst (λ (x : PassView). AreSeen x.seen x.own) s.pass (session-stands world root Shows s.nexus s.session s.start s.fact) in
+      let there = In-append (spare ++ passes_of sessions) workers q (In-append_right spare (passes_of sessions) q j) in
+      stood-in unit p q e last (front-longer q there) stands i here
+  last-has unit p q e at last (AtWorker j) i here =
+      let w = Each-in (IsSomePump world Shows) workers q is.workers_are j in
+      stood-in unit p q e last (front-longer q (In-append_right (spare ++ passes_of sessions) workers q j)) w.1.stands i here
+  last-has unit p q e at last (AtLast j) i here =
+      let l = last-of world Shows seen 0 lasts q is.lasts_are j in
+      let one : l.0 ≡ unit = sym (Each-in (λ (x : Entry). x.unit ≡ l.0) q.own e l.2.pump.on_unit i) ∙ here in
+      let same : q ≡ p = last-same world Shows seen 0 lasts q p unit is.lasts_are j at (l.2.pump.actor ∙ ap Pump one) last.pump.actor in
+      let has : In e (of_unit q.seen unit) = subst (λ u. In e (of_unit q.seen u)) here (Each-in (λ (x : Entry). In x (of_unit q.seen x.unit)) q.own e l.2.pump.stands i) in
+      subst (λ (x : PassView). In e (of_unit x.seen unit)) same has
+
+  -- no entry of a unit came behind what its last pass has seen
+  pub last-sees : (unit : ℕ) (p : PassView) → In p lasts → IsLast world Shows seen unit p → of_unit p.seen unit ≡ on unit entries
+  last-sees unit p at last =
+      let begins : IsPrefix (of_unit p.seen unit) (on unit entries) =
+      Each-in (SeesIn entries) (all_passes spare sessions workers lasts) p is.seen_in (In-append_right ((spare ++ passes_of sessions) ++ workers) lasts p at) unit in
+      whole-front (of_unit p.seen unit) begins.0 (on unit entries) begins.1 (AllPairs-filter InOrder (λ (e : Entry). e.unit == unit) entries is.legal.rising)
+      (Each-by (λ (e : Entry). In e (of_unit p.seen unit)) (on unit entries)
+      (λ e i. (let there = In-filter (λ (x : Entry). x.unit == unit) entries e i in
+      let here : e.unit ≡ unit = eqb-true e.unit unit (filter-passes (λ (x : Entry). x.unit == unit) entries e i) in
+      let m = maker world root Shows first seen entries high spare sessions workers lasts is e there in
+      last-has unit p m.0 e at last (place-of world root Shows first seen entries high spare sessions workers lasts is m.0 m.1) m.3 here)))
+
+  -- the past of a unit that is idle
+  abbrev Idles : List Deed → Type 0
+  Idles past = (works_behind past ≡ false) ⊎ (last_stamp past ≡ 2 ^ 64 - 1)
+
+  -- at the end each unit is idle
+  pub all-idle : (unit : ℕ) → unit < length world.config.units → IsIdle world.config entries unit
+  all-idle unit low =
+      let count = is.each_unit in
+      let l = last-at world Shows seen 0 lasts unit is.lasts_are (omega arith) (omega (arith, low, count)) in
+      subst Idles (ap (past_of world.config unit) (last-sees unit l.0 l.1 l.2) ∙ past_of-on world.config unit entries) l.2.idle

@@ -1,0 +1,77 @@
+-- The sessions, between the start and the stop of the pumps
+use Rattle.std.proofs.Common.{◌≡◌, ◌≢◌, ℕ, suc, List, [], ◌∷◌, length, refl, ap, sym, ◌∙◌, subst}
+use Rattle.std.specs.Prelude.{Option, map}
+use Rattle.std.proofs.lemmas.List.{length-map}
+use Rattle.cm_base.specs.Configuration.{Configuration}
+use Rattle.cm_base.specs.Listening.{Gone}
+use Rattle.cm_history.proofs.PublicLaws.{Each}
+use Rattle.cm_server.specs.declared.serving.Ran.{Ran}
+use Rattle.cm_server.specs.declared.sessions.accepting.AcceptEnd.{AcceptEnd}
+use Rattle.cm_server.specs.declared.sessions.beginning.Begun.{Begun}
+use Rattle.cm_server.specs.inner.Begun.{AreBegun, HaveBegun, HaveEnded, WereBegun}
+use Rattle.cm_server.specs.inner.Counting.{AreCounts}
+use Rattle.cm_server.specs.inner.Links.{LinkState}
+use Rattle.cm_server.specs.inner.Passes.{IsFree}
+use Rattle.cm_server.specs.inner.Running.{HasRan, HaveTalked, UnlessWanted}
+use Rattle.cm_server.specs.inner.Serving.{HasServed}
+use Rattle.cm_server.specs.inner.Sessions.{Start, EndedSession, AreStarts}
+use Rattle.cm_server.specs.inner.Working.{HaveStarted, HaveStopped}
+use Rattle.cm_server.proofs.Begins.{begun-count}
+use Rattle.cm_server.proofs.Composing.{have-talked, has-served}
+use Rattle.nexus.specs.Roots.{RootView}
+use Rattle.nexus.specs.Worlds.{WorldView}
+use Rattle.session.specs.declared.end.SessionEnd.{SessionEnd}
+
+-- ---- what is said unless memory was wanted
+
+pub unless : (end : AcceptEnd) (P : Type 0) → P → UnlessWanted end P
+unless AcceptEnd.OutOfMemory P p = tt
+unless AcceptEnd.All P p = p
+unless AcceptEnd.Failed P p = p
+
+pub unless-then : (end : AcceptEnd) (P Q : Type 0) → (P → Q) → UnlessWanted end P → UnlessWanted end Q
+unless-then AcceptEnd.OutOfMemory P Q f p = tt
+unless-then AcceptEnd.All P Q f p = f p
+unless-then AcceptEnd.Failed P Q f p = f p
+
+pub unless-not : (end : AcceptEnd) (P : Type 0) → end ≢ AcceptEnd.OutOfMemory → UnlessWanted end P → P
+unless-not AcceptEnd.OutOfMemory P not p = absurd (not refl)
+unless-not AcceptEnd.All P not p = p
+unless-not AcceptEnd.Failed P not p = p
+
+-- ---- the sessions
+
+pub starts-free : (world : WorldView) (root : RootView) (n : ℕ) (ss : List Start) → AreStarts world root n ss → Each (λ (s : Start). IsFree world s.pass) ss
+starts-free world root n [] are = tt
+starts-free world root n (s ∷ ss) are = (are.0.pass.free, starts-free world root (suc n) ss are.1)
+
+module _ {K R C : Type 0} (state : K → LinkState) (shows : C → ℕ → Type 0) (config : Configuration) (clock : C) (world : WorldView) (items : List (Begun K R C)) where
+  -- those that were begun have ended
+  pub ran-sessions : (ran : Ran) (count : ℕ) (zero one two : RootView) (coming middle rest : Option (List (List ℕ))) (gone between given : Option (List Gone))
+      → (starts : List Start) × AreBegun state shows config clock 0 starts items × HaveBegun world 0 zero one coming middle starts
+      → WereBegun ran.end count (length items) → rest ≡ middle → between ≡ gone
+      → ((first : ℕ) (starts : List Start) → Each (λ (s : Start). IsFree world s.pass) starts → AreBegun state shows config clock first starts items
+      → (sessions : List EndedSession) × HaveEnded world (shows clock) first starts one two between given sessions × AreCounts (map (λ (s : EndedSession). s.end) sessions) ran.counts)
+      → UnlessWanted ran.end ((ends : List SessionEnd) × HasRan ran count ends × HaveTalked world (shows clock) 0 zero two coming rest gone given ends)
+  ran-sessions ran count zero one two coming middle rest gone between given begun were same kept ended =
+      let starts = begun.0 in
+      let have = begun.2 in
+      let e = ended 0 starts (starts-free world zero 0 starts have.are) begun.1 in
+      let many : length (map (λ (s : EndedSession). s.end) e.0) ≡ length items =
+      length-map e.0 (λ (s : EndedSession). s.end) ∙ sym (length-map e.0 (λ (s : EndedSession). s.start)) ∙ ap (λ (l : List Start). length l) e.1.begun_so
+      ∙ begun-count state shows config clock 0 starts items begun.1 in
+      let talked = have-talked world (shows clock) 0 zero one two coming rest gone given starts e.0 (subst (λ r. HaveBegun world 0 zero one coming r starts) (sym same) have)
+      (subst (λ g. HaveEnded world (shows clock) 0 starts one two g given e.0) kept e.1) in
+      unless ran.end ((ends : List SessionEnd) × HasRan ran count ends × HaveTalked world (shows clock) 0 zero two coming rest gone given ends)
+      (map (λ (s : EndedSession). s.end) e.0, record { counts_are = e.2; were = subst (WereBegun ran.end count) (sym many) were }, talked)
+
+-- beside the pumps
+pub ran-beside : (world : WorldView) (Shows : ℕ → Type 0) (ran : Ran) (count workers : ℕ) (zero one two three : RootView) (coming rest : Option (List (List ℕ)))
+    (gone given : Option (List Gone)) → HaveStarted world zero one workers
+    → UnlessWanted ran.end ((ends : List SessionEnd) × HasRan ran count ends × HaveTalked world Shows 0 one two coming rest gone given ends)
+    → HaveStopped world Shows two three workers
+    → UnlessWanted ran.end ((ends : List SessionEnd) × HasRan ran count ends × HasServed world Shows 0 zero three coming rest gone given ends)
+ran-beside world Shows ran count workers zero one two three coming rest gone given started talked stopped =
+    unless-then ran.end ((ends : List SessionEnd) × HasRan ran count ends × HaveTalked world Shows 0 one two coming rest gone given ends)
+    ((ends : List SessionEnd) × HasRan ran count ends × HasServed world Shows 0 zero three coming rest gone given ends)
+    (λ t. (t.0, t.1, has-served world Shows 0 workers zero one two three coming rest gone given t.0 started t.2 stopped)) talked

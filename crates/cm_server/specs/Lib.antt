@@ -1,0 +1,10 @@
+pub mod Runs
+pub mod Talks
+pub mod Reports
+pub mod Served
+pub mod Words
+pub mod Headers
+pub mod Ends
+pub mod Recorders
+pub mod Serving
+pub mod inner

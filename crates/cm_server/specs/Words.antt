@@ -1,0 +1,26 @@
+-- The words that ask for serving
+use Rattle.std.specs.Prelude.{◌≡◌, ◌≢◌, ℕ, ◌≤◌, List, [], ◌∷◌, Some, slice_get, codes, decimal}
+
+-- 1 to 256 sessions
+abbrev pub AreSessions : ℕ → Type 0
+AreSessions sessions = (1 ≤ sessions) × (sessions ≤ 256)
+
+-- the word does not begin with `-`
+abbrev pub IsPlain : List ℕ → Type 0
+IsPlain word = slice_get word 0 ≢ Some 0x2d
+
+-- the word `serve`, an address, and a number of sessions without a sign or a leading zero
+pub record AreServeWords (words : List (List ℕ)) (sessions : ℕ) : Type 0 where
+  pub address : List ℕ
+  pub spelled : words ≡ codes "serve" ∷ address ∷ decimal sessions ∷ []
+  pub plain : IsPlain address
+  pub few : AreSessions sessions
+
+-- the same with a folder behind them, which has a name
+pub record AreRecordWords (words : List (List ℕ)) (sessions : ℕ) : Type 0 where
+  pub address : List ℕ
+  pub folder : List ℕ
+  pub spelled : words ≡ codes "serve" ∷ address ∷ decimal sessions ∷ folder ∷ []
+  pub plain : IsPlain address × IsPlain folder
+  pub named : folder ≢ []
+  pub few : AreSessions sessions

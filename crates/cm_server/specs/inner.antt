@@ -1,0 +1,15 @@
+pub mod Links
+pub mod Passes
+pub mod Trails
+pub mod Sessions
+pub mod Pumping
+pub mod Serving
+pub mod Asking
+pub mod Few
+pub mod Counting
+pub mod Begun
+pub mod Working
+pub mod Settling
+pub mod Running
+pub mod Recording
+pub mod Left

@@ -1,0 +1,41 @@
+ghost use Rattle.std.specs.Prelude.{◌≡◌, ℕ, slice_get, Some, IfSome, IfNone, true, false};
+ghost use Rattle.cm_server.specs.Words.{AreServeWords, AreRecordWords, IsPlain};
+
+use cm_base::Word;
+
+/// Connections that may be asked for.
+const MOST_SESSIONS: u32 = 256;
+
+/// The word does not begin with `-`.
+fn is_plain(word: &Word) -> bool
+    ensures plain { result ≡ true → IsPlain word.now }
+    ensures other { result ≡ false → slice_get word.now 0 ≡ Some 0x2d }
+{
+    !matches!(word.as_slice(), [b'-', ..])
+}
+
+/// How many connections the words ask for, where they are `serve ADDRESS SESSIONS`.
+pub(crate) fn sessions_asked(words: &[Word]) -> Option<u32>
+    ensures asked { IfSome result (λ n. AreServeWords words.now n) }
+    ensures other { IfNone result ((n : ℕ) → AreServeWords words.now n → ⊥) }
+{
+    match words {
+        [word, address, number] if word.as_slice() == b"serve".as_slice() && is_plain(address) => {
+            number.number(MOST_SESSIONS)
+        }
+        _ => None,
+    }
+}
+
+/// How many connections the words ask for, where they are `serve ADDRESS SESSIONS FOLDER`.
+pub(crate) fn sessions_asked_with_folder(words: &[Word]) -> Option<u32>
+    ensures asked { IfSome result (λ n. AreRecordWords words.now n) }
+    ensures other { IfNone result ((n : ℕ) → AreRecordWords words.now n → ⊥) }
+{
+    match words {
+        [front @ .., folder] if !folder.as_slice().is_empty() && is_plain(folder) => {
+            sessions_asked(front)
+        }
+        _ => None,
+    }
+}

@@ -1,0 +1,20 @@
+// Serves many connections side by side: each has a pass and a thread of its own, and beside them a pump works on each
+// unit (own profile: no standard speaks of it).
+#![tactic(auto)]
+
+mod asking;
+mod by_pass;
+mod pumps;
+mod report;
+mod served;
+mod serving;
+mod sessions;
+mod shared;
+mod status;
+
+pub use served::{RecorderList, Served, serve, serve_at, serve_with};
+pub use sessions::meet::{Meet, NoMeet};
+pub use status::Status;
+
+#[cfg(test)]
+mod tests;
