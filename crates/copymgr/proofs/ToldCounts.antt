@@ -102,6 +102,7 @@ tells rounds summary pushed Status.ReadFault a p = p
 tells rounds summary pushed (Status.Torn place) a p = p
 tells rounds summary pushed (Status.BadHeader place) a p = p
 tells rounds summary pushed Status.Usage a p = p
+tells rounds summary pushed Status.AcceptFault a p = p
 tells rounds summary pushed (Status.BadRecord place) a p = absurd p
 tells rounds summary pushed Status.Records a p = p
 tells rounds summary pushed (Status.Differs place) a p = p

@@ -46,6 +46,7 @@ IsTold rounds pushed Status.ReadFault = ⊥
 IsTold rounds pushed (Status.Torn place) = ⊥
 IsTold rounds pushed (Status.BadHeader place) = ⊥
 IsTold rounds pushed Status.Usage = ⊥
+IsTold rounds pushed Status.AcceptFault = ⊥
 IsTold rounds pushed Status.Records = ⊥
 IsTold rounds pushed (Status.Differs place) = ⊥
 

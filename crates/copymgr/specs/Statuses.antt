@@ -3,6 +3,7 @@ use Rattle.std.specs.Prelude.{ℕ, Result, Ok, Err}
 use Rattle.trace_replay.specs.declared.summary.Summary.{Summary}
 use Rattle.trace_replay.specs.declared.fault.ReplayFault.{ReplayFault}
 use Rattle.trace_check.specs.declared.checker.CheckEnd.{CheckEnd}
+use Rattle.cm_server.specs.declared.status.Status.{Status as ServeStatus}
 use Rattle.copymgr.specs.declared.status.Status.{Status}
 
 -- each fault ends the program in a status of its own
@@ -26,6 +27,15 @@ check_status (Ok CheckEnd.Yes) = Status.Done
 check_status (Ok (CheckEnd.Differs place)) = Status.Differs place
 check_status (Err fault) = fault_status fault
 
+-- after serving
+abbrev pub serve_status : ServeStatus → Status
+serve_status ServeStatus.Done = Status.Done
+serve_status ServeStatus.WriteFault = Status.WriteFault
+serve_status ServeStatus.OutOfMemory = Status.OutOfMemory
+serve_status (ServeStatus.BadHeader place) = Status.BadHeader place
+serve_status ServeStatus.Usage = Status.Usage
+serve_status ServeStatus.AcceptFault = Status.AcceptFault
+
 abbrev pub code_of : Status → ℕ
 code_of Status.Done = 0
 code_of Status.ReadFault = 1
@@ -36,4 +46,5 @@ code_of (Status.BadHeader place) = 5
 code_of Status.Usage = 6
 code_of (Status.BadRecord place) = 7
 code_of Status.Records = 8
+code_of Status.AcceptFault = 9
 code_of (Status.Differs place) = 10

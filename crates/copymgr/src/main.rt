@@ -1,5 +1,5 @@
-// The program: replays a recorded trace from standard input to standard output, or a generated one, or checks the
-// replies that were recorded with a trace.
+// The program: replays a recorded trace from standard input to standard output, or a generated one, checks the replies
+// that were recorded with a trace, or serves connections.
 #![tactic(auto)]
 
 #[cfg(test)]
@@ -12,22 +12,26 @@ mod random;
 mod ready;
 #[cfg(test)]
 mod rows;
+mod serving;
+#[cfg(test)]
+mod serving_tests;
 #[cfg(test)]
 mod sessions;
 mod status;
 #[cfg(test)]
 mod tests;
 mod top;
+mod unit_files;
 
 use cm_base::{OutOfMemory, StandardInput, StandardOutput, Word};
 use ready::{Empty, ReadyMemory, make_ready};
 use rtrb::RingBuffer;
+use serving::{are_serving, serve_words};
 use status::Status;
 use std::alloc::{AllocError, Global};
 use std::env::{self, Args};
 use std::io::{self, Input, Print};
 use std::process::ExitCode;
-use std::rt::Env;
 use std::sync::Wait;
 use std::thread::{self, Parker, Threads};
 
@@ -75,19 +79,20 @@ fn work<R: Threads + Wait + Input + Print + Sync>(
 }
 
 /// Does what the command line says. Words that are no text are words that the program doesn't know.
-fn run<R: Threads + Wait + Env + Input + Print + Alloc<A = Global> + Sync>(rt: &R) -> Status {
-    let args = match env::args(rt) {
+fn run<R: Threads + Wait + Input + Print + Sync>(rt: &R, host: &HostRuntime) -> Status {
+    let args = match env::args(host) {
         Ok(args) => args,
         Err(error) => return unread(error),
     };
-    match words(rt.alloc(), args) {
-        Ok(words) => work(rt, rt.alloc(), &words).unwrap_or(Status::OutOfMemory),
+    match words(host.alloc(), args) {
+        Ok(words) if are_serving(&words) => serve_words(rt, host, host.alloc(), &words),
+        Ok(words) => work(rt, host.alloc(), &words).unwrap_or(Status::OutOfMemory),
         Err(OutOfMemory) => Status::OutOfMemory,
     }
 }
 
 fn main(rt: HostRuntime) -> ExitCode {
-    let status = run(&rt);
+    let status = run(&rt, &rt);
     let code = status.code();
     if code != 0 {
         let _ = eprintln!(rt; "copymgr: {status}");

@@ -1,6 +1,7 @@
 ghost use Rattle.std.specs.Prelude.{◌≡◌};
-ghost use Rattle.copymgr.specs.Statuses.{code_of, fault_status, status_of, check_status};
+ghost use Rattle.copymgr.specs.Statuses.{code_of, fault_status, status_of, check_status, serve_status};
 
+use cm_server::Status as ServeStatus;
 use std::fmt;
 use trace_check::CheckEnd;
 use trace_replay::{ReplayFault, Summary};
@@ -22,6 +23,8 @@ pub enum Status {
     BadRecord(u64),
     /// Another item follows the last that is allowed.
     Records,
+    /// No connection can be accepted at the address, or one could not be accepted.
+    AcceptFault,
     /// The recorded replies are not those of the trace: the first difference is at this place, from their first byte.
     Differs(u64),
 }
@@ -41,6 +44,7 @@ impl Status {
             Status::Usage => 6,
             Status::BadRecord(_) => 7,
             Status::Records => 8,
+            Status::AcceptFault => 9,
             Status::Differs(_) => 10,
         }
     }
@@ -85,6 +89,21 @@ impl From<Result<CheckEnd, ReplayFault>> for Status {
     }
 }
 
+impl From<ServeStatus> for Status {
+    ghost from_gives = { λ served status. status ≡ serve_status served };
+
+    fn from(served: ServeStatus) -> Status {
+        match served {
+            ServeStatus::Done => Status::Done,
+            ServeStatus::WriteFault => Status::WriteFault,
+            ServeStatus::OutOfMemory => Status::OutOfMemory,
+            ServeStatus::BadHeader(place) => Status::BadHeader(place),
+            ServeStatus::Usage => Status::Usage,
+            ServeStatus::AcceptFault => Status::AcceptFault,
+        }
+    }
+}
+
 impl fmt::Display for Status {
     fn fmt<W: fmt::Write>(&self, f: &mut fmt::Formatter<W>) -> fmt::Result {
         match self {
@@ -94,9 +113,15 @@ impl fmt::Display for Status {
             Status::OutOfMemory => write!(f, "out of memory"),
             Status::Torn(place) => write!(f, "input ends inside the part at byte {place}"),
             Status::BadHeader(place) => write!(f, "bad header at byte {place}"),
-            Status::Usage => write!(f, "use replay, check, or gen N"),
+            Status::Usage => {
+                write!(
+                    f,
+                    "use replay, check, gen N, or serve ADDRESS SESSIONS [FOLDER]"
+                )
+            }
             Status::BadRecord(place) => write!(f, "bad record at byte {place}"),
             Status::Records => write!(f, "too many records"),
+            Status::AcceptFault => write!(f, "accept failed"),
             Status::Differs(place) => write!(f, "replies differ at byte {place}"),
         }
     }

@@ -458,7 +458,12 @@ fn statuses(rt: HostRuntime) -> Result<(), Fail> {
         (Status::OutOfMemory, 3, "out of memory"),
         (Status::Torn(74), 4, "input ends inside the part at byte 74"),
         (Status::BadHeader(8), 5, "bad header at byte 8"),
-        (Status::Usage, 6, "use replay, check, or gen N"),
+        (
+            Status::Usage,
+            6,
+            "use replay, check, gen N, or serve ADDRESS SESSIONS [FOLDER]",
+        ),
+        (Status::AcceptFault, 9, "accept failed"),
         (Status::BadRecord(109), 7, "bad record at byte 109"),
         (Status::Records, 8, "too many records"),
         (Status::Differs(1555), 10, "replies differ at byte 1555"),

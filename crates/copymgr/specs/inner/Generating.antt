@@ -29,6 +29,7 @@ IsPushed summary pushed Status.ReadFault = ⊥
 IsPushed summary pushed (Status.Torn place) = ⊥
 IsPushed summary pushed (Status.BadHeader place) = ⊥
 IsPushed summary pushed Status.Usage = ⊥
+IsPushed summary pushed Status.AcceptFault = ⊥
 IsPushed summary pushed (Status.BadRecord place) = ⊥
 IsPushed summary pushed Status.Records = ⊥
 IsPushed summary pushed (Status.Differs place) = ⊥

@@ -1,0 +1,112 @@
+// The word `serve`: what it reads, where it listens, and where it records.
+ghost use Rattle.std.specs.Prelude.{◌≤◌, length, IfSome};
+
+use crate::status::Status;
+use crate::unit_files::unit_files;
+use cm_base::{Source, StandardInput, StandardOutput, SystemClock, TcpConnections, Word};
+use cm_server::{serve, serve_with};
+use std::alloc::Global;
+use std::io::{self, Input};
+use std::net::TcpListener;
+use std::str;
+use std::sync::Wait;
+use std::thread::Threads;
+
+/// Bytes that are read of a configuration: one more than the longest has.
+const CONFIGURATION: usize = 555;
+
+/// Whether the words are `serve` and two or three more.
+pub fn are_serving(words: &[Word]) -> bool {
+    match words {
+        [word, _, _] | [word, _, _, _] => word.as_slice() == b"serve".as_slice(),
+        _ => false,
+    }
+}
+
+/// The text of a word.
+fn text(word: &Word) -> &str {
+    str::from_utf8(word.as_slice()).unwrap_or("")
+}
+
+/// Reads until the input ends or the room is full, and tells how many bytes there are.
+pub fn read_all<I: Source>(input: &mut I, into: &mut [u8]) -> Option<usize>
+    ensures { IfSome result (λ n. n ≤ length into.new) }
+{
+    let mut at = 0;
+    while at < into.len() {
+        let count = input.pull(&mut into[at..]).ok()?;
+        if count == 0 {
+            break;
+        }
+        at += count;
+    }
+    Some(at)
+}
+
+/// Whether the system picks the port of an address.
+pub fn picks_port(address: &str) -> bool {
+    match address.rsplit_once(':') {
+        Some((_, port)) => port.parse() == Ok(0u16),
+        None => false,
+    }
+}
+
+/// Says on standard error where a listener listens, in one write.
+fn tell_address(host: &HostRuntime, listener: &TcpListener) {
+    if let Ok(address) = listener.local_addr() {
+        let _ = eprintln!(host; "copymgr: serving at {address}");
+    }
+}
+
+/// Listens at an address. Where the system picks the port, it says which.
+fn listen(host: &HostRuntime, address: &str) -> io::Result<TcpListener> {
+    let listener = TcpListener::bind(host, address)?;
+    if picks_port(address) {
+        tell_address(host, &listener);
+    }
+    Ok(listener)
+}
+
+/// Serves as the words say, `serve ADDRESS SESSIONS` or `serve ADDRESS SESSIONS FOLDER`: it reads the configuration from
+/// standard input, listens, and writes the report to standard output when all connections were served. It waits for each
+/// of them to come and to end. `rt` makes the threads; files, sockets and streams are the host's.
+pub fn serve_words<W: Threads + Wait + Sync>(
+    rt: &W,
+    host: &HostRuntime,
+    alloc: Global,
+    words: &[Word],
+) -> Status {
+    let (address, folder) = match words {
+        [_, address, _] => (address, None),
+        [_, address, _, folder] => (address, Some(folder)),
+        _ => return Status::Usage,
+    };
+    let mut bytes = [0; CONFIGURATION];
+    let Some(count) = read_all(&mut StandardInput::new(host.reader()), &mut bytes) else {
+        return Status::ReadFault;
+    };
+    let Ok(listener) = listen(host, text(address)) else {
+        return Status::AcceptFault;
+    };
+    let config = &bytes[..count];
+    let mut listener = TcpConnections::new(listener);
+    let clock = SystemClock::new(host);
+    let mut output = StandardOutput::new(io::writer(host));
+    let Some(folder) = folder else {
+        return Status::from(serve(rt, alloc, words, config, &mut listener, clock, &mut output));
+    };
+    let Ok(recorders) = unit_files(host, alloc, text(folder)) else {
+        return Status::OutOfMemory;
+    };
+    let served = serve_with(
+        rt,
+        alloc,
+        words,
+        config,
+        &mut listener,
+        clock,
+        &mut output,
+        recorders,
+    );
+    Status::from(served.status)
+}
