@@ -8,7 +8,7 @@
 // unit n % UNITS, for blocks from 256 n on.
 //
 // It prints the seconds from the first begin to the last end, and how many commands, and bytes both ways, there were.
-// Where a reply is not the right one it says so, and its status is 1.
+// Where a reply is not the right one it says so, and its status is 1. After five minutes it is ended.
 #define _GNU_SOURCE
 #include <errno.h>
 #include <netdb.h>
@@ -22,8 +22,9 @@
 #include <string.h>
 #include <sys/socket.h>
 #include <time.h>
+#include <unistd.h>
 
-enum { PIECE = 64 << 10, APART = 256, FRONT = 22, GOOD = 6, READ = 0x88, WRITE = 0x8A };
+enum { LIMIT = 300, PIECE = 64 << 10, APART = 256, FRONT = 22, GOOD = 6, READ = 0x88, WRITE = 0x8A };
 
 // What goes one way, again and again: the bytes of a first command or reply, and of a second one. They lie in a row as
 // often as what is sent or taken at once may have them.
@@ -140,9 +141,11 @@ static size_t moved(int number, ssize_t bytes)
     return 0;
 }
 
-// Wakes a client only when so many bytes are there.
+// Wakes a client only when so many bytes are there, or a second has passed.
 static void wake_at(int link, int bytes)
 {
+    struct timeval second = {1, 0};
+    setsockopt(link, SOL_SOCKET, SO_RCVTIMEO, &second, sizeof second);
     setsockopt(link, SOL_SOCKET, SO_RCVLOWAT, &bytes, sizeof bytes);
 }
 
@@ -207,6 +210,7 @@ int main(int words, char **word)
     blocks = atol(word[6]), count = atol(word[7]), ahead = atol(word[8]);
     if (connections < 1 || units < 1 || ahead < 1)
         return 1;
+    alarm(LIMIT);
     struct client *clients = memory(connections * sizeof *clients);
     pthread_barrier_init(&begin, NULL, connections);
     for (int i = 0; i < connections; i++)

@@ -1,6 +1,8 @@
 """Programs that serve: what connections are replied, how they end, and the report."""
 
+import os
 import pathlib
+import shutil
 import socket
 import struct
 import subprocess
@@ -231,6 +233,54 @@ class Floor(Links, unittest.TestCase):
         second.close()
         report = server.report(SECONDS)
         self.assertEqual((report.sessions, report.commands), (2, 8))
+
+
+class Load(Links, unittest.TestCase):
+    """The clients of bench/run-serving."""
+
+    WORDS = PLAIN
+
+    @classmethod
+    def setUpClass(cls):
+        compiler = shutil.which(os.environ.get("CC", "cc"))
+        if not compiler:
+            raise unittest.SkipTest("no C compiler")
+        folder = tempfile.TemporaryDirectory()
+        cls.addClassCleanup(folder.cleanup)
+        cls.load = os.path.join(folder.name, "load")
+        words = [compiler, "-O2", "-Wall", "-Wextra", "-Werror", "-pthread", "-o", cls.load, support.TOP / "bench/load.c"]
+        subprocess.run(words, check=True)
+
+    def loaded(self, server, *words):
+        """What it prints and says, and its status."""
+        words = [self.load, server.address[0], *map(str, [server.address[1], *words])]
+        done = subprocess.run(words, capture_output=True, text=True, timeout=SECONDS, check=False)
+        return done.stdout.split(), done.stderr, done.returncode
+
+    def test_it_counts_what_was_done(self):
+        shapes = [Shape(4096), Shape(4096)]
+        for connections, units, blocks, ahead in [(1, 1, 1, 1), (2, 2, 3, 2), (3, 1, 1, 8), (2, 2, 0, 7), (2, 1, 200, 3)]:
+            with self.subTest(connections=connections, units=units, blocks=blocks, ahead=ahead):
+                server = self.start(connections, shapes)
+                told, said, status = self.loaded(server, connections, units, 512, blocks, 60, ahead)
+                self.assertEqual((said, status), ("", 0))
+                size = 60 * (22 + 6) + 60 * 512 * blocks
+                self.assertEqual(told[1:], ["60", str(size)])
+                report = server.report(SECONDS)
+                self.assertEqual((report.commands, report.faults, report.sessions), (60, 0, connections))
+                self.assertEqual([unit.mapped for unit in report.units], self.mapped(connections, units, blocks))
+
+    @staticmethod
+    def mapped(connections, units, blocks):
+        """How many blocks of each of two units are mapped."""
+        return [blocks * sum(number % units == unit for number in range(connections)) for unit in (0, 1)]
+
+    def test_it_finds_a_wrong_reply(self):
+        """The second connection asks for a unit that is not there, and a WRITE without room is refused."""
+        told, said, status = self.loaded(self.start(2, [Shape(4096)]), 2, 2, 512, 1, 60, 4)
+        self.assertEqual((told, said, status), ([], "connection 1: a reply is not the right one\n", 1))
+        told, said, status = self.loaded(self.start(1, [Shape(4096, entries=7)]), 1, 1, 512, 1, 60, 4)
+        self.assertEqual((told, said, status), ([], "connection 0: a reply is not the right one\n", 1))
 
 
 class Addresses(unittest.TestCase):
