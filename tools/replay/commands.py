@@ -1,7 +1,8 @@
 """Each command as a program: a generator that yields (unit, act), is sent the answers, and returns its data.
 
-A refused act is raised at its yield as Refused, and one for which the record has no room as RecordFull. A command
-that is refused raises Refused itself.
+A refused act is raised at its yield as Refused, one for which the record has no room as RecordFull, and one for which
+memory is refused as NoMemory. A command that is refused raises Refused itself; one that gives up raises what it gave up
+for, behind its last question where it has one.
 """
 
 import collections
@@ -10,7 +11,7 @@ from . import acts, cdbs, lists, rod_token, told
 from .frames import sense_bytes
 from .senses import (
     BAD_CDB, BAD_LIST, BAD_LIST_LENGTH, COPY_ABORTED, COPY_OUT_OF_RANGE, DEVICE_TYPE, NOT_REACHABLE, NO_SENSE,
-    NO_SUCH_UNIT, TOKEN_LENGTH, TOKEN_TYPE, TOKEN_UNKNOWN, RecordFull, Refused, refuse_if,
+    NO_SUCH_UNIT, TOKEN_LENGTH, TOKEN_TYPE, TOKEN_UNKNOWN, NoMemory, RecordFull, Refused, refuse_if,
 )
 
 COPY_BYTES_LIMIT = 536_870_912
@@ -38,6 +39,14 @@ def command(machine, request):
     if asked.cdb.name in FIXED:
         return FIXED[asked.cdb.name](asked)
     return (yield from PROGRAMS[asked.cdb.name](asked))
+
+
+def last_question(unit, act):
+    """What a command asks where it gives up. Whatever comes of it, the command gave up."""
+    try:
+        yield unit, act
+    except (Refused, RecordFull, NoMemory):
+        pass
 
 
 # ---- commands without acts
@@ -147,9 +156,13 @@ def write_using_token(asked):
 
 def foreground(unit, list_id, operation, pieces):
     """The pieces one after the other, as long as the operation runs."""
-    for _ in range(pieces):
-        if operation.state == told.BACKGROUND:
-            operation = yield unit, acts.Advance(list_id)
+    try:
+        for _ in range(pieces):
+            if operation.state == told.BACKGROUND:
+                operation = yield unit, acts.Advance(list_id)
+    except (RecordFull, NoMemory):
+        yield from last_question(unit, acts.End(list_id))
+        raise
     refuse_if(operation.state == told.FAILED, operation.sense)
     refuse_if(operation.state != told.DONE, COPY_ABORTED)
 
@@ -194,10 +207,15 @@ class Copying:
         self.bytes = 0
 
     def program(self):
-        for segment in self.segments:
-            if segment.count:
-                yield from self.copy(segment)
-            self.done += 1
+        """The segments in order, up to one that is refused; it returns the sense, if one is."""
+        try:
+            for segment in self.segments:
+                if segment.count:
+                    yield from self.copy(segment)
+                self.done += 1
+        except Refused as refused:
+            return refused.sense
+        return None
 
     def copy(self, segment):
         blocks = yield segment.source, acts.Capture(segment.from_lba, segment.count)
@@ -218,17 +236,14 @@ def extended_copy(asked):
     keeps = wanted.usage != lists.WITHOUT_ID
     if keeps:
         yield asked.unit, acts.Open(wanted.id)
-    refusal = None
     try:
-        yield from copying.program()
-    except Refused as refused:
-        refusal = refused.sense
-    except RecordFull:
+        refusal = yield from copying.program()
         if keeps:
-            yield asked.unit, copying.close(wanted.id, told.TERMINATED)
+            yield asked.unit, copying.close(wanted.id, told.FAILED if refusal else told.DONE)
+    except (RecordFull, NoMemory):
+        if keeps:
+            yield from last_question(asked.unit, copying.close(wanted.id, told.TERMINATED))
         raise
-    if keeps:
-        yield asked.unit, copying.close(wanted.id, told.FAILED if refusal else told.DONE)
     if refusal:
         raise Refused((COPY_ABORTED[0],) + refusal[1:])
     return b""

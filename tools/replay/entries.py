@@ -59,6 +59,7 @@ FIELDS = {
     "Start": (0x08, start_text),
     "Advance": (0x09, numbers(">I")),
     "Pump": (0x0A, numbers("")),
+    "End": (0x0B, numbers(">I")),
     "Abort": (0x0C, numbers(">I")),
     "Report": (0x0D, numbers(">I")),
     "Capture": (0x0E, numbers(">QI")),

@@ -5,7 +5,7 @@ import struct
 
 from .senses import BadInput
 
-GOOD, CHECK, FULL = 0x00, 0x02, 0x28
+GOOD, CHECK, BUSY, FULL = 0x00, 0x02, 0x08, 0x28
 DONE, TORN, BAD_HEADER, BAD_RECORD = 0, 4, 5, 7
 BEGIN, RUN, PUMP = 1, 2, 3
 DATA_LIMIT = 8_388_608
@@ -128,6 +128,10 @@ def good(data):
 
 def check(sense):
     return struct.pack(">BBI", CHECK, 18, 0) + sense_bytes(sense)
+
+
+def busy():
+    return struct.pack(">BBI", BUSY, 0, 0)
 
 
 def full():

@@ -78,6 +78,10 @@ class RecordFull(Exception):
     """The unit's record has no room for an act."""
 
 
+class NoMemory(Exception):
+    """Memory is refused for an act, or for a command's next step."""
+
+
 class BadInput(Exception):
     """The input can't be read further: what is wrong, and at which byte."""
 

@@ -1,7 +1,7 @@
 """A unit: its blocks, its tokens, its operations, and what its record holds."""
 
 from . import rod_token
-from .acts import PIECE, Abort, Advance, Close, Open, Pump, Result, Start, Told, Write, pieces
+from .acts import PIECE, Abort, Advance, Close, End, Open, Pump, Result, Start, Told, Write, pieces
 from .senses import (
     BAD_CDB, IN_USE, OUT_OF_RANGE, OVER_QUOTA, TOKEN_CORRUPT, TOKEN_DELETED, TOKEN_EVICTED, TOKEN_EXPIRED,
     TOKEN_REMOTE, TOKEN_UNKNOWN, TOO_MANY, RecordFull, Refused, refuse_if,
@@ -72,7 +72,7 @@ class Unit:
         self.payload += self.length_of(act)
         self.moment = max(self.moment, moment)
         self.expire()
-        if isinstance(act, (Advance, Pump, Abort, Close)):
+        if isinstance(act, (Advance, Pump, End, Abort, Close)):
             return self.serve(act, served)
         return getattr(self, "do_" + type(act).__name__.lower())(actor, act)
 
@@ -210,6 +210,7 @@ class Unit:
         """The operation that runs and that the act is for: the one that was made first."""
         tests = {
             Advance: lambda o: o.key == (actor, "token", act.id) and not o.background,
+            End: lambda o: o.key == (actor, "token", act.id) and not o.background,
             Abort: lambda o: o.key == (actor, "token", act.id) and o.background,
             Close: lambda o: o.key == (actor, "copy", act.id),
             Pump: lambda o: o.background,
@@ -249,7 +250,7 @@ class Unit:
         operation.served += 1
         if isinstance(act, Close):
             operation.result, operation.state = act.result, act.result.state
-        elif isinstance(act, Abort):
+        elif isinstance(act, (End, Abort)):
             operation.state = TERMINATED
         else:
             self.piece(operation)

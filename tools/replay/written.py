@@ -13,7 +13,7 @@ Written = collections.namedtuple("Written", "stamp unit actor seq moment act tex
 
 FRONT = 32
 NEXUS, PUMP_OF_UNIT = 0, 1
-NAMES = {code: name for name, (code, _) in FIELDS.items()} | {0x0B: "End"}
+NAMES = {code: name for name, (code, _) in FIELDS.items()}
 
 
 class NoEntry(Exception):
