@@ -1,4 +1,4 @@
-"""A worked trace, replayed, while memory is refused once.
+"""A worked trace that is replayed, and the generated trace, while memory is refused once.
 
 Where the program tells that it is out of memory, it wrote a beginning of the replies. Else memory was refused nowhere
 that shows, or at one place: at the beginning of a command, at an act, or at the step behind one. The plain replay plays
@@ -9,8 +9,8 @@ the same replies, those behind a BUSY too.
 import collections
 import subprocess
 
-from replay import frames
-from replay.player import ACT, BEGIN, STEP, play, played_items
+from replay import frames, generated
+from replay.player import ACT, BEGIN, STEP, line_of, play, played_items
 from replay.senses import BadInput
 
 SECONDS = 60
@@ -47,12 +47,12 @@ def has_busy(replies):
 
 
 class Replay:
-    """A worked trace by its name."""
+    """A worked trace."""
 
     OF_PROGRAM = False
 
     def __init__(self, program, trace):
-        self.program, self.trace = program, trace
+        self.words, self.input, self.trace = [program, "replay"], trace, trace
         self.ample, kind = self.plain({})
         self.ends = {self.ample: kind}
         for number, shortage in places_of(items_of(trace)):
@@ -66,15 +66,18 @@ class Replay:
         return Ended(b"".join(reply.bytes for reply in replies), status, said), f"status {status}, {kind}"
 
     def run(self, environment):
-        words = [self.program, "replay"]
-        done = subprocess.run(words, input=self.trace, capture_output=True, env=environment, timeout=SECONDS, check=False)
+        how = {"capture_output": True, "env": environment, "timeout": SECONDS}
+        done = subprocess.run(self.words, input=self.input, check=False, **how)
         return Ended(done.stdout, done.returncode, done.stderr.decode(errors="replace"))
 
     def kind_of(self, ended):
         """What kind of end it is; None where no single refusal brings it about."""
         if ended.status == OUT_OF_MEMORY and ended.said == "copymgr: out of memory\n":
-            return "status 3, a beginning" if self.ample.output.startswith(ended.output) else None
+            return "status 3, a beginning" if self.is_beginning(ended.output) else None
         return self.ends.get(ended)
+
+    def is_beginning(self, output):
+        return self.ample.output.startswith(output)
 
     def is_ample(self, ended):
         return ended == self.ample
@@ -82,3 +85,22 @@ class Replay:
     @staticmethod
     def told(ended):
         return f"status {ended.status}, {ended.said.strip()!r}, {len(ended.output)} bytes"
+
+
+class Generated(Replay):
+    """The generated trace of 8 rounds, whose counts are written where it was played to its end, and nothing else is."""
+
+    def __init__(self, program):
+        super().__init__(program, generated.trace(8))
+        self.words, self.input = [program, "gen", "8"], b""
+
+    def plain(self, shortages):
+        try:
+            counts = generated.summary(self.trace, shortages)
+        except BadInput as bad:
+            return Ended(b"", bad.status, line_of(bad)), f"status {bad.status}, gave up"
+        kind = "all replies" if "busy 0\n" in counts else "BUSY"
+        return Ended(counts.encode(), frames.DONE, ""), f"status 0, {kind}"
+
+    def is_beginning(self, output):
+        return not output

@@ -1,4 +1,5 @@
-"""One connection that is served the commands of a worked trace, while memory is refused once.
+"""One connection that is served the commands of a worked trace, while memory is refused once; and a session of the same
+commands over the standard streams.
 
 The program ends with a report, or tells that it is out of memory and reports nothing. By its report the session may have
 ended because memory was wanted outside a command. Either way the connection got a beginning of the replies. Else memory
@@ -16,7 +17,7 @@ import subprocess
 from replay import frames
 from replay.player import Player
 
-from .replaying import OUT_OF_MEMORY, SECONDS, items_of, places_of
+from .replaying import OUT_OF_MEMORY, SECONDS, Ended, items_of, places_of
 
 # what the connection got, the report, the exit status, and what was said on standard error
 Served = collections.namedtuple("Served", "replies report status said")
@@ -83,19 +84,30 @@ def talked(address, requests):
     return replies
 
 
+class Commands:
+    """The commands of a trace, as one connection asks them, and the conversations that may come of them."""
+
+    def __init__(self, trace):
+        machine, end = frames.read_header(trace)
+        self.header, items = trace[:end], items_of(trace)
+        self.requests = [item.request for item in items if isinstance(item, frames.Begin)]
+        self.ample = Nexus(machine).conversation(self.requests)
+        self.short = [Nexus(machine, *place).conversation(self.requests) for place in places_of(items)]
+        self.replies = b"".join(self.ample.replies)
+
+    def kinds(self, told):
+        """What kind of conversation each is, by what is told of it."""
+        return {told(one): "BUSY" for one in self.short} | {told(self.ample): "all replies"}
+
+
 class Serving:
     """`serve 127.0.0.1:0 1`, and a connection that asks the commands of a trace."""
 
     OF_PROGRAM = True
 
     def __init__(self, program, trace):
-        self.program = program
-        self.machine, end = frames.read_header(trace)
-        self.header, items = trace[:end], items_of(trace)
-        self.requests = [item.request for item in items if isinstance(item, frames.Begin)]
-        self.ample = Nexus(self.machine).conversation(self.requests)
-        short = [Nexus(self.machine, *place).conversation(self.requests) for place in places_of(items)]
-        self.reports = {self.served(one): kind for one, kind in [(one, "BUSY") for one in short] + [(self.ample, "all replies")]}
+        self.program, self.commands = program, Commands(trace)
+        self.kinds = self.commands.kinds(self.served)
 
     @staticmethod
     def served(conversation):
@@ -104,7 +116,7 @@ class Serving:
 
     def configure(self, program):
         try:
-            program.stdin.write(self.header)
+            program.stdin.write(self.commands.header)
             program.stdin.close()
         except BrokenPipeError:
             pass  # how it ended is judged
@@ -118,7 +130,7 @@ class Serving:
                 self.configure(program)
                 first = program.stderr.readline().decode()
                 found = re.fullmatch("copymgr: serving at (.*):([0-9]+)\n", first)
-                replies = talked((found[1], int(found[2])), self.requests) if found else b""
+                replies = talked((found[1], int(found[2])), self.commands.requests) if found else b""
                 report, said = program.communicate(timeout=SECONDS)
             finally:
                 program.kill()
@@ -127,25 +139,62 @@ class Serving:
 
     def kind_of(self, served):
         """What kind of end it is; None where no single refusal brings it about."""
-        is_beginning = b"".join(self.ample.replies).startswith(served.replies)
+        is_beginning = self.commands.replies.startswith(served.replies)
         if served.status == OUT_OF_MEMORY and served.said == "copymgr: out of memory\n":
             return "status 3, a beginning" if is_beginning and not served.report else None
         if is_beginning and served in self.short_sessions(served.replies):
             return "status 0, a session out of memory"
-        return f"status 0, {self.reports[served]}" if served in self.reports else None
+        return f"status 0, {self.kinds[served]}" if served in self.kinds else None
 
     def short_sessions(self, replies):
         """How a session that ends for want of memory may be told of: the command behind the replies was done or not."""
         whole, left = 0, replies
-        while whole < len(self.ample.replies) and left.startswith(self.ample.replies[whole]):
-            left = left[len(self.ample.replies[whole]) :]
-            whole += 1
-        units = self.ample.units[whole : whole + 2]
+        for reply in self.commands.ample.replies:
+            if not left.startswith(reply):
+                break
+            whole, left = whole + 1, left[len(reply) :]
+        units = self.commands.ample.units[whole : whole + 2]
         return [Served(replies, report_of(state, 1, whole), 0, "") for state in units]
 
     def is_ample(self, served):
-        return served == self.served(self.ample)
+        return served == self.served(self.commands.ample)
 
     @staticmethod
     def told(served):
         return f"status {served.status}, {served.said.strip()!r}, {len(served.replies)} bytes, report {served.report!r}"
+
+
+class Session:
+    """A session of session_bench over the standard streams: the same commands, and no report."""
+
+    OF_PROGRAM = False
+
+    def __init__(self, program, trace):
+        self.commands = Commands(trace)
+        self.words = [program, "serve", self.commands.header.hex(), "0", "0", "0"]
+        self.kinds = self.commands.kinds(self.ended)
+
+    @staticmethod
+    def ended(conversation):
+        return Ended(b"".join(conversation.replies), 0, "")
+
+    def run(self, environment):
+        data = b"".join(map(frames.request_bytes, self.commands.requests))
+        how = {"capture_output": True, "env": environment, "timeout": SECONDS}
+        done = subprocess.run(self.words, input=data, check=False, **how)
+        return Ended(done.stdout, done.returncode, done.stderr.decode(errors="replace"))
+
+    def kind_of(self, ended):
+        """What kind of end it is; None where no single refusal brings it about."""
+        if ended == Ended(b"", 6, "session_bench: out of memory\n"):
+            return "status 6, no session"
+        if ended.status == OUT_OF_MEMORY and not ended.said:
+            return "status 3, a beginning" if self.commands.replies.startswith(ended.output) else None
+        return f"status 0, {self.kinds[ended]}" if ended in self.kinds else None
+
+    def is_ample(self, ended):
+        return ended == self.ended(self.commands.ample)
+
+    @staticmethod
+    def told(ended):
+        return f"status {ended.status}, {ended.said.strip()!r}, {len(ended.output)} bytes"

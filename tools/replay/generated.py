@@ -40,9 +40,9 @@ def trace(rounds):
     return frames.header_bytes(MACHINE) + b"".join(items)
 
 
-def summary(data):
+def summary(data, shortages=None):
     """What a replay of a trace counts, in eight lines."""
-    played = [one for one, _ in player.played_items(data)]
+    played = [one for one, _ in player.played_items(data, shortages)]
     last = played[-1]
     statuses = [reply.bytes[4] for reply in last.replies]
     counts = {
@@ -50,7 +50,7 @@ def summary(data):
         "replies": len(statuses),
         "good": statuses.count(frames.GOOD),
         "check": statuses.count(frames.CHECK),
-        "busy": 0,
+        "busy": statuses.count(frames.BUSY),
         "full": statuses.count(frames.FULL),
         "steps": sum(unit.entries for unit in last.units),
         "bytes": sum(len(reply.bytes) for reply in last.replies),

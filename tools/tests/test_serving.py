@@ -108,13 +108,14 @@ class Serving(Links):
         self.reported(server, UnitReport(23, 0, 2), sessions=2, commands=22)
 
     def test_broken_connections_are_faults_and_others_go_on(self):
-        server = self.start(5)
+        server = self.start(6)
         first = self.link(server)
         self.assertEqual(self.asked(first, WRITE), GOOD)
         for data in [
             frames.request_bytes(READ)[:-1],
             frames.request_bytes(WRITE)[:-1],
             struct.pack(">I", frames.DATA_LIMIT + 1),
+            b"\xff" * 4,
         ]:
             link = self.link(server)
             self.assertEqual(self.asked(link, READ), DATA)
@@ -123,7 +124,7 @@ class Serving(Links):
         self.link(server).close()
         self.assertEqual(self.asked(first, READ), DATA)
         first.close()
-        self.reported(server, UnitReport(6, 0, 2), sessions=5, commands=5, faults=3)
+        self.reported(server, UnitReport(7, 0, 2), sessions=6, commands=6, faults=4)
 
     def test_the_longest_frame(self):
         """A command that does not want its data is refused, and the next one is served."""
