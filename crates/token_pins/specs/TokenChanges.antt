@@ -3,6 +3,7 @@ use Rattle.std.specs.Prelude.{◌≡◌, ℕ, ◌<◌, ◌≤◌, ◌^◌, List,
 use Rattle.lba_ranges.specs.declared.ranges.Range.{Range}
 use Rattle.lba_ranges.specs.Denoted.{is_within, is_overlapping}
 use Rattle.lba_ranges.specs.HeldBlocks.{HeldBlocks}
+use Rattle.lba_ranges.specs.Versions.{Writers, with_pin}
 use Rattle.rod_store.specs.declared.kept.Kept.{Kept}
 use Rattle.rod_store.specs.Kept.{value_at, expired, populated, used, deleted}
 use Rattle.rod_store.specs.Store.{Store}
@@ -46,6 +47,16 @@ unpinned (PinnedChange.Delete serial) = Delete serial
 abbrev pub rod_made : {P : Type 0} → PinnedChange P → Option (PinnedRod P)
 rod_made (PinnedChange.Make timeout blocks rod) = Some rod
 rod_made _ = None
+
+-- the pin of a new token shows what is current
+abbrev pub written_with : {P : Type 0} → (P → ℕ) → PinnedChange P → Writers → Writers
+written_with number (PinnedChange.Make timeout blocks rod) w = with_pin (number rod.pin) w
+written_with number _ w = w
+
+-- the ranges of the token that is to be made, if one is
+abbrev pub ranges_pinned : TokenChange → Option (List Range)
+ranges_pinned (Make timeout blocks ranges) = Some ranges
+ranges_pinned _ = None
 
 -- the tokens at the moment, with the change and the pin of a new one
 abbrev pub pinned_after : {P : Type 0} → PinnedChange P → ℕ → List (Kept (PinnedRod P)) → List (Kept (PinnedRod P))

@@ -1,6 +1,7 @@
 ghost use Rattle.std.specs.Prelude.{◌≡◌, ◌≤◌, ◌<◌, ◌^◌, ℕ, List, length, Option, Some, None};
 ghost use Rattle.rod_store.specs.Kept.{expired, populated, deleted};
 ghost use Rattle.rod_store.specs.declared.kept.Kept.{Kept};
+ghost use Rattle.lba_ranges.specs.Versions.{Writers};
 ghost use Rattle.token_pins.specs.declared.pinned_rod.PinnedRod.{PinnedRod};
 ghost use Rattle.token_pins.specs.Pinning.{holder, ArePinned, ShowSame};
 ghost use Rattle.token_pins.specs.TokenChanges.{MayToken, unpinned, rod_made, pinned_after};
@@ -50,6 +51,7 @@ where
     ensures done { expired moment tokens.new.tokens ≡ tokens.new.tokens }
     ensures unit { tokens.new.unit ≡ tokens.old.unit }
     ensures room { tokens.new.spare ≡ tokens.old.spare }
+    ensures written { (w : Writers) → B.written_by blocks.old w → B.written_by blocks.new w }
     ensures holds { (block : ℕ) → B.holds blocks.new block ≡ B.holds blocks.old block }
     ensures blocks { B.blocks blocks.new ≡ B.blocks blocks.old }
     ensures length { B.block_length blocks.new ≡ B.block_length blocks.old }
@@ -78,6 +80,7 @@ where
     ensures shows { ShowSame (B.pinned blocks.old) (B.shown blocks.old) (B.pinned blocks.new) (B.shown blocks.new) }
     ensures tokens { tokens.new.tokens ≡ populated tokens.old.tokens moment timeout count rod }
     ensures unit { tokens.new.unit ≡ tokens.old.unit }
+    ensures written { (w : Writers) → B.written_by blocks.old w → B.written_by blocks.new w }
     ensures holds { (block : ℕ) → B.holds blocks.new block ≡ B.holds blocks.old block }
     ensures blocks { B.blocks blocks.new ≡ B.blocks blocks.old }
     ensures length { B.block_length blocks.new ≡ B.block_length blocks.old }
@@ -101,6 +104,7 @@ where
     ensures shows { ShowSame (B.pinned blocks.old) (B.shown blocks.old) (B.pinned blocks.new) (B.shown blocks.new) }
     ensures tokens { tokens.new.tokens ≡ deleted serial tokens.old.tokens }
     ensures unit { tokens.new.unit ≡ tokens.old.unit }
+    ensures written { (w : Writers) → B.written_by blocks.old w → B.written_by blocks.new w }
     ensures holds { (block : ℕ) → B.holds blocks.new block ≡ B.holds blocks.old block }
     ensures blocks { B.blocks blocks.new ≡ B.blocks blocks.old }
     ensures length { B.block_length blocks.new ≡ B.block_length blocks.old }
@@ -120,6 +124,7 @@ where
     ensures pinned { (own : List (Kept (PinnedRod B.Pin))) → ArePinned B.number (B.blocks blocks.old) (B.pinned blocks.old) (holder (rod_made change) own)
         → ArePinned B.number (B.blocks blocks.new) (B.pinned blocks.new) (holder None own) }
     ensures shows { ShowSame (B.pinned blocks.old) (B.shown blocks.old) (B.pinned blocks.new) (B.shown blocks.new) }
+    ensures written { (w : Writers) → B.written_by blocks.old w → B.written_by blocks.new w }
     ensures holds { (block : ℕ) → B.holds blocks.new block ≡ B.holds blocks.old block }
     ensures blocks { B.blocks blocks.new ≡ B.blocks blocks.old }
     ensures length { B.block_length blocks.new ≡ B.block_length blocks.old }
@@ -146,6 +151,7 @@ where
     ensures shows { ShowSame (B.pinned blocks.old) (B.shown blocks.old) (B.pinned blocks.new) (B.shown blocks.new) }
     ensures tokens { tokens.new.tokens ≡ pinned_after change moment tokens.old.tokens }
     ensures unit { tokens.new.unit ≡ tokens.old.unit }
+    ensures written { (w : Writers) → B.written_by blocks.old w → B.written_by blocks.new w }
     ensures holds { (block : ℕ) → B.holds blocks.new block ≡ B.holds blocks.old block }
     ensures blocks { B.blocks blocks.new ≡ B.blocks blocks.old }
     ensures length { B.block_length blocks.new ≡ B.block_length blocks.old }

@@ -1,10 +1,11 @@
 ghost use Rattle.std.specs.Prelude.{◌≡◌, ◌≤◌, ℕ, List, OnOk, OnErr, IfOk, true, Option, Some, None};
 ghost use Rattle.lba_ranges.specs.declared.ranges.Range.{Range};
 ghost use Rattle.lba_ranges.specs.Denoted.{denotes};
+ghost use Rattle.lba_ranges.specs.Versions.{Writers};
 ghost use Rattle.rod_store.specs.declared.kept.Kept.{Kept};
 ghost use Rattle.token_pins.specs.declared.pinned_rod.PinnedRod.{PinnedRod};
 ghost use Rattle.token_pins.specs.Pinning.{rod_shown, rod_now, holder, ArePinned};
-ghost use Rattle.token_pins.specs.TokenChanges.{MayPin, is_make, unpinned, rod_made};
+ghost use Rattle.token_pins.specs.TokenChanges.{MayPin, is_make, unpinned, rod_made, written_with};
 
 use crate::pinned_change::PinnedChange;
 use crate::pinned_rod::PinnedRod;
@@ -60,6 +61,8 @@ impl TokenChange {
         ensures made { IfOk result (λ c. (rod : PinnedRod B.Pin) → rod_made c ≡ Some rod
             → rod_shown B.number (B.block_length blocks.old) (B.shown blocks.new) rod ≡ rod_now (B.block_length blocks.old) (B.holds blocks.old) rod.ranges) }
         ensures makes { OnErr result (is_make self ≡ true) }
+        ensures written { IfOk result (λ c. (w : Writers) → B.written_by blocks.old w → B.written_by blocks.new (written_with B.number c w)) }
+        ensures writers { OnErr result ((w : Writers) → B.written_by blocks.old w → B.written_by blocks.new w) }
         ensures holds { (block : ℕ) → B.holds blocks.new block ≡ B.holds blocks.old block }
         ensures blocks { B.blocks blocks.new ≡ B.blocks blocks.old }
         ensures length { B.block_length blocks.new ≡ B.block_length blocks.old }

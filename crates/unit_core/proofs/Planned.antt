@@ -1,7 +1,7 @@
 -- Plans that bring the tables to what the past then says
 use Rattle.std.proofs.Common.{◌≡◌, ℕ, ◌<◌, ◌^◌, List, [], ◌∷◌, length, refl, ap, sym, ◌∙◌, subst, arith, true, false, Bool}
 use Rattle.std.specs.Option.{option_map}
-use Rattle.std.specs.Prelude.{None, ◌&&◌, not, max, is_some, IsSome}
+use Rattle.std.specs.Prelude.{Some, None, ◌&&◌, not, max, is_some, IsSome, if◌then◌else◌}
 use Rattle.std.proofs.lemmas.List.{length-map}
 use Rattle.cm_base.specs.Configuration.{Configuration}
 use Rattle.cm_base.specs.declared.config.UnitConfig.{UnitConfig}
@@ -34,6 +34,7 @@ use Rattle.cm_history.specs.Ends.{ends_operation}
 use Rattle.cm_history.specs.Asked.{AllAsked}
 use Rattle.unit_core.specs.inner.BlockChanges.{writings_of, MayChange}
 use Rattle.unit_core.specs.inner.JobChanges.{MayJob}
+use Rattle.unit_core.specs.inner.Seen.{ranges_made}
 use Rattle.unit_core.specs.inner.Tables.{key_of, kept_of, tokens_of, job_of, jobs_of}
 use Rattle.unit_core.specs.inner.Planning.{quiet, IsDeed, IsPlan}
 use Rattle.unit_core.proofs.Jobs.{IsNexus, IsOwn, all-own}
@@ -84,6 +85,15 @@ populate-makes : (act : Act) (t : Bool) → (is_making act && t) ≡ false → (
 populate-makes (Act.Populate id timeout ranges) t e = e
 populate-makes _ t e = refl
 
+-- an act that makes nothing makes no token
+pub makes-none : (act : Act) (answer : Answer) → (is_making act && not (is_refusal answer)) ≡ false → None ≡ ranges_made answer act
+makes-none (Act.Populate id timeout ranges) answer e = go (is_refusal answer) e
+  where
+    go : (t : Bool) → not t ≡ false → None ≡ (if t then None else Some ranges)
+    go true e = refl
+    go false e = cc
+makes-none _ answer e = refl
+
 pub ends-serves : (past : List Deed) (actor : Actor) (act : Act) → ends_operation past actor act ≡ true → is_some (would_serve past actor act) ≡ true
 ends-serves past actor (Act.End id) e = e
 ends-serves past actor (Act.Abort id) e = e
@@ -127,6 +137,7 @@ plain-plan config unit past actor at act answer blocks told wrote may leaves non
   may_jobs = tt;
   may_tokens = λ spare h. tt;
   may_pin = tt;
+  makes = makes-none act answer leaves.making;
   apart = λ e. cc;
   ends = λ e. let no : is_some (would_serve past actor act) ≡ false = ap is_some none in let yes = ends-serves past actor act e in let never = sym yes ∙ no in cc;
 }
@@ -162,6 +173,7 @@ delete-plan config unit past actor at serial = record {
   may_jobs = tt;
   may_tokens = λ spare h. tt;
   may_pin = tt;
+  makes = refl;
   apart = λ e. cc;
   ends = λ e. cc;
 }
@@ -182,6 +194,7 @@ redeem-plan config unit past actor at text target list told lives = record {
   may_jobs = tt;
   may_tokens = λ spare h. lives;
   may_pin = tt;
+  makes = refl;
   apart = λ e. cc;
   ends = λ e. cc;
 }
@@ -219,6 +232,7 @@ populate-plan config unit past actor at id timeout ranges known nexus told few i
   may_jobs = (refl, idle);
   may_tokens = λ spare h. (h refl, (let e = length-map (tokens past) (kept_of u) in omega (arith, few, e)));
   may_pin = (inside, alone);
+  makes = refl;
   apart = λ e. refl;
   ends = λ e. cc;
 }
@@ -249,6 +263,7 @@ start-plan config unit past actor at id background ranges rod state known nexus 
   may_jobs = may;
   may_tokens = λ spare h. tt;
   may_pin = tt;
+  makes = refl;
   apart = λ e. refl;
   ends = λ e. cc;
 }
@@ -283,6 +298,7 @@ open-plan config unit past actor at id known nexus told idle few = record {
   may_jobs = (refl, idle, few);
   may_tokens = λ spare h. tt;
   may_pin = tt;
+  makes = refl;
   apart = λ e. refl;
   ends = λ e. cc;
 }

@@ -38,7 +38,7 @@ use Rattle.unit_core.proofs.Jobs.{IsOwn}
 use Rattle.unit_core.proofs.Keeping.{own_key, served-there, served-runs, serving-jobs, found-own}
 use Rattle.unit_core.proofs.JobDeeds.{moves-work, stops-work, ends-work, closes-work}
 use Rattle.unit_core.proofs.Asking.{key-own}
-use Rattle.unit_core.proofs.Planned.{IsKnown, own-of, deed-answer, deed-serves, deed-makes, idle-step, LeavesTokens}
+use Rattle.unit_core.proofs.Planned.{IsKnown, own-of, deed-answer, deed-serves, deed-makes, idle-step, LeavesTokens, makes-none}
 use Rattle.unit_core.proofs.Bools.{off}
 use Rattle.std.proofs.lemmas.Bool.{or_left, or_right}
 
@@ -84,6 +84,7 @@ served-plan config unit past actor at act o answer blocks j g known found told w
   may_jobs = may_j;
   may_tokens = λ spare h. tt;
   may_pin = tt;
+  makes = makes-none act answer (leaves-serving past actor act answer o found).making;
   apart = λ e. let no = sym e ∙ ap (λ t. t || false) grow in cc;
   ends = none;
 }

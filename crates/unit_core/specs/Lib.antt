@@ -1,3 +1,4 @@
+pub mod Versions
 pub mod UnitState
 pub mod Acting
 pub mod Unfolded

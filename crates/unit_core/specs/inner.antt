@@ -1,5 +1,6 @@
 pub mod Tables
 pub mod Agreeing
+pub mod Seen
 pub mod Shown
 pub mod BlockChanges
 pub mod JobChanges

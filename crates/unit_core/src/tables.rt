@@ -1,12 +1,14 @@
 ghost use Rattle.std.specs.Prelude.{◌≡◌, ℕ, ◌≤◌, ◌<◌, ◌||◌, [], length, None, IfOk, OnOk, OnErr, true, false};
 ghost use Rattle.cm_base.specs.Configuration.{IsUnit};
 ghost use Rattle.cm_base.specs.Units.{unit_of};
+ghost use Rattle.lba_ranges.specs.Versions.{Writers, IsNew, no_writers};
 ghost use Rattle.lba_ranges.specs.Writings.{after};
 ghost use Rattle.unit_core.specs.inner.BlockChanges.{writings_of, MayChange, is_nothing};
 ghost use Rattle.unit_core.specs.inner.JobChanges.{jobs_after, MayJob, grows};
 ghost use Rattle.token_pins.specs.Pinning.{rods_of, rod_now, holder, ArePinned};
-ghost use Rattle.token_pins.specs.TokenChanges.{tokens_after, MayPin, MayToken, is_make};
+ghost use Rattle.token_pins.specs.TokenChanges.{tokens_after, MayPin, MayToken, is_make, ranges_pinned};
 ghost use Rattle.unit_core.specs.inner.Planning.{takes_none};
+ghost use Rattle.unit_core.specs.inner.Seen.{AreWriters, lives_in, put_seen, seen_after};
 
 use crate::plan::Plan;
 use cm_base::{Config, OutOfMemory};
@@ -43,6 +45,7 @@ where
         ensures tokens { IfOk result (λ t. t.tokens.tokens ≡ []) }
         ensures pinned { IfOk result (λ t. ArePinned B.number (B.blocks t.blocks) (B.pinned t.blocks) (holder None t.tokens.tokens)) }
         ensures jobs { IfOk result (λ t. t.jobs ≡ []) }
+        ensures written { IfOk result (λ t. B.written_by t.blocks no_writers) }
     {
         let told = config.unit(unit);
         let tokens = RodStore::new(alloc, config, unit)?;
@@ -79,6 +82,11 @@ where
         ensures same_tokens { OnErr result ((rods_of B.number (B.block_length self.new.blocks) (B.shown self.new.blocks) self.new.tokens).tokens
             ≡ (rods_of B.number (B.block_length self.old.blocks) (B.shown self.old.blocks) self.old.tokens).tokens) }
         ensures memory { OnErr result (takes_none plan ≡ false) }
+        ensures written { OnOk result ((w : Writers) (put : ℕ) → B.written_by self.old.blocks w → IsNew (B.blocks self.old.blocks) (B.pinned self.old.blocks) w put
+            → AreWriters B.number (B.written_by self.new.blocks) self.new.tokens.tokens
+            (seen_after put (writings_of plan.blocks) (ranges_pinned plan.tokens) (length self.old.tokens.tokens) (lives_in self.new.tokens.tokens) (put_seen B.number w self.old.tokens.tokens))) }
+        ensures writers { OnErr result ((w : Writers) → B.written_by self.old.blocks w
+            → AreWriters B.number (B.written_by self.new.blocks) self.new.tokens.tokens (put_seen B.number w self.old.tokens.tokens)) }
     {
         let Plan {
             answer,

@@ -1,6 +1,7 @@
 ghost use Rattle.std.specs.Prelude.{◌≡◌, length};
 
 mod asking;
+mod stored;
 
 use super::*;
 use asking::{

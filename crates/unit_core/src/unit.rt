@@ -12,6 +12,7 @@ ghost use Rattle.cm_history.specs.History.{on, answer};
 ghost use Rattle.cm_history.specs.Forms.{HasForm};
 ghost use Rattle.cm_history.specs.Tokens.{Token, rod};
 ghost use Rattle.unit_core.specs.UnitState.{UnitState, Stands};
+ghost use Rattle.unit_core.specs.Versions.{needed};
 ghost use Rattle.unit_core.specs.Acting.{past, is_full_at, entry_at, serves_operation, ends_operation_at, MayRedeem};
 
 use crate::inner::Core;
@@ -50,7 +51,10 @@ where
     ghost use Rattle.cm_history.specs.declared.act.Entry.{Entry};
     ghost use Rattle.unit_core.specs.UnitState.{UnitState};
     ghost use Rattle.unit_core.specs.inner.Shown.{image_shown};
+    ghost use Rattle.unit_core.specs.inner.Seen.{AreWriters};
     ghost use Rattle.unit_core.specs.inner.Agreeing.{TablesAgree, RecordAgrees};
+    ghost use Rattle.unit_core.specs.Versions.{writer_seen};
+    ghost use Rattle.cm_history.specs.History.{past_of};
     ghost use Rattle.token_pins.specs.Pinning.{rods_of, holder, ArePinned};
 
     ghost Value = { UnitState };
@@ -72,7 +76,8 @@ where
         (rods_of B.number (B.block_length u.core.tables.blocks) (B.shown u.core.tables.blocks) u.core.tables.tokens)
         u.core.tables.jobs u.core.last_stamp u.core.moment whole
         × RecordAgrees u.core.config u.core.unit u.history.entries u.folded u.history.spare u.payload whole
-        × ArePinned B.number (B.blocks u.core.tables.blocks) (B.pinned u.core.tables.blocks) (holder None u.core.tables.tokens.tokens) };
+        × ArePinned B.number (B.blocks u.core.tables.blocks) (B.pinned u.core.tables.blocks) (holder None u.core.tables.tokens.tokens)
+        × AreWriters B.number (B.written_by u.core.tables.blocks) u.core.tables.tokens.tokens (writer_seen (past_of u.core.config u.core.unit whole)) };
 }
 
 impl<B: Pins + Drop> UnitOver<B>
@@ -187,6 +192,14 @@ where
     {
         standing_law(&self.core.config, self.core.unit);
         self.core.tables.blocks.mapped()
+    }
+
+    /// How many versions of blocks are kept, in blocks: those that are current or that a live token shows, each once. What
+    /// a running operation is still to write is not among them. It takes no memory.
+    pub fn stored(&self) -> u64
+        ensures { (h : List Entry) × Stands self.now h × (result ≡ length (needed (unit_of self.now.config self.now.unit) (past self.now h))) }
+    {
+        self.core.tables.blocks.stored()
     }
 
     /// The kept entries, all of them the unit's own. It takes no memory.

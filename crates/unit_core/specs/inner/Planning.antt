@@ -26,7 +26,8 @@ use Rattle.unit_core.specs.declared.plan.Plan.{Plan}
 use Rattle.unit_core.specs.inner.BlockChanges.{writings_of, MayChange, is_nothing}
 use Rattle.unit_core.specs.inner.JobChanges.{jobs_after, MayJob, grows}
 use Rattle.token_pins.specs.Pinning.{rod_now}
-use Rattle.token_pins.specs.TokenChanges.{tokens_after, MayPin, MayToken, is_make}
+use Rattle.token_pins.specs.TokenChanges.{tokens_after, MayPin, MayToken, is_make, ranges_pinned}
+use Rattle.unit_core.specs.inner.Seen.{ranges_made}
 use Rattle.unit_core.specs.inner.Tables.{key_of, tokens_of, jobs_of}
 use Rattle.cm_history.specs.Ends.{ends_operation}
 
@@ -61,6 +62,7 @@ pub record IsPlan (config : Configuration) (unit : ℕ) (past : List Deed) (acto
   pub may_tokens : (spare : ℕ) → (is_make plan.tokens ≡ true → 1 ≤ spare)
       → MayToken (record { unit = unit; tokens = tokens_of (unit_of config unit) past; spare = spare }) (max at (moment past)) plan.tokens
   pub may_pin : MayPin (unit_of config unit).blocks plan.tokens
+  pub makes : ranges_pinned plan.tokens ≡ ranges_made plan.answer act
   -- what may fail in one table leaves the others
   pub apart : (grows plan.jobs || is_make plan.tokens) ≡ true → is_nothing plan.blocks ≡ true
   pub ends : ends_operation past actor act ≡ true → takes_none plan ≡ true

@@ -136,7 +136,7 @@ fn blocks(alloc: Global, byte: u8, count: u32) -> Result<BlockList, Fail>
 }
 
 /// A row of blocks.
-fn row(alloc: Global, lba: u64, count: u32) -> Result<RangeList, Fail> {
+pub(crate) fn row(alloc: Global, lba: u64, count: u32) -> Result<RangeList, Fail> {
     let mut ranges = RangeList::empty(alloc);
     ranges.push(Range { lba, count })?;
     Ok(ranges)

@@ -29,6 +29,7 @@ loop-rod-preserved g c =
       (λ spare are.
           rw c.expire.ensures.tokens (pinned-sized g.B.Pins.number (g.B.Blocks.blocks c.loop-rod.blocks) (g.B.Blocks.blocks c.unpin.new.self) now _ c.unpin.ensures.blocks
           (token-ends g.B.Pins.number (g.B.Blocks.blocks c.loop-rod.blocks) pins now spare c.loop-rod.tokens.tokens _ c.in-Some.rod (kept.7 spare are) ends c.unpin.ensures.pinned))),
+      (λ w by. c.unpin.ensures.written w (kept.8 w by)),
     )
 
 pub returns-clause-pinned : goal.returns-clause-pinned

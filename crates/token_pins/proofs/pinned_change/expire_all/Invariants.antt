@@ -1,4 +1,5 @@
 use Rattle.std.proofs.Common.{◌≡◌, length, ℕ, Option}
+use Rattle.lba_ranges.specs.Versions.{Writers}
 use Rattle.rod_store.specs.Kept.{expired, live}
 use Rattle.token_pins.specs.declared.pinned_rod.PinnedRod.{PinnedRod}
 use Rattle.token_pins.specs.Pinning.{holder, ArePinned, ShowSame}
@@ -15,6 +16,7 @@ invariant-loop-rod g l =
     × ShowSame (g.B.Blocks.pinned l.initial.blocks) (g.B.Blocks.shown l.initial.blocks) (g.B.Blocks.pinned l.blocks) (g.B.Blocks.shown l.blocks)
     × ((spare : Option (PinnedRod _)) → ArePinned g.B.Pins.number (g.B.Blocks.blocks l.initial.blocks) (g.B.Blocks.pinned l.initial.blocks) (holder spare l.initial.tokens.tokens)
     → ArePinned g.B.Pins.number (g.B.Blocks.blocks l.blocks) (g.B.Blocks.pinned l.blocks) (holder spare l.tokens.tokens))
+    × ((w : Writers) → g.B.Blocks.written_by l.initial.blocks w → g.B.Blocks.written_by l.blocks w)
 
 abbrev pub decreases-loop-rod : goal.decreases-loop-rod
 decreases-loop-rod g l = length (live l.tokens.tokens)

@@ -1,4 +1,4 @@
-use Rattle.std.proofs.Common.{◌≡◌, ℕ, List, [], refl, ap, sym, ◌∙◌, subst, true, false, Some, None, Option, Bool}
+use Rattle.std.proofs.Common.{◌≡◌, ℕ, List, [], length, refl, ap, sym, ◌∙◌, subst, true, false, Some, None, Option, Bool}
 use Rattle.std.specs.Prelude.{map, ◌||◌}
 use Rattle.lba_ranges.specs.Denoted.{denotes}
 use Rattle.lba_ranges.specs.Writings.{after}
@@ -6,10 +6,13 @@ use Rattle.rod_store.specs.declared.kept.Kept.{Kept}
 use Rattle.rod_store.specs.Kept.{value_at, kept_with}
 use Rattle.token_pins.specs.declared.pinned_rod.PinnedRod.{PinnedRod}
 use Rattle.token_pins.specs.Pinning.{rod_shown, rod_now, holder, ArePinned}
-use Rattle.token_pins.specs.TokenChanges.{tokens_after, is_make, unpinned, rod_made, pinned_after}
+use Rattle.lba_ranges.specs.Versions.{with_put}
+use Rattle.token_pins.specs.TokenChanges.{tokens_after, is_make, unpinned, rod_made, pinned_after, ranges_pinned, written_with}
 use Rattle.token_pins.proofs.PublicLaws.{after-with, pinned-same, pinned-sized, rods-same}
 use Rattle.unit_core.specs.inner.BlockChanges.{writings_of, is_nothing}
 use Rattle.unit_core.specs.inner.JobChanges.{grows}
+use Rattle.unit_core.specs.inner.Seen.{lives_in, put_seen, seen_after}
+use Rattle.unit_core.proofs.Seeing.{pinned-apart, seen-changed, seen-with}
 use Rattle.unit_core.proofs.Changing.{on-err, nothing-written, made-makes, now-same, may-now, stay, stay-shown}
 use Rattle.unit_core.proofs.tables.Tables.change.Goals as goal
 
@@ -127,3 +130,60 @@ returns-clause-tokens g c =
     ∙ ap (λ x. tokens_after cut x c.args.now (map (kept_with f) tokens)) c.in_ok-change.ensures.change
     ∙ ap (tokens_after cut c.args.plan.tokens c.args.now)
     (rods-same number size size (g.B.Blocks.shown was) (g.B.Blocks.shown kept) tokens refl (λ k rod b e den. second k rod b e den ∙ first k rod b e den))
+
+pub returns-in_err-reserve-clause-writers : goal.returns-in_err-reserve-clause-writers
+returns-in_err-reserve-clause-writers g c = on-err c.from_residual.result _ (λ w by.
+    record { writers = w; written = by; same = λ s b. ap (λ l. put_seen g.B.Pins.number w l s b) c.reserve.ensures.same })
+
+pub returns-in_err-apply-clause-writers : goal.returns-in_err-apply-clause-writers
+returns-in_err-apply-clause-writers g c = on-err c.from_residual-in_err-apply.result _ (λ w by.
+    record { writers = w; written = c.in_err-apply.ensures.writers w by; same = λ s b. ap (λ l. put_seen g.B.Pins.number w l s b) c.reserve.ensures.same })
+
+pub returns-in_err-change-clause-writers : goal.returns-in_err-change-clause-writers
+returns-in_err-change-clause-writers g c = on-err c.from_residual-in_err-change.result _ (λ w by.
+    let quiet = c.requires.apart (or-right (grows c.args.plan.jobs) (is_make c.args.plan.tokens) c.in_err-change.ensures.makes) in
+    record { writers = w; written = c.in_err-change.ensures.writers w (c.apply.ensures.quiet quiet w by); same = λ s b. ap (λ l. put_seen g.B.Pins.number w l s b) c.reserve.ensures.same })
+
+or-left : (a b : Bool) → a ≡ true → (a || b) ≡ true
+or-left true b e = refl
+or-left false b e = cc
+
+pub returns-in-Err-clause-writers : goal.returns-in-Err-clause-writers
+returns-in-Err-clause-writers g c = λ w by.
+    let number = g.B.Pins.number in
+    let own = holder None c.args.self.now.tokens.tokens in
+    let tokens = c.args.self.now.tokens.tokens in
+    let change = c.in_ok-change.change in
+    let are = pinned-same number (g.B.Blocks.blocks c.args.self.now.blocks) (g.B.Blocks.pinned c.args.self.now.blocks) (g.B.Blocks.pinned c.apply.new.blocks) own own c.requires.pinned c.apply.ensures.pins.live (λ at. refl) in
+    let here = pinned-sized number (g.B.Blocks.blocks c.args.self.now.blocks) (g.B.Blocks.blocks c.apply.new.blocks) (g.B.Blocks.pinned c.apply.new.blocks) own c.apply.ensures.blocks are in
+    let apart = pinned-apart number (g.B.Blocks.blocks c.pinned.new.blocks) (g.B.Blocks.pinned c.pinned.new.blocks) change tokens (c.in_ok-change.ensures.pins tokens here) in
+    let quiet = c.requires.apart (or-left (grows c.args.plan.jobs) (is_make c.args.plan.tokens) c.in-Err.ensures.grows) in
+    record {
+      writers = written_with number change w;
+      written = c.give_up.ensures.written (written_with number change w) (c.in_ok-change.ensures.written w (c.apply.ensures.quiet quiet w by));
+      same = λ s b. ap (λ l. put_seen number (written_with number change w) l s b) c.reserve.ensures.same ∙ seen-with number change tokens apart w s b;
+    }
+
+pub returns-clause-written : goal.returns-clause-written
+returns-clause-written g c = λ w put by new.
+    let number = g.B.Pins.number in
+    let own = holder None c.args.self.now.tokens.tokens in
+    let tokens = c.args.self.now.tokens.tokens in
+    let change = c.in_ok-change.change in
+    let ws = writings_of c.args.plan.blocks in
+    let are = pinned-same number (g.B.Blocks.blocks c.args.self.now.blocks) (g.B.Blocks.pinned c.args.self.now.blocks) (g.B.Blocks.pinned c.apply.new.blocks) own own c.requires.pinned c.apply.ensures.pins.live (λ at. refl) in
+    let here = pinned-sized number (g.B.Blocks.blocks c.args.self.now.blocks) (g.B.Blocks.blocks c.apply.new.blocks) (g.B.Blocks.pinned c.apply.new.blocks) own c.apply.ensures.blocks are in
+    let apart = pinned-apart number (g.B.Blocks.blocks c.pinned.new.blocks) (g.B.Blocks.pinned c.pinned.new.blocks) change tokens (c.in_ok-change.ensures.pins tokens here) in
+    let quiet : (rod : PinnedRod _) → rod_made change ≡ Some rod → ws ≡ [] = λ rod e.
+    nothing-written c.args.plan.blocks (c.requires.apart (or-right (grows c.args.plan.jobs) (is_make c.args.plan.tokens) (ap is_make (sym c.in_ok-change.ensures.change) ∙ made-makes change rod e))) in
+    let after = c.settle.ensures.tokens ∙ ap (pinned_after change c.args.now) c.reserve.ensures.same in
+    let written = c.settle.ensures.written _ (c.in_ok-change.ensures.written _ (c.in_ok-apply.ensures.written w put by new)) in
+    record {
+      writers = written_with number change (with_put ws put w);
+      written = written;
+      same = λ s b.
+          ap (λ l. put_seen number (written_with number change (with_put ws put w)) l s b) after
+          ∙ seen-changed number change tokens apart c.args.now ws put w quiet s b
+          ∙ ap (λ x. seen_after put ws (ranges_pinned x) (length tokens) (lives_in (pinned_after change c.args.now tokens)) (put_seen number w tokens) s b) c.in_ok-change.ensures.change
+          ∙ ap (λ l. seen_after put ws (ranges_pinned c.args.plan.tokens) (length tokens) (lives_in l) (put_seen number w tokens) s b) (sym after);
+    }

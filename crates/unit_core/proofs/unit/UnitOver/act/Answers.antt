@@ -36,7 +36,10 @@ use Rattle.unit_core.proofs.Rooms.{full-serving, need-served, reserved-step, roo
 use Rattle.unit_core.proofs.Standing.{ends-alike, shown-same}
 use Rattle.unit_core.proofs.Steps.{Done, length-kept, payload-kept, record-more, record-step, stamp-next, tables-same, tables-step}
 use Rattle.unit_core.proofs.TableAnswers.{some-there, redeem-given}
-use Rattle.token_pins.specs.Pinning.{rods_of, rod_now}
+use Rattle.token_pins.specs.Pinning.{rods_of, rod_now, rod_shown}
+use Rattle.unit_core.proofs.Needed.{next-new}
+use Rattle.unit_core.proofs.WriterSteps.{writers-step}
+use Rattle.unit_core.proofs.Writers.{placed}
 use Rattle.unit_core.proofs.unit.UnitOver.act.Goals as goal
 
 if-err : {T F : Type 0} (r : Result T F) (P : F → Type 0) → ((e : F) → P e) → IfErr r P
@@ -181,7 +184,13 @@ invariant_of-self-2 g c =
     let kept : c.append.new.self.entries ≡ u.history.entries ++ e ∷ [] = c.append.ensures.added ∙ ap (λ l. l ++ e ∷ []) c.in_ok-reserve.ensures.same in
     let record_now = record-step o.config o.unit u.history.entries u.folded u.history.spare c.append.new.self.spare u.payload (u.payload + c.bytes_in.result) w e c.args.stamp
     r t.record_is refl asked later fits full spare (ap (λ n. u.payload + n) c.bytes_in.ensures) in
-    rw kept (w ++ e ∷ [], tables, record_now, c.change.ensures.pinned)
+    let were = c.self.invariant.4 in
+    let changed = c.in_ok-answer.ensures.written were.writers (length past) were.written
+    (next-new g.B.Pins.number (g.B.Blocks.blocks o.tables.blocks) (g.B.Blocks.pinned o.tables.blocks) (g.B.Blocks.written_by o.tables.blocks) o.tables.tokens.tokens past c.self.invariant.3 were (placed o.config o.unit past known.is)) in
+    let are = writers-step g.B.Pins.number o.config o.unit w e c.in_ok-plan.plan (g.B.Blocks.written_by o.tables.blocks) (g.B.Blocks.written_by k.blocks) o.tables.tokens.tokens k.tokens.tokens
+    (rod_shown g.B.Pins.number (g.B.Blocks.block_length o.tables.blocks) (g.B.Blocks.shown o.tables.blocks)) (rod_shown g.B.Pins.number (g.B.Blocks.block_length k.blocks) (g.B.Blocks.shown k.blocks))
+    were refl planned t.tokens.tokens tables.tokens.tokens changed in
+    rw kept (w ++ e ∷ [], tables, record_now, c.change.ensures.pinned, are)
 
 pub returns-clause-answer : goal.returns-clause-answer
 returns-clause-answer g c = λ h s.
@@ -229,6 +238,26 @@ overflow_add-self g c =
     let has = room-of limit u.folded past c.args.actor c.args.stamp c.args.act within full in
     let fits : c.max.result + 1 < 2 ^ 64 = stamp-next c.max.result c.max.type_inv (ap (λ (n : ℕ). n == 2 ^ 64 - 1) (c.max.ensures ∙ ap (max c.args.stamp) t.stamp) ∙ has.stamps) in
     omega (arith, fits)
+
+pub overflow_add-self-2 : goal.overflow_add-self-2
+overflow_add-self-2 g c =
+    let u = c.self.inside in
+    let o = u.core in
+    let w = c.self.invariant.0 in
+    let t : TablesAgree o.config o.unit (g.B.Blocks.blocks o.tables.blocks) (g.B.Blocks.block_length o.tables.blocks) (g.B.Blocks.holds o.tables.blocks) (rods_of g.B.Pins.number (g.B.Blocks.block_length o.tables.blocks) (g.B.Blocks.shown o.tables.blocks) o.tables.tokens) o.tables.jobs o.last_stamp o.moment w = c.self.invariant.1 in
+    let r = c.self.invariant.2 in
+    let past = past_of o.config o.unit w in
+    let known = known-of o.config o.unit w t.record_is in
+    let limit = unit_of o.config o.unit in
+    let own = stands-own o.config o.unit u.history.entries u.folded u.history.spare u.payload (g.B.Blocks.blocks o.tables.blocks) (g.B.Blocks.block_length o.tables.blocks) (g.B.Blocks.holds o.tables.blocks) (rods_of g.B.Pins.number (g.B.Blocks.block_length o.tables.blocks) (g.B.Blocks.shown o.tables.blocks) o.tables.tokens) o.tables.jobs o.last_stamp o.moment w t r in
+    let standing : Stands c.args.self.now w = rw (← c.self.view_is) own in
+    let full : is_full limit u.folded past c.args.actor c.args.stamp c.args.act ≡ false = rw (← c.self.view_is) at (sym (c.is_full.ensures w standing) ∙ c.if-is_full.false) in
+    let count : length past - u.folded ≡ length u.history.entries = length-kept o.config o.unit u.history.entries u.folded w t.record_is.own r.keeps in
+    let bytes : payload u.folded past ≡ payload_in u.history.entries = payload-kept o.config o.unit u.history.entries u.folded w t.record_is.own r.keeps in
+    let within : payload u.folded past ≤ limit.payload = omega (arith, bytes, r.bytes) in
+    let has = room-of limit u.folded past c.args.actor c.args.stamp c.args.act within full in
+    let few = t.record_is.limits.payload.1 in
+    omega (arith, r.payload, bytes, has.bytes, c.bytes_in.ensures, few)
 
 pub returns-in_err-plan-clause-ends : goal.returns-in_err-plan-clause-ends
 returns-in_err-plan-clause-ends g c =

@@ -62,7 +62,7 @@ invariant_of-self g c =
     let m = c.record_all-end.ensures.moved in
     let long : length u.history.entries ≡ length m.0 + length c.record_all-end.new.history.entries = ap length (sym m.1) ∙ length-append m.0 c.record_all-end.new.history.entries in
     let gone : c.len-before.result - c.len.result ≡ length m.0 = omega (arith, c.len-before.ensures, c.len.ensures, long) in
-    rw (gone, c.record_all-end.ensures.room) (w, t, record-fold o.config o.unit u.history.entries c.record_all-end.new.history.entries m.0 u.folded u.history.spare u.payload c.record_all-end.new.payload w m.1 r c.record_all-end.ensures.payload, c.self.invariant.3)
+    rw (gone, c.record_all-end.ensures.room) (w, t, record-fold o.config o.unit u.history.entries c.record_all-end.new.history.entries m.0 u.folded u.history.spare u.payload c.record_all-end.new.payload w m.1 r c.record_all-end.ensures.payload, c.self.invariant.3, c.self.invariant.4)
 
 pub returns-clause-stands : goal.returns-clause-stands
 returns-clause-stands g c = λ h s.

@@ -11,6 +11,7 @@ use Rattle.unit_core.proofs.Steps.{known-of}
 use Rattle.unit_core.proofs.Steps.{tables-start, record-start}
 use Rattle.token_pins.specs.Pinning.{rods_of, rod_shown}
 use Rattle.rod_store.specs.Kept.{kept_with}
+use Rattle.unit_core.proofs.WriterSteps.{writers-start}
 use Rattle.unit_core.proofs.unit.UnitOver.new.Goals as goal
 
 pub invariant_of-result : goal.invariant_of-result
@@ -19,7 +20,7 @@ invariant_of-result g c =
     let t : TablesAgree c.args.config.now c.args.unit (g.B.Blocks.blocks k.blocks) (g.B.Blocks.block_length k.blocks) (g.B.Blocks.holds k.blocks) (rods_of g.B.Pins.number (g.B.Blocks.block_length k.blocks) (g.B.Blocks.shown k.blocks) k.tokens) k.jobs 0 0 [] =
     tables-start c.args.config.now c.args.unit (g.B.Blocks.blocks k.blocks) (g.B.Blocks.block_length k.blocks) (g.B.Blocks.holds k.blocks) (rods_of g.B.Pins.number (g.B.Blocks.block_length k.blocks) (g.B.Blocks.shown k.blocks) k.tokens) k.jobs
     c.requires c.in_ok-tables.ensures.limits c.in_ok-tables.ensures.blocks c.in_ok-tables.ensures.length c.in_ok-tables.ensures.unmapped c.in_ok-tables.ensures.unit (ap (map (kept_with (rod_shown g.B.Pins.number (g.B.Blocks.block_length k.blocks) (g.B.Blocks.shown k.blocks)))) c.in_ok-tables.ensures.tokens) c.in_ok-tables.ensures.jobs in
-    rw (c.in_ok-config.ensures, c.empty.ensures) ([], t, record-start c.args.config.now c.args.unit, c.in_ok-tables.ensures.pinned)
+    rw (c.in_ok-config.ensures, c.empty.ensures) ([], t, record-start c.args.config.now c.args.unit, c.in_ok-tables.ensures.pinned, writers-start g.B.Pins.number (g.B.Blocks.written_by k.blocks) k.tokens.tokens c.in_ok-tables.ensures.tokens c.in_ok-tables.ensures.written)
 
 pub returns-clause-stands : goal.returns-clause-stands
 returns-clause-stands g c =
