@@ -9,4 +9,5 @@ pub mod Places
 pub mod Changed
 pub mod Stepping
 pub mod Next
+pub mod Later
 pub mod PublicLaws

@@ -25,7 +25,7 @@ next-runs (Some key) job e = and_first (is_running job) (has_key key job) (and_f
 next-runs None job e = and_first (is_running job) (is_background job.work) e
 
 -- none of the jobs has the key, and so not the one that is found
-other-key : (test : Job → Bool) (key : Key) (jobs : List Job) (job : Job) → list_any (has_key key) jobs ≡ false → find test jobs ≡ Some job → has_key key job ≡ false
+pub other-key : (test : Job → Bool) (key : Key) (jobs : List Job) (job : Job) → list_any (has_key key) jobs ≡ false → find test jobs ≡ Some job → has_key key job ≡ false
 other-key test key [] job fresh e = cc
 other-key test key (x ∷ xs) job fresh e = go (test x) e (other-key test key xs job (or_later (has_key key x) (list_any (has_key key) xs) fresh))
   where

@@ -1,4 +1,4 @@
-ghost use Rattle.std.specs.Prelude.{◌≡◌, ℕ, ◌+◌, ◌^◌, ◌≤◌, [], length, find, Some, None, true, false, IfOk, OnOk, OnErr, IfSome};
+ghost use Rattle.std.specs.Prelude.{◌≡◌, ℕ, ◌+◌, ◌^◌, ◌≤◌, [], length, take, find, Some, None, true, false, IfOk, OnOk, OnErr, IfSome};
 ghost use Rattle.std.specs.Option.{option_map};
 ghost use Rattle.std.specs.List.{list_any};
 ghost use Rattle.lba_ranges.specs.Denoted.{total, is_within, is_overlapping};
@@ -24,6 +24,7 @@ use cm_history::{CopyEnd, CopyState, OpReport, OpState};
 use lba_ranges::{BlockList, RangeList};
 use scsi_sense::Sense;
 use std::alloc::Global;
+use std::collections::VecDeque;
 use std::marker::Model;
 
 /// Operations that run.
@@ -34,7 +35,7 @@ const RUNNING_OPERATIONS: u32 = 64;
 #[derive(Drop)]
 pub struct JobTable {
     alloc: Global,
-    jobs: Vec<Job>,
+    jobs: VecDeque<Job>,
     running: u32,
     reserved: u64,
 }
@@ -58,10 +59,18 @@ impl JobTable {
     {
         JobTable {
             alloc,
-            jobs: Vec::new(alloc),
+            jobs: VecDeque::new(alloc),
             running: 0,
             reserved: 0,
         }
+    }
+
+    /// The place before which no operation runs. Where one alone does, it is mostly the newest.
+    fn first_to_run(&self) -> usize
+        ensures within { result ≤ length self.now }
+        ensures none { list_any is_running (take result self.now) ≡ false }
+    {
+        records::first_to_run(&self.jobs, self.running)
     }
 
     /// An operation of the key runs. It takes no memory.
@@ -69,14 +78,18 @@ impl JobTable {
         ensures busy { result ≡ is_busy key self.now }
         ensures apart { KeysApart self.now }
     {
-        self.jobs.iter().any(|job| job.runs_as(key))
+        self.jobs
+            .range(self.first_to_run()..)
+            .any(|job| job.runs_as(key))
     }
 
     /// The operation of the key runs in the background: the unit's pump writes its pieces. It takes no memory.
     pub fn runs_in_background(&self, key: Key) -> bool
         ensures { result ≡ list_any (runs_in_background key) self.now }
     {
-        self.jobs.iter().any(|job| job.runs_in_background(key))
+        self.jobs
+            .range(self.first_to_run()..)
+            .any(|job| job.runs_in_background(key))
     }
 
     /// A piece is to be written next: by the foreground operation of a key, or without a key by an operation in the
@@ -84,7 +97,9 @@ impl JobTable {
     pub fn waits(&self, key: Option<Key>) -> bool
         ensures { result ≡ list_any (is_next key) self.now }
     {
-        self.jobs.iter().any(|job| job.is_next(key))
+        self.jobs
+            .range(self.first_to_run()..)
+            .any(|job| job.is_next(key))
     }
 
     /// How many operations run, at most 64. It takes no memory.
@@ -134,7 +149,8 @@ impl JobTable {
         ensures changed { self.new ≡ change (runs_as key) (with_work (stepped step)) self.old }
         ensures frees { reserved self.new + 1 ≤ reserved self.old }
     {
-        let place = records::place_of(&self.jobs, key);
+        let from = self.first_to_run();
+        let place = records::place_of(&self.jobs, from, key);
         let work = &mut self.jobs[place].work;
         let before = work.reserved();
         work.take(step);
@@ -216,7 +232,8 @@ impl JobTable {
         ensures none { IfOk result (λ found. found ≡ None → find (is_next key) self.now ≡ None) }
         ensures piece { IfOk result (λ found. IfSome found (λ piece. IsNextPiece key self.now piece)) }
     {
-        match self.jobs.iter().find(|job| job.is_next(key)) {
+        let mut later = self.jobs.range(self.first_to_run()..);
+        match later.find(|job| job.is_next(key)) {
             Some(job) => job.next_piece(self.alloc),
             None => Ok(None),
         }
@@ -270,7 +287,7 @@ impl JobTable {
         requires { key.copy ≡ false }
         ensures { result ≡ option_map (λ (job : Job). report_of job.work) (find (has_key key) self.now) }
     {
-        let job = self.jobs.iter().find(|job| job.has_key(key))?;
+        let job = records::of_key(&self.jobs, key)?;
         Some(job.work.report())
     }
 
@@ -279,7 +296,7 @@ impl JobTable {
         requires { key.copy ≡ true }
         ensures { result ≡ option_map (λ (job : Job). result_of job.work) (find (has_key key) self.now) }
     {
-        let job = self.jobs.iter().find(|job| job.has_key(key))?;
+        let job = records::of_key(&self.jobs, key)?;
         Some(job.work.result())
     }
 }

@@ -6,6 +6,7 @@ ghost use Rattle.lba_ranges.specs.declared.fill.Piece.{Piece};
 ghost use Rattle.lba_ranges.specs.Writings.{paired, unmapped, after};
 ghost use Rattle.lun_extents.specs.Extents.{stored, held_from, held_in};
 ghost use Rattle.lun_extents.specs.inner.Extents.{emptied, AreExtents};
+ghost use Rattle.lun_extents.specs.inner.Runs.{IsAlone};
 
 use cm_base::OutOfMemory;
 use lba_ranges::{Fill, Piece};
@@ -151,6 +152,34 @@ pub(crate) fn set(map: &mut Stored, lba: u64, piece: Piece)
     let end = lba + u64::from(piece.count);
     take_out(map, lba + 1, end);
     replace(map, lba, piece);
+}
+
+/// Blocks in a row can be set by one extent: none begins within them, and none goes on behind them.
+pub(crate) fn is_alone(map: &Stored, lba: u64, count: u32) -> bool
+    requires some { 1 ≤ count }
+    requires numbers { lba + count < 2 ^ 64 }
+    ensures { result ≡ true → IsAlone map.now.entries lba count }
+{
+    let last = lba + u64::from(count) - 1;
+    match nearest(map, last) {
+        Some((first, piece)) => first <= lba && u64::from(piece.count) <= last - first + 1,
+        None => true,
+    }
+}
+
+/// Lets an extent begin at a block, where none begins within its blocks and none goes on behind them.
+/// At `OutOfMemory` all is as before.
+pub(crate) fn set_alone(map: &mut Stored, lba: u64, piece: Piece) -> Result<(), OutOfMemory>
+    requires some { 1 ≤ piece.count }
+    requires alone { IsAlone map.old.entries lba piece.count }
+    ensures held { OnOk result ((size b : ℕ) → held_in size map.new.entries b
+        ≡ after (paired (row lba piece.count) (filled size piece.count piece.fill)) b (held_in size map.old.entries b)) }
+    ensures extents { OnOk result ((blocks size : ℕ) → AreExtents blocks size map.old.entries → IsFull size piece.count piece.fill
+        → lba + piece.count ≤ blocks → AreExtents blocks size map.new.entries) }
+    ensures same { OnErr result (map.new.entries ≡ map.old.entries) }
+{
+    map.insert(lba, piece)?;
+    Ok(())
 }
 
 /// Lets each extent that begins in a row of blocks hold nothing. It takes no memory.

@@ -1,10 +1,10 @@
-ghost use Rattle.std.specs.Prelude.{◌≡◌, ◌≢◌, ℕ, ◌+◌, ◌-◌, ◌<◌, ◌≤◌, ◌^◌, ◌++◌, ◌∷◌, [], length, map, None, is_some, IsSome, IfOk, OnOk, OnErr, IfSome, IsTrue, false, if◌then◌else◌};
+ghost use Rattle.std.specs.Prelude.{◌≡◌, ◌≢◌, ℕ, ◌+◌, ◌-◌, ◌<◌, ◌≤◌, ◌^◌, ◌++◌, ◌∷◌, [], length, map, None, is_some, IsSome, IfOk, OnOk, OnErr, IfSome, IsTrue, true, false, if◌then◌else◌};
 ghost use Rattle.std.specs.Option.{option_copied};
 ghost use Rattle.lba_ranges.specs.HeldBlocks.{IsFull, filled};
 ghost use Rattle.lba_ranges.specs.Denoted.{row, blocks_of, total, is_within, is_overlapping};
 ghost use Rattle.lba_ranges.specs.Writings.{paired, unmapped, after, mapped_below, mapped_among};
 ghost use Rattle.lun_extents.specs.Extents.{stored, held_in};
-ghost use Rattle.lun_extents.specs.inner.Runs.{ranges_of, items_of_runs, is_mapped, AreRuns, IsSplitAt, HoldsSame};
+ghost use Rattle.lun_extents.specs.inner.Runs.{ranges_of, items_of_runs, is_mapped, AreRuns, IsSplitAt, IsAlone, IsOneAlone, HoldsSame};
 
 use crate::map::{self, Stored};
 use crate::runs::{self, Filling};
@@ -177,6 +177,64 @@ impl ExtentUnit {
         }
     }
 
+    /// There is one run, and it can be set by one extent.
+    fn is_one_alone(&self, runs: &[Filling]) -> bool
+        requires { AreRuns self.now.blocks self.now.block_length runs.now }
+        ensures { result ≡ true → IsOneAlone self.now.entries runs.now }
+    {
+        let _blocks = self.blocks;
+        if runs.len() != 1 {
+            return false;
+        }
+        let Range { lba, count } = runs[0].range;
+        map::is_alone(&self.extents, lba, count)
+    }
+
+    /// Gives the blocks of a run what they are to hold, where it can be set by one extent. At
+    /// `OutOfMemory` each block holds what it held.
+    fn set_alone(&mut self, run: Filling) -> Result<(), OutOfMemory>
+        requires some { 1 ≤ run.range.count }
+        requires within { run.range.lba + run.range.count ≤ self.old.blocks }
+        requires full { IsFull self.old.block_length run.range.count run.fill }
+        requires alone { IsAlone self.old.entries run.range.lba run.range.count }
+        ensures blocks { self.new.blocks ≡ self.old.blocks }
+        ensures length { self.new.block_length ≡ self.old.block_length }
+        ensures held { OnOk result ((block : ℕ) → held_in self.new.block_length self.new.entries block
+            ≡ after (paired (row run.range.lba run.range.count) (filled self.old.block_length run.range.count run.fill)) block
+            (held_in self.old.block_length self.old.entries block)) }
+        ensures same { OnErr result (self.new ≡ self.old) }
+    {
+        let before = self.mapped_in(run.range);
+        let now = mapped_of(&run);
+        let Filling { range, fill } = run;
+        let piece = Piece {
+            count: range.count,
+            fill,
+        };
+        map::set_alone(&mut self.extents, range.lba, piece)?;
+        let others = self.mapped - before;
+        self.mapped = others + now;
+        Ok(())
+    }
+
+    /// The same of runs that are one.
+    fn set_one(&mut self, runs: Vec<Filling>) -> Result<(), OutOfMemory>
+        requires runs { AreRuns self.old.blocks self.old.block_length runs.items }
+        requires alone { IsOneAlone self.old.entries runs.items }
+        ensures blocks { self.new.blocks ≡ self.old.blocks }
+        ensures length { self.new.block_length ≡ self.old.block_length }
+        ensures held { OnOk result ((block : ℕ) → held_in self.new.block_length self.new.entries block
+            ≡ after (paired (blocks_of (ranges_of runs.items)) (items_of_runs self.old.block_length runs.items)) block
+            (held_in self.old.block_length self.old.entries block)) }
+        ensures same { OnErr result (self.new ≡ self.old) }
+    {
+        let mut runs = runs;
+        match runs.pop() {
+            Some(run) => self.set_alone(run),
+            None => unreachable!(),
+        }
+    }
+
     /// Unmaps the blocks of a range, where an extent begins at its start and at its end. It takes no memory.
     fn unmap_range(&mut self, range: Range)
         requires within { range.lba + range.count ≤ self.old.blocks }
@@ -260,6 +318,9 @@ impl Blocks for ExtentUnit {
 
     fn put(&mut self, ranges: &RangeList, list: &BlockList) -> Result<(), OutOfMemory> {
         let runs = runs::runs_of(self.alloc, self.blocks, ranges, list)?;
+        if self.is_one_alone(&runs) {
+            return self.set_one(runs);
+        }
         if let Err(refused) = self.split_at_fillings(&runs) {
             self.remove_empty_extents(ranges);
             return Err(refused);

@@ -1,5 +1,5 @@
 -- Runs of blocks that are to be written, and what is kept where extents begin
-use Rattle.std.specs.Prelude.{◌≡◌, ℕ, ◌+◌, ◌≤◌, List, [], ◌∷◌, ◌++◌, Some, IsSome, slice_get, Bool, true, false}
+use Rattle.std.specs.Prelude.{◌≡◌, ℕ, ◌+◌, ◌-◌, ◌<◌, ◌≤◌, List, None, [], ◌∷◌, ◌++◌, Some, IsSome, slice_get, Bool, true, false}
 use Rattle.lba_ranges.specs.HeldBlocks.{filled, IsFull}
 use Rattle.lba_ranges.specs.Writings.{Held}
 use Rattle.lba_ranges.specs.declared.fill.Piece.{Piece}
@@ -7,7 +7,7 @@ use Rattle.lba_ranges.specs.declared.fill.Fill.{Fill}
 use Rattle.lba_ranges.specs.declared.fill.Fill.TheVariants.{Hole, Bytes}
 use Rattle.lba_ranges.specs.declared.ranges.Range.{Range}
 use Rattle.lun_extents.specs.declared.runs.Filling.{Filling}
-use Rattle.lun_extents.specs.Extents.{Extents, stored, held_in}
+use Rattle.lun_extents.specs.Extents.{Extents, stored, held_from, held_in}
 
 -- where the runs are
 abbrev pub ranges_of : List Filling → List Range
@@ -39,3 +39,14 @@ pub record HoldsSame (was now : Extents) : Type 0 where
   pub blocks : now.blocks ≡ was.blocks
   pub block_length : now.block_length ≡ was.block_length
   pub held : (block : ℕ) → held_in now.block_length now.entries block ≡ held_in was.block_length was.entries block
+
+-- no extent begins within a run, and none goes on behind it
+pub record IsAlone (entries : List (ℕ × Piece)) (lba count : ℕ) : Type 0 where
+  pub inside : (block : ℕ) → lba < block → block < lba + count → stored entries block ≡ None
+  pub ended : (size i : ℕ) → held_from size (stored entries) (lba + count - 1) (1 + i) ≡ None
+
+-- there is one run, and it is so
+pub record IsOneAlone (entries : List (ℕ × Piece)) (runs : List Filling) : Type 0 where
+  pub run : Filling
+  pub is : runs ≡ run ∷ []
+  pub alone : IsAlone entries run.range.lba run.range.count

@@ -56,25 +56,25 @@ was-counted step key jobs s =
 pub reserved-before-requires : goal.reserved-before-requires
 reserved-before-requires c =
     let t = turn c.args.step c.args.key c.index_mut.result.now c.self.view_is c.self.invariant c.requires.busy c.requires.step
-    c.deref.ensures.value c.place_of-place.ensures.place c.index_mut.ensures.value in
+    refl c.place_of-place.ensures.place c.index_mut.ensures.value in
     rw t.here t.s.is.work
 
 pub take-requires-clause-work : goal.take-requires-clause-work
 take-requires-clause-work c =
     let t = turn c.args.step c.args.key c.index_mut.result.now c.self.view_is c.self.invariant c.requires.busy c.requires.step
-    c.deref.ensures.value c.place_of-place.ensures.place c.index_mut.ensures.value in
+    refl c.place_of-place.ensures.place c.index_mut.ensures.value in
     rw t.here t.s.is.work
 
 pub take-requires-clause-step : goal.take-requires-clause-step
 take-requires-clause-step c =
     let t = turn c.args.step c.args.key c.index_mut.result.now c.self.view_is c.self.invariant c.requires.busy c.requires.step
-    c.deref.ensures.value c.place_of-place.ensures.place c.index_mut.ensures.value in
+    refl c.place_of-place.ensures.place c.index_mut.ensures.value in
     rw t.here t.s.may
 
 pub reserved-requires : goal.reserved-requires
 reserved-requires c =
     let t = turn c.args.step c.args.key c.index_mut.result.now c.self.view_is c.self.invariant c.requires.busy c.requires.step
-    c.deref.ensures.value c.place_of-place.ensures.place c.index_mut.ensures.value in
+    refl c.place_of-place.ensures.place c.index_mut.ensures.value in
     rw (c.take.ensures, t.here) t.s.after.work
 
 pub overflow_add-self : goal.overflow_add-self
@@ -85,7 +85,7 @@ overflow_add-self c =
 pub overflow_sub-self-2 : goal.overflow_sub-self-2
 overflow_sub-self-2 c =
     let t = turn c.args.step c.args.key c.index_mut.result.now c.self.view_is c.self.invariant c.requires.busy c.requires.step
-    c.deref.ensures.value c.place_of-place.ensures.place c.index_mut.ensures.value in
+    refl c.place_of-place.ensures.place c.index_mut.ensures.value in
     let work = left-work _ _ _ _ _ c.take.new.self t c.take.ensures in
     let runs : c.from.result ≡ one_if (not (is_running_work (stepped c.args.step t.s.it.job.work))) =
     c.from.ensures ∙ byte-one (not c.is_running.result) ∙ ap (λ b. one_if (not b)) (c.is_running.ensures ∙ ap is_running_work work) in
@@ -95,7 +95,7 @@ overflow_sub-self-2 c =
 pub invariant_of-self : goal.invariant_of-self
 invariant_of-self c =
     let t = turn c.args.step c.args.key c.index_mut.result.now c.self.view_is c.self.invariant c.requires.busy c.requires.step
-    c.deref.ensures.value c.place_of-place.ensures.place c.index_mut.ensures.value in
+    refl c.place_of-place.ensures.place c.index_mut.ensures.value in
     let work = left-work _ _ _ _ _ c.take.new.self t c.take.ensures in
     let runs : c.from.result ≡ one_if (not (is_running_work (stepped c.args.step t.s.it.job.work))) =
     c.from.ensures ∙ byte-one (not c.is_running.result) ∙ ap (λ b. one_if (not b)) (c.is_running.ensures ∙ ap is_running_work work) in
@@ -107,11 +107,11 @@ invariant_of-self c =
 pub returns-clause-changed : goal.returns-clause-changed
 returns-clause-changed c =
     let t = turn c.args.step c.args.key c.index_mut.result.now c.self.view_is c.self.invariant c.requires.busy c.requires.step
-    c.deref.ensures.value c.place_of-place.ensures.place c.index_mut.ensures.value in
+    refl c.place_of-place.ensures.place c.index_mut.ensures.value in
     left _ _ _ _ _ c.take.new.self t c.take.ensures ∙ ap (change (runs_as c.args.key) (with_work (stepped c.args.step))) c.self.view_is
 
 pub returns-clause-frees : goal.returns-clause-frees
 returns-clause-frees c =
     let t = turn c.args.step c.args.key c.index_mut.result.now c.self.view_is c.self.invariant c.requires.busy c.requires.step
-    c.deref.ensures.value c.place_of-place.ensures.place c.index_mut.ensures.value in
+    refl c.place_of-place.ensures.place c.index_mut.ensures.value in
     rw (left _ _ _ _ _ c.take.new.self t c.take.ensures, ← c.self.view_is) (stepped-frees c.args.step c.args.key c.self.inside.jobs.items t.s)

@@ -1,8 +1,8 @@
-use Rattle.std.proofs.Common.{◌≡◌, List, sym, ◌∙◌, rules, tests, refl}
+use Rattle.std.proofs.Common.{◌≡◌, List, sym, ◌∙◌, arith, drop, rules, tests, refl}
 use Rattle.std.specs.Prelude.{Option, Some, None, Ok, Err, Result, find, IfOk, IfSome}
 use Rattle.cm_base.specs.declared.out_of_memory.OutOfMemory.{OutOfMemory}
 use Rattle.std.proofs.lemmas.Iterator.Search.{find_from_yields_List}
-use Rattle.std.proofs.lemmas.Iterator.{YieldsList-from_slice}
+use Rattle.std.proofs.lemmas.Iterator.Consumers.{YieldsList-from_deque}
 use Rattle.copy_jobs.specs.declared.key.Key.{Key}
 use Rattle.copy_jobs.specs.declared.job.Job.{Job}
 use Rattle.copy_jobs.specs.declared.piece.NextPiece.{NextPiece}
@@ -11,14 +11,17 @@ use Rattle.copy_jobs.specs.inner.Pieces.{IsPieceOf}
 use Rattle.copy_jobs.specs.Tables.{KeysApart}
 use Rattle.copy_jobs.specs.inner.Tables.{IsJob}
 use Rattle.copy_jobs.proofs.Found.{find-job}
-use Rattle.copy_jobs.proofs.Next.{next-is}
+use Rattle.copy_jobs.proofs.Next.{next-is, next-runs}
+use Rattle.copy_jobs.proofs.Later.{find-later, rest-all}
 use Rattle.copy_jobs.proofs.table.JobTable.next.Goals as goal
 
 pub next_piece-requires-clause-work : goal.next_piece-requires-clause-work
 next_piece-requires-clause-work c =
     let jobs : List Job = c.self.inside.jobs.items in
-    let is = find_from_yields_List (is_next c.args.key) _ _ c.find.result c.find.ensures.ran (YieldsList-from_slice jobs cc) (λ x b q k. search (rules, tests)) in
-    let told : find (is_next c.args.key) jobs ≡ Some c.in-Some.job.now = sym is ∙ rw c.in-Some.is refl in
+    let is = find_from_yields_List (is_next c.args.key) _ _ c.find.result c.find.ensures.ran
+    (YieldsList-from_deque (drop c.first_to_run.result jobs) (c.range-later.ensures.rest ∙ rest-all jobs c.first_to_run.result _ (omega arith))) (λ x b q k. search (rules, tests)) in
+    let told : find (is_next c.args.key) jobs ≡ Some c.in-Some.job.now =
+    sym (find-later (is_next c.args.key) jobs c.first_to_run.result (next-runs c.args.key) (rw c.self.view_is c.first_to_run.ensures.none)) ∙ sym is ∙ rw c.in-Some.is refl in
     let job = find-job (is_next c.args.key) jobs c.in-Some.job.now c.self.invariant.jobs told in
     job.work
 
@@ -31,13 +34,16 @@ each key jobs job (Ok (Some piece)) a is f h = next-is key jobs job piece a f is
 pub returns-in-Some-clause-piece : goal.returns-in-Some-clause-piece
 returns-in-Some-clause-piece c =
     let jobs : List Job = c.self.inside.jobs.items in
-    let is = find_from_yields_List (is_next c.args.key) _ _ c.find.result c.find.ensures.ran (YieldsList-from_slice jobs cc) (λ x b q k. search (rules, tests)) in
-    let told : find (is_next c.args.key) jobs ≡ Some c.in-Some.job.now = sym is ∙ rw c.in-Some.is refl in
+    let is = find_from_yields_List (is_next c.args.key) _ _ c.find.result c.find.ensures.ran
+    (YieldsList-from_deque (drop c.first_to_run.result jobs) (c.range-later.ensures.rest ∙ rest-all jobs c.first_to_run.result _ (omega arith))) (λ x b q k. search (rules, tests)) in
+    let told : find (is_next c.args.key) jobs ≡ Some c.in-Some.job.now =
+    sym (find-later (is_next c.args.key) jobs c.first_to_run.result (next-runs c.args.key) (rw c.self.view_is c.first_to_run.ensures.none)) ∙ sym is ∙ rw c.in-Some.is refl in
     let job = find-job (is_next c.args.key) jobs c.in-Some.job.now c.self.invariant.jobs told in
     rw (← c.self.view_is) (each c.args.key jobs c.in-Some.job.now c.next_piece.result c.self.invariant.apart job told c.next_piece.ensures.piece)
 
 pub returns-in-None-clause-none : goal.returns-in-None-clause-none
 returns-in-None-clause-none c =
     let jobs : List Job = c.self.inside.jobs.items in
-    let is = find_from_yields_List (is_next c.args.key) _ _ c.find.result c.find.ensures.ran (YieldsList-from_slice jobs cc) (λ x b q k. search (rules, tests)) in
-    λ _. rw (← c.self.view_is) (sym is ∙ rw c.in-None.is refl)
+    let is = find_from_yields_List (is_next c.args.key) _ _ c.find.result c.find.ensures.ran
+    (YieldsList-from_deque (drop c.first_to_run.result jobs) (c.range-later.ensures.rest ∙ rest-all jobs c.first_to_run.result _ (omega arith))) (λ x b q k. search (rules, tests)) in
+    λ _. rw (← c.self.view_is) (sym (find-later (is_next c.args.key) jobs c.first_to_run.result (next-runs c.args.key) (rw c.self.view_is c.first_to_run.ensures.none)) ∙ sym is ∙ rw c.in-None.is refl)
