@@ -6,6 +6,7 @@ import threading
 
 from copymgr import Connection, Ended
 from copymgr.hosts import reply_from
+from fuzzing import changes
 from replay import acts, cdbs, frames, lists, rod_token
 from replay.player import Player
 from replay.requests import Requests
@@ -50,15 +51,22 @@ def is_long(request):
 
 
 class SharedRequests(Requests):
-    """Random requests that use the tokens which any connection was told, and for which a record is never full."""
+    """Random requests that use the tokens which any connection was told, and for which a record is never full. A share of
+    them is changed in a place or two."""
 
-    def __init__(self, rng, machine, texts):
+    def __init__(self, rng, machine, texts, share=0):
         super().__init__(rng, Player(machine), STYLE)
-        self.texts = texts
+        self.texts, self.share = texts, share
 
     def request(self, initiator):
-        while is_long(request := super().request(initiator)):
+        while is_long(request := self.changed(super().request(initiator))):
             pass
+        return request
+
+    def changed(self, request):
+        if self.rng.random() < self.share:
+            for _ in range(self.rng.choice([1, 1, 2])):
+                _, request = changes.again(self.rng, request)
         return request
 
     def token(self):
@@ -73,10 +81,10 @@ class SharedRequests(Requests):
 class Talker:
     """One connection: its requests, and the bytes of the replies to them."""
 
-    def __init__(self, address, nexus, machine, seed, texts):
+    def __init__(self, address, nexus, machine, options, texts):
         self.nexus = nexus
-        self.rng = random.Random(f"{seed} {nexus}")
-        self.wanted = SharedRequests(self.rng, machine, texts)
+        self.rng = random.Random(f"{options.seed} {nexus}")
+        self.wanted = SharedRequests(self.rng, machine, texts, options.changed)
         self.texts = texts
         self.made = []
         self.requests, self.replies = [], []
@@ -135,7 +143,7 @@ def connected(address, machine, options):
     """Connections, each of which was replied to before the next one was made: so its nexus has its number."""
     talkers, texts = [], []
     for nexus in range(options.connections):
-        talkers.append(Talker(address, nexus, machine, options.seed, texts))
+        talkers.append(Talker(address, nexus, machine, options, texts))
         talkers[-1].ask(talkers[-1].first())
     return talkers
 

@@ -229,7 +229,7 @@ def part(results, words, is_program):
     if report:
         judge(results, report, probes)
     print(f"the longest time to two replies: {max(probe.longest for probe in probes):.2f} s")
-    memory.show(results, watch, is_program)
+    memory.show(results, watch, sessions, 1, is_program)
 
 
 def judge(results, report, probes):

@@ -186,8 +186,8 @@ class Session:
 
     def kind_of(self, ended):
         """What kind of end it is; None where no single refusal brings it about."""
-        if ended == Ended(b"", 6, "session_bench: out of memory\n"):
-            return "status 6, no session"
+        if ended.status == 6 and ended.said.startswith("session_bench: "):
+            return None if ended.output else "status 6, no session"
         if ended.status == OUT_OF_MEMORY and not ended.said:
             return "status 3, a beginning" if self.commands.replies.startswith(ended.output) else None
         return f"status 0, {self.kinds[ended]}" if ended in self.kinds else None

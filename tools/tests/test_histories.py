@@ -243,6 +243,9 @@ class Tool(unittest.TestCase):
     def test_the_plain_server(self):
         self.is_played_again("-", "--connections", "8", "--commands", "20", "--seed", "3")
 
+    def test_changed_requests(self):
+        self.is_played_again("-", "--connections", "4", "--commands", "60", "--seed", "3", "--changed", "0.8", "--check", "200")
+
     def test_a_program_that_replies_otherwise(self):
         with tempfile.TemporaryDirectory() as folder:
             program = pathlib.Path(folder, "another")
