@@ -4,7 +4,7 @@ use Rattle.std.proofs.lemmas.List.{take_at, drop_at, length-take-le, drop-drop, 
 use borrow.Rule.Slice.PartMut.{put_mid, post_of}
 use Rattle.recorder.specs.Recording.{Rose}
 use Rattle.journal_disk.specs.Disk.{NoMore, Elapses, LeavesOnly}
-use Rattle.journal_disk.specs.Scanning.{OnlyReads}
+use Rattle.journal_disk.specs.inner.Scanning.{OnlyReads}
 use Rattle.journal_disk.proofs.Moments.{started, goes_on, joined, weaker}
 
 -- the file that is told

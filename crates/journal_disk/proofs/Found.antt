@@ -9,7 +9,7 @@ use Rattle.cm_history.specs.declared.act.Entry.{Entry}
 use Rattle.journal_disk.specs.Opened.{open_gate, begins_open, is_unmade, front_bytes, mark_bytes, entry_in, may_follow, allowed, told_size, payload_in, good_entry, with_first, and_later, entries_from, opened_behind, opened}
 use Rattle.journal_disk.specs.Log.{framed, records, Holds}
 use Rattle.journal_disk.specs.Journal.{last_stamp, Spells, AreSpelled}
-use Rattle.journal_disk.specs.NewFile.{IsEmpty}
+use Rattle.journal_disk.specs.inner.NewFile.{IsEmpty}
 use Rattle.journal_disk.proofs.Gates.{length-framed}
 use Rattle.journal_disk.proofs.Told.{first-length, first-payload, first-rest}
 

@@ -8,8 +8,8 @@ use Rattle.journal_disk.specs.Opened.{front_bytes, mark_bytes, is_unmade, entry_
 use Rattle.journal_disk.specs.Log.{records, Holds, IsTold, IsKept}
 use Rattle.journal_disk.specs.Journal.{last_stamp, AreSpelled, BegunSpells, IsJournal, SyncsFirst}
 use Rattle.journal_disk.specs.Recording.{if_spelled, entries_of, recorded_in, AreShort, IsFit}
-use Rattle.journal_disk.specs.NewFile.{front_of, IsEmpty, MayMake}
-use Rattle.journal_disk.specs.Scanning.{OnlyReads, IsFound}
+use Rattle.journal_disk.specs.inner.NewFile.{front_of, IsEmpty, MayMake}
+use Rattle.journal_disk.specs.inner.Scanning.{OnlyReads, IsFound}
 use Rattle.journal_disk.specs.declared.log.Log.{Log}
 use Rattle.journal_disk.proofs.Moments.{started, goes_on, joined, weaker}
 use Rattle.journal_disk.proofs.NewFiles.{new-holds}

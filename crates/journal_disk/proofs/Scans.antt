@@ -9,7 +9,7 @@ use Rattle.cm_history.specs.declared.act.Entry.{Entry}
 use Rattle.journal_disk.specs.Opened.{open_gate, begins_open, front_bytes, entry_in, may_follow, allowed, told_size, payload_in, good_entry, opened}
 use Rattle.journal_disk.specs.Log.{framed, records, Holds}
 use Rattle.journal_disk.specs.Journal.{last_stamp, Spells, AreSpelled}
-use Rattle.journal_disk.specs.Scanning.{IsNext, IsScanned, IsFound}
+use Rattle.journal_disk.specs.inner.Scanning.{IsNext, IsScanned, IsFound}
 use Rattle.journal_disk.proofs.Gates.{length-framed, records-push}
 use Rattle.journal_disk.proofs.Found.{good-none, good-short, holds-opens, cut-is-bad}
 use Rattle.journal_disk.proofs.Entries.{spelled-push, last-push}

@@ -6,8 +6,8 @@ use Rattle.std.proofs.lemmas.List.{take_at}
 use Rattle.std.proofs.lemmas.Slice.Eq.{bytes_eq-Decides}
 use Rattle.cm_base.specs.Configuration.{Configuration}
 use Rattle.journal_disk.specs.Opened.{open_gate, begins_open, is_unmade, mark_bytes, front_bytes, opened}
-use Rattle.journal_disk.specs.NewFile.{IsShut, MayMake}
-use Rattle.journal_disk.specs.Scanning.{IsOfShape, IsSafeShape}
+use Rattle.journal_disk.specs.inner.NewFile.{IsShut, MayMake}
+use Rattle.journal_disk.specs.inner.Scanning.{IsOfShape, IsSafeShape}
 use Rattle.journal_disk.specs.declared.judging.Shape.{Shape}
 use Rattle.journal_disk.specs.declared.judging.Shape.TheVariants.{Unmade, Made}
 use Rattle.journal_disk.proofs.Found.{shut-is, other-is}

@@ -8,7 +8,8 @@ use Rattle.cm_history.specs.declared.act.Entry.{Entry}
 use Rattle.recorder.specs.Recording.{with_more}
 use Rattle.recorder.specs.Text.{entry_bytes}
 use Rattle.journal_disk.specs.Opened.{entry_in}
-use Rattle.journal_disk.specs.Recording.{payloads_within, payloads_in, if_spelled, entries_of, recorded_in, IsShort, AreShort, HasText, IsFit}
+use Rattle.journal_disk.specs.Recording.{payloads_within, payloads_in, if_spelled, entries_of, recorded_in, IsShort, AreShort, IsFit}
+use Rattle.journal_disk.specs.inner.Texts.{HasText}
 use Rattle.journal_disk.specs.declared.log.Log.{Log}
 use Rattle.journal_disk.proofs.Gates.{length-framed}
 

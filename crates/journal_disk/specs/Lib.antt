@@ -4,5 +4,4 @@ pub mod Log
 pub mod Journal
 pub mod Recording
 pub mod Memory
-pub mod NewFile
-pub mod Scanning
+pub mod inner

@@ -85,7 +85,7 @@ entries_from config unit (suc n) last place [] = Ok []
 entries_from config unit (suc n) last place (gate ∷ rest) =
     if gate == open_gate
     then and_later (good_entry config unit last rest) (place + 1)
-        (λ e. entries_from config unit n e.stamp (place + 9 + told_size rest) (drop (8 + told_size rest) rest))
+    (λ e. entries_from config unit n e.stamp (place + 9 + told_size rest) (drop (8 + told_size rest) rest))
     else Ok []
 
 abbrev pub opened_behind : Configuration → ℕ → List ℕ → List ℕ → Result (List Entry) ℕ

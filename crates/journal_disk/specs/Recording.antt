@@ -40,10 +40,6 @@ abbrev pub AreShort : List (List ℕ) → Type 0
 AreShort [] = Unit {0}
 AreShort (p ∷ ps) = IsShort p × AreShort ps
 
--- an entry that is read back from its text, whose length eight bytes can hold
-abbrev pub HasText : Entry → Type 0
-HasText e = (entry_in (entry_bytes e) ≡ Some e) × IsShort (entry_bytes e)
-
 -- the journal is kept, and of no other entry than this the opening was begun
 pub record IsReady {D : Type 0} (reads : D → Option (List ℕ)) (may_leave : D → List ℕ → Type 0) (log : Log D) (e : Entry) : Type 0 where
   pub front : List ℕ

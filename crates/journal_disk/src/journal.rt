@@ -6,7 +6,7 @@ ghost use Rattle.recorder.specs.Text.{entry_bytes, HasShortLists};
 ghost use Rattle.recorder.specs.declared.recording.RecordRefused.{RecordRefused};
 ghost use Rattle.journal_disk.specs.Disk.{LeavesOnly};
 ghost use Rattle.journal_disk.specs.Log.{IsTried, IsKept};
-ghost use Rattle.journal_disk.specs.Recording.{HasText};
+ghost use Rattle.journal_disk.specs.inner.Texts.{HasText};
 ghost use Rattle.journal_disk.specs.Journal.{MayFollow, IsJournal, OpensAsOrOneMore};
 
 use crate::{Disk, Log};

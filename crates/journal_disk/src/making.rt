@@ -3,7 +3,7 @@ ghost use Rattle.std.specs.Prelude.{◌≡◌, ◌∷◌, ◌++◌, [], ◌≤�
 ghost use Rattle.recorder.specs.Recording.{Rose};
 ghost use Rattle.journal_disk.specs.Disk.{Both, IsNoShorter, LeavesOnly};
 ghost use Rattle.journal_disk.specs.Log.{IsTold};
-ghost use Rattle.journal_disk.specs.NewFile.{front_of, IsEmpty, IsShut, IsWhole, MayMake};
+ghost use Rattle.journal_disk.specs.inner.NewFile.{front_of, IsEmpty, IsShut, IsWhole, MayMake};
 
 use crate::log::{OPEN, SHUT};
 use crate::{Disk, DiskFailed, write_synced};

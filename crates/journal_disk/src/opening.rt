@@ -80,7 +80,7 @@ fn open_synced<D: Disk>(
         → IfOk result (λ r. opened config.now unit file ≡ Ok r.history.entries) }
     ensures kept { (file : List ℕ) → D.reads disk.old ≡ Some file → IsSynced (D.reads disk.old) (D.may_leave disk.old)
         → IfOk result (λ r. IsJournal D.reads D.may_leave config.now unit r.history.entries None
-            (record { disk = disk.new; start = r.start; gate = r.gate; begun = false })) }
+        (record { disk = disk.new; start = r.start; gate = r.gate; begun = false })) }
     ensures bad { (file : List ℕ) → D.reads disk.old ≡ Some file
         → IfErr result (λ e. (place : ℕ) → e ≡ OpenFault.BadJournal place → opened config.now unit file ≡ Err place) }
     ensures moments { (file : List ℕ) → D.reads disk.old ≡ Some file → IsSynced (D.reads disk.old) (D.may_leave disk.old)
@@ -123,14 +123,14 @@ fn open_disk<D: Disk>(
     ensures opened { (file : List ℕ) → D.reads disk.old ≡ Some file → IfOk result (λ r. opened config.now unit file ≡ Ok r.history.entries) }
     ensures kept { (file : List ℕ) → D.reads disk.old ≡ Some file
         → IfOk result (λ r. IsJournal D.reads D.may_leave config.now unit r.history.entries None
-            (record { disk = disk.new; start = r.start; gate = r.gate; begun = false })) }
+        (record { disk = disk.new; start = r.start; gate = r.gate; begun = false })) }
     ensures bad { (file : List ℕ) → D.reads disk.old ≡ Some file
         → IfErr result (λ e. (place : ℕ) → e ≡ OpenFault.BadJournal place → opened config.now unit file ≡ Err place) }
     ensures synced { (file : List ℕ) → D.reads disk.old ≡ Some file
         → OnOk result (SyncsFirst D.reads D.may_leave D.moment D.left_since disk.old disk.new (λ c. opened config.now unit c ≡ opened config.now unit file)) }
     ensures refused { (file : List ℕ) → D.reads disk.old ≡ Some file
         → OnErr result (LeavesOnly D.moment D.left_since disk.old disk.new (D.may_leave disk.old)
-            ⊎ SyncsFirst D.reads D.may_leave D.moment D.left_since disk.old disk.new (λ c. opened config.now unit c ≡ opened config.now unit file)) }
+        ⊎ SyncsFirst D.reads D.may_leave D.moment D.left_since disk.old disk.new (λ c. opened config.now unit c ≡ opened config.now unit file)) }
     ensures failed { IfErr result (λ e. e ≡ OpenFault.DiskFault → Rose (D.disk_faults disk.old) (D.disk_faults disk.new)) }
 {
     disk.sync()?;
@@ -169,7 +169,7 @@ impl<D: Disk + Drop> Journal<D> {
             → IfOk result (λ r. SyncsFirst D.reads D.may_leave D.moment D.left_since disk r.0.disk (λ c. opened config.now unit c ≡ opened config.now unit file)) }
         ensures refused { (file : List ℕ) → D.reads disk ≡ Some file
             → IfErr result (λ e. LeavesOnly D.moment D.left_since disk e.0 (D.may_leave disk)
-                ⊎ SyncsFirst D.reads D.may_leave D.moment D.left_since disk e.0 (λ c. opened config.now unit c ≡ opened config.now unit file)) }
+            ⊎ SyncsFirst D.reads D.may_leave D.moment D.left_since disk e.0 (λ c. opened config.now unit c ≡ opened config.now unit file)) }
         ensures failed { IfErr result (λ e. e.1 ≡ OpenFault.DiskFault → Rose (D.disk_faults disk) (D.disk_faults e.0)) }
     {
         let mut disk = disk;

@@ -4,7 +4,7 @@ ghost use Rattle.byteorder.specs.Endian.{big_bytes};
 ghost use Rattle.recorder.specs.Recording.{Rose};
 ghost use Rattle.journal_disk.specs.Disk.{NoMore, LeavesOnly};
 ghost use Rattle.journal_disk.specs.Opened.{told_size};
-ghost use Rattle.journal_disk.specs.Scanning.{OnlyReads};
+ghost use Rattle.journal_disk.specs.inner.Scanning.{OnlyReads};
 
 use crate::{Disk, DiskFailed};
 use cm_base::get_u64;

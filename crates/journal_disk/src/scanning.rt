@@ -5,7 +5,7 @@ ghost use Rattle.recorder.specs.Recording.{Rose};
 ghost use Rattle.journal_disk.specs.Opened.{begins_open, entry_in, may_follow, allowed, opened};
 ghost use Rattle.cm_history.specs.Limits.{within_limits};
 ghost use Rattle.cm_history.specs.Legal.{may_ask};
-ghost use Rattle.journal_disk.specs.Scanning.{OnlyReads, IfSize, IfNext, IsScanned, IsFound};
+ghost use Rattle.journal_disk.specs.inner.Scanning.{OnlyReads, IfSize, IfNext, IsScanned, IsFound};
 ghost use Rattle.journal_disk.specs.declared.opening.OpenFault.{OpenFault};
 
 use crate::log::OPEN;

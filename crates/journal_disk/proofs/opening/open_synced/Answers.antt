@@ -4,8 +4,8 @@ use Rattle.cm_history.specs.declared.act.Entry.{Entry}
 use Rattle.journal_disk.specs.Opened.{front_bytes, mark_bytes, opened}
 use Rattle.journal_disk.specs.Log.{IsTold}
 use Rattle.journal_disk.specs.Journal.{IsJournal}
-use Rattle.journal_disk.specs.NewFile.{MayMake}
-use Rattle.journal_disk.specs.Scanning.{IsOfShape, IsScanned}
+use Rattle.journal_disk.specs.inner.NewFile.{MayMake}
+use Rattle.journal_disk.specs.inner.Scanning.{IsOfShape, IsScanned}
 use Rattle.journal_disk.specs.declared.judging.Shape.{Shape}
 use Rattle.journal_disk.proofs.Moments.{started, joined}
 use Rattle.journal_disk.proofs.FileReads.{reads-then}

@@ -2,7 +2,7 @@ use Rattle.std.proofs.Common.{◌≡◌, ◌<◌, ◌+◌, ◌^◌, ℕ, Option,
 use Rattle.std.specs.Prelude.{IfSome}
 use Rattle.cm_history.specs.declared.act.Entry.{Entry}
 use Rattle.journal_disk.specs.Opened.{may_follow, allowed, entry_in}
-use Rattle.journal_disk.specs.Scanning.{IfSize}
+use Rattle.journal_disk.specs.inner.Scanning.{IfSize}
 use Rattle.journal_disk.proofs.FileReads.{of-told}
 use Rattle.journal_disk.proofs.Scans.{next-is, next-none}
 use Rattle.journal_disk.proofs.scanning.next_at.Goals as goal

@@ -2,7 +2,7 @@ use Rattle.std.proofs.Common.{◌≡◌, ◌∙◌, ◌<◌, ◌+◌, ◌++◌, 
 use Rattle.std.specs.Prelude.{IfSome}
 use Rattle.cm_history.specs.declared.act.Entry.{Entry}
 use Rattle.journal_disk.specs.Opened.{begins_open}
-use Rattle.journal_disk.specs.Scanning.{IfNext, IsScanned}
+use Rattle.journal_disk.specs.inner.Scanning.{IfNext, IsScanned}
 use Rattle.journal_disk.specs.declared.scanning.Next.{Next}
 use Rattle.journal_disk.proofs.FileReads.{of-told, to-told, reads-then}
 use Rattle.journal_disk.proofs.Scans.{scanned-cut, scanned-more, scanned-found}

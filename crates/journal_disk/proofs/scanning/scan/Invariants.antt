@@ -1,6 +1,6 @@
 use Rattle.std.proofs.Common.{◌≡◌, ◌<◌, ◌-◌, ℕ, List, [], Some, length, drop, IfSome}
 use Rattle.journal_disk.specs.Opened.{begins_open}
-use Rattle.journal_disk.specs.Scanning.{OnlyReads, IsScanned}
+use Rattle.journal_disk.specs.inner.Scanning.{OnlyReads, IsScanned}
 use Rattle.journal_disk.proofs.scanning.scan.Given as goal
 
 abbrev pub invariant-loop-opens : goal.invariant-loop-opens

@@ -3,7 +3,7 @@ use Rattle.recorder.specs.Text.{entry_bytes}
 use Rattle.journal_disk.specs.Opened.{front_bytes, entry_in}
 use Rattle.journal_disk.specs.Disk.{LeavesOnly}
 use Rattle.journal_disk.specs.Log.{IsTried, IsKept, HoldsOrOneMore}
-use Rattle.journal_disk.specs.Recording.{HasText}
+use Rattle.journal_disk.specs.inner.Texts.{HasText}
 use Rattle.journal_disk.specs.Journal.{last_stamp, Spells, IsJournal, OpensAsOrOneMore}
 use Rattle.journal_disk.specs.declared.log.Log.{Log}
 use Rattle.journal_disk.proofs.Moments.{started, weaker}

@@ -7,7 +7,7 @@ use Rattle.journal_disk.specs.Disk.{NoMore, LeavesOnly}
 use Rattle.journal_disk.specs.Opened.{front_bytes, mark_bytes, is_unmade, told_size, good_entry}
 use Rattle.journal_disk.specs.Log.{framed, records, Holds}
 use Rattle.journal_disk.specs.Journal.{last_stamp, Spells, AreSpelled}
-use Rattle.journal_disk.specs.NewFile.{MayMake}
+use Rattle.journal_disk.specs.inner.NewFile.{MayMake}
 use Rattle.journal_disk.specs.declared.scanning.Next.{Next}
 use Rattle.journal_disk.specs.declared.judging.Shape.{Shape}
 use Rattle.journal_disk.specs.declared.judging.Shape.TheVariants.{Unmade, Made}
