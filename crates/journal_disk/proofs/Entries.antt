@@ -1,12 +1,12 @@
 -- Entries above records
-use Rattle.std.proofs.Common.{◌≡◌, ◌⊎◌, ◌<◌, ℕ, List, [], ◌∷◌, ◌++◌, length, inl, inr, sym, ◌∙◌, ap, subst, refl, Option, Some, None, Ok, true}
+use Rattle.std.proofs.Common.{◌≡◌, ◌⊎◌, ℕ, List, [], ◌∷◌, ◌++◌, length, inl, inr, sym, ◌∙◌, ap, subst, refl, Option, Some, None}
 use Rattle.cm_base.specs.Configuration.{Configuration}
 use Rattle.cm_base.specs.declared.parsed.Parsed.TheVariants.{Whole}
 use Rattle.cm_history.specs.declared.act.Entry.{Entry}
 use Rattle.recorder.specs.Reading.{read_entry}
-use Rattle.journal_disk.specs.Opened.{front_bytes, entry_in, all_of, may_follow, opened}
+use Rattle.journal_disk.specs.Opened.{front_bytes, entry_in, all_of}
 use Rattle.journal_disk.specs.Log.{records, Behind, Holds, IsKept, IsTried, HoldsOrOneMore}
-use Rattle.journal_disk.specs.Journal.{last_stamp, MayFollow, Spells, AreSpelled, BegunSpells, OpensAs, OpensAsOrOneMore, IsJournal}
+use Rattle.journal_disk.specs.Journal.{last_stamp, Spells, AreSpelled, BegunSpells, OpensAs, OpensAsOrOneMore, IsJournal}
 use Rattle.journal_disk.specs.declared.log.Log.{Log}
 use Rattle.journal_disk.proofs.Kept.{may-hold}
 use Rattle.journal_disk.proofs.Found.{holds-opens}

@@ -1,8 +1,8 @@
 -- What a file with records is opened as
-use Rattle.std.proofs.Common.{◌≡◌, ◌≢◌, ◌≤◌, ◌<◌, ℕ, zero, suc, ◌+◌, List, [], ◌∷◌, ◌++◌, length, take, drop, inl, inr, sym, ◌∙◌, ap, subst, refl, arith, append_assoc, length-append, Option, Some, None, Result, Ok, Err, Bool, true, false, ltb, eqb}
-use Rattle.std.specs.Prelude.{◌&&◌, ◌||◌, not, bytes_eq, if◌then◌else◌}
+use Rattle.std.proofs.Common.{◌≡◌, ◌≢◌, ◌≤◌, ◌<◌, ℕ, zero, suc, ◌+◌, List, [], ◌∷◌, ◌++◌, length, take, drop, inl, inr, sym, ◌∙◌, ap, refl, arith, append_assoc, length-append, Option, Some, None, Result, Ok, Err, Bool, true, false, ltb, eqb}
+use Rattle.std.specs.Prelude.{◌&&◌, not, bytes_eq, if◌then◌else◌}
 use Rattle.std.proofs.lemmas.Bool.{lt-ltb, le-ltb, ne_eqb, eq-eqb, or_from, and_right, not_from_true}
-use Rattle.std.proofs.lemmas.List.{take_at, drop_at, append-nil}
+use Rattle.std.proofs.lemmas.List.{take_at, drop_at}
 use Rattle.std.proofs.lemmas.Slice.Eq.{bytes_eq-Decides}
 use Rattle.cm_base.specs.Configuration.{Configuration}
 use Rattle.cm_history.specs.declared.act.Entry.{Entry}
@@ -11,7 +11,7 @@ use Rattle.journal_disk.specs.Log.{framed, records, Holds}
 use Rattle.journal_disk.specs.Journal.{last_stamp, Spells, AreSpelled}
 use Rattle.journal_disk.specs.inner.NewFile.{IsEmpty}
 use Rattle.journal_disk.proofs.Gates.{length-framed}
-use Rattle.journal_disk.proofs.Told.{first-length, first-payload, first-rest}
+use Rattle.journal_disk.proofs.Told.{first-length, first-payload}
 
 -- these in front
 abbrev pub with_all : List Entry → Result (List Entry) ℕ → Result (List Entry) ℕ

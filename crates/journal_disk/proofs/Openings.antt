@@ -1,19 +1,19 @@
 -- What a journal is opened as, and goes on with
-use Rattle.std.proofs.Common.{◌≡◌, ◌⊎◌, ◌≤◌, ◌<◌, ℕ, List, [], ◌∷◌, ◌++◌, length, drop, inl, inr, sym, ◌∙◌, ap, subst, refl, arith, Option, Some, None, Ok, Bool, true, false, IfSome}
+use Rattle.std.proofs.Common.{◌≡◌, ◌⊎◌, ℕ, List, [], ◌∷◌, ◌++◌, length, inl, inr, sym, ◌∙◌, ap, subst, refl, Option, Some, None, true, false}
 use Rattle.std.proofs.lemmas.List.{append-nil}
 use Rattle.cm_base.specs.Configuration.{Configuration}
 use Rattle.cm_history.specs.declared.act.Entry.{Entry}
 use Rattle.journal_disk.specs.Disk.{NoMore, IsSynced, Elapses, LeavesOnly}
-use Rattle.journal_disk.specs.Opened.{front_bytes, mark_bytes, is_unmade, entry_in, opened}
-use Rattle.journal_disk.specs.Log.{records, Holds, IsTold, IsKept}
+use Rattle.journal_disk.specs.Opened.{front_bytes, mark_bytes, is_unmade, opened}
+use Rattle.journal_disk.specs.Log.{Holds, IsTold}
 use Rattle.journal_disk.specs.Journal.{last_stamp, AreSpelled, BegunSpells, IsJournal, SyncsFirst}
 use Rattle.journal_disk.specs.Recording.{if_spelled, entries_of, recorded_in, AreShort, IsFit}
-use Rattle.journal_disk.specs.inner.NewFile.{front_of, IsEmpty, MayMake}
-use Rattle.journal_disk.specs.inner.Scanning.{OnlyReads, IsFound}
+use Rattle.journal_disk.specs.inner.NewFile.{front_of, IsEmpty}
+use Rattle.journal_disk.specs.inner.Scanning.{IsFound}
 use Rattle.journal_disk.specs.declared.log.Log.{Log}
-use Rattle.journal_disk.proofs.Moments.{started, goes_on, joined, weaker}
+use Rattle.journal_disk.proofs.Moments.{started, goes_on, weaker}
 use Rattle.journal_disk.proofs.NewFiles.{new-holds}
-use Rattle.journal_disk.proofs.Found.{empty-opens, unmade-is, holds-opens}
+use Rattle.journal_disk.proofs.Found.{empty-opens, unmade-is}
 use Rattle.journal_disk.proofs.Entries.{journal-of}
 use Rattle.journal_disk.proofs.Told.{kept-recorded}
 

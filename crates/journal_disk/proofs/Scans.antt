@@ -1,17 +1,17 @@
 -- What is known of a file while its records are read
-use Rattle.std.proofs.Common.{◌≡◌, ◌≢◌, ◌≤◌, ◌<◌, ◌^◌, ℕ, suc, ◌+◌, List, [], ◌∷◌, ◌++◌, length, get_or, take, drop, inl, inr, sym, ◌∙◌, ap, subst, refl, arith, append_assoc, length-append, length-drop, take-append-drop, take-add, Option, Some, None, Err, Ok, Bool, true, false}
+use Rattle.std.proofs.Common.{◌≡◌, ◌≢◌, ◌<◌, ◌^◌, ℕ, suc, ◌+◌, List, [], ◌∷◌, ◌++◌, length, get_or, take, drop, sym, ◌∙◌, ap, subst, refl, arith, length-append, length-drop, take-append-drop, take-add, Option, Some, None, Err, Ok, Bool, true, false}
 use Rattle.std.specs.Prelude.{if◌then◌else◌}
-use Rattle.std.proofs.lemmas.Bool.{eqb-true, eqb-false, false≢true}
-use Rattle.std.proofs.lemmas.List.{length-take-le, take_at, drop_at, drop-drop, drop_more, append-nil}
+use Rattle.std.proofs.lemmas.Bool.{eqb-true, eqb-false}
+use Rattle.std.proofs.lemmas.List.{length-take-le, drop-drop, drop_more, append-nil}
 use Rattle.byteorder.specs.Endian.{big_bytes}
 use Rattle.cm_base.specs.Configuration.{Configuration}
 use Rattle.cm_history.specs.declared.act.Entry.{Entry}
 use Rattle.journal_disk.specs.Opened.{open_gate, begins_open, front_bytes, entry_in, may_follow, allowed, told_size, payload_in, good_entry, opened}
-use Rattle.journal_disk.specs.Log.{framed, records, Holds}
-use Rattle.journal_disk.specs.Journal.{last_stamp, Spells, AreSpelled}
+use Rattle.journal_disk.specs.Log.{framed, records}
+use Rattle.journal_disk.specs.Journal.{Spells}
 use Rattle.journal_disk.specs.inner.Scanning.{IsNext, IsScanned, IsFound}
 use Rattle.journal_disk.proofs.Gates.{length-framed, records-push}
-use Rattle.journal_disk.proofs.Found.{good-none, good-short, holds-opens, cut-is-bad}
+use Rattle.journal_disk.proofs.Found.{good-none, holds-opens, cut-is-bad}
 use Rattle.journal_disk.proofs.Entries.{spelled-push, last-push}
 
 if-some : (b : Bool) (e x : Entry) → (if b then Some e else None) ≡ Some x → (Some e ≡ Some x) × (b ≡ true)

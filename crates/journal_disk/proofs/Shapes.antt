@@ -1,14 +1,13 @@
 -- What a file is, before its records are looked at
-use Rattle.std.proofs.Common.{◌≡◌, ◌⊎◌, ◌≤◌, ◌<◌, ℕ, ◌+◌, ◌-◌, List, [], ◌∷◌, ◌++◌, length, take, drop, inl, inr, sym, ◌∙◌, ap, subst, refl, arith, length-append, Option, Some, None, Err, Ok, Bool, true, false, ltb, eqb, IfSome}
+use Rattle.std.proofs.Common.{◌≡◌, ◌⊎◌, ◌≤◌, ◌<◌, ℕ, ◌+◌, ◌-◌, List, [], ◌∷◌, ◌++◌, length, take, inl, inr, sym, ◌∙◌, ap, subst, refl, arith, length-append, Option, Some, None, Err, Bool, true, false, ltb, eqb, IfSome}
 use Rattle.std.specs.Prelude.{◌&&◌, ◌||◌, not, bytes_eq}
-use Rattle.std.proofs.lemmas.Bool.{ltb-true, ltb-false, eqb-true, eqb-false, ne_eqb, or_cases, or_parts, or_left, and_parts, not-true, both_ways, cases_Bool}
+use Rattle.std.proofs.lemmas.Bool.{ltb-true, ltb-false, eqb-true, eqb-false, ne_eqb, or_cases, or_parts, and_parts, not-true, both_ways}
 use Rattle.std.proofs.lemmas.List.{take_at}
 use Rattle.std.proofs.lemmas.Slice.Eq.{bytes_eq-Decides}
 use Rattle.cm_base.specs.Configuration.{Configuration}
 use Rattle.journal_disk.specs.Opened.{open_gate, begins_open, is_unmade, mark_bytes, front_bytes, opened}
-use Rattle.journal_disk.specs.inner.NewFile.{IsShut, MayMake}
+use Rattle.journal_disk.specs.inner.NewFile.{MayMake}
 use Rattle.journal_disk.specs.inner.Scanning.{IsOfShape, IsSafeShape}
-use Rattle.journal_disk.specs.declared.judging.Shape.{Shape}
 use Rattle.journal_disk.specs.declared.judging.Shape.TheVariants.{Unmade, Made}
 use Rattle.journal_disk.proofs.Found.{shut-is, other-is}
 use Rattle.journal_disk.proofs.Scans.{scanned-start}

@@ -33,14 +33,14 @@ impl<D: Disk + Drop> Model for Journal<D> {
 }
 
 impl<D: Disk + Drop> Journal<D> {
-    // A journal over a log.
+    /// A journal over a log.
     pub(crate) fn over(alloc: Global, log: Log<D>) -> Journal<D>
         ensures { result ≡ log }
     {
         Journal { alloc, log }
     }
 
-    // Records an entry.
+    /// Records an entry.
     fn record_entry(&mut self, entry: &Entry) -> Result<(), RecordRefused>
         requires within { IfSome (D.reads self.old.disk) (λ bytes. self.old.gate < length bytes) }
         requires short { HasShortLists entry.now.act }

@@ -15,7 +15,7 @@ use std::alloc::Global;
 
 const TEXT: [u8; 8] = *b"CMJOURN1";
 
-// What a file is.
+/// What a file is.
 pub(crate) enum Shape {
     // It is made new, and first its gate is closed, or it is closed already.
     Unmade { closes: bool },
@@ -23,7 +23,7 @@ pub(crate) enum Shape {
     Made { size: u64 },
 }
 
-// All that a new file has, its first gate open.
+/// All that a new file has, its first gate open.
 pub(crate) fn new_file(alloc: Global, config: &Config, unit: u16) -> Result<Vec<u8>, OutOfMemory>
     ensures told { IfOk result (λ file. file.items ≡ front_bytes config.now unit ++ (0 ∷ [])) }
     ensures few { IfOk result (λ file. length file.items < 2 ^ 63) }
@@ -38,7 +38,7 @@ pub(crate) fn new_file(alloc: Global, config: &Config, unit: u16) -> Result<Vec<
     Ok(file)
 }
 
-// The first gate is there and open.
+/// The first gate is there and open.
 fn begins_open<D: Disk>(disk: &mut D, size: u64) -> Result<bool, DiskFailed>
     requires size { IfSome (D.reads disk.old) (λ file. size ≡ length file) }
     ensures told { IfOk result (λ is. IfSome (D.reads disk.old) (λ file. is ≡ begins_open file)) }
@@ -51,7 +51,7 @@ fn begins_open<D: Disk>(disk: &mut D, size: u64) -> Result<bool, DiskFailed>
     Ok(byte_at(disk, 0)? == OPEN)
 }
 
-// The file begins with these bytes.
+/// The file begins with these bytes.
 fn begins_with<D: Disk>(alloc: Global, disk: &mut D, front: &[u8]) -> Result<bool, OpenFault>
     requires within { IfSome (D.reads disk.old) (λ file. length front.now ≤ length file) }
     ensures told { IfOk result (λ is. IfSome (D.reads disk.old) (λ file. is ≡ bytes_eq (take (length front.now) file) front.now)) }
@@ -64,7 +64,7 @@ fn begins_with<D: Disk>(alloc: Global, disk: &mut D, front: &[u8]) -> Result<boo
     Ok(found.as_slice() == front)
 }
 
-// What stands before the second gate of a new file, which is its last byte.
+/// What stands before the second gate of a new file, which is its last byte.
 fn front_of(new: &[u8]) -> &[u8]
     requires { 1 ≤ length new.now }
     ensures { result.now ≡ take (length new.now - 1) new.now }
@@ -72,21 +72,21 @@ fn front_of(new: &[u8]) -> &[u8]
     &new[..new.len() - 1]
 }
 
-// A file of so many bytes, where a new one has these, is not finished.
+/// A file of so many bytes, where a new one has these, is not finished.
 fn is_unmade(size: u64, whole: u64, is_open: bool) -> bool
     ensures { result ≡ (nat_lt size whole || ((size == whole) && not is_open)) }
 {
     size < whole || size == whole && !is_open
 }
 
-// The first gate is to be closed before the rest is written.
+/// The first gate is to be closed before the rest is written.
 fn closes_first(size: u64, is_open: bool) -> bool
     ensures { result ≡ ((size == 0) || is_open) }
 {
     size == 0 || is_open
 }
 
-// What the file is, or the place at which it is bad. The bytes are all that a new file has.
+/// What the file is, or the place at which it is bad. The bytes are all that a new file has.
 pub(crate) fn judge<D: Disk>(alloc: Global, disk: &mut D, new: &[u8]) -> Result<Shape, OpenFault>
     requires some { 1 ≤ length new.now }
     ensures safe { IfOk result (IsSafeShape (D.reads disk.old) (length new.now - 1)) }

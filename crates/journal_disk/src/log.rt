@@ -32,7 +32,7 @@ pub struct Log<D: Disk> {
     pub begun: bool,
 }
 
-// A record and its closed gate.
+/// A record and its closed gate.
 fn framed_text(alloc: Global, payload: &[u8]) -> Result<Vec<u8>, OutOfMemory>
     ensures { IfOk result (λ text. text.items ≡ framed payload.now ++ (0 ∷ [])) }
 {
@@ -46,7 +46,7 @@ fn framed_text(alloc: Global, payload: &[u8]) -> Result<Vec<u8>, OutOfMemory>
 }
 
 impl<D: Disk> Log<D> {
-    // Closes the last gate if its opening was begun.
+    /// Closes the last gate if its opening was begun.
     fn shut(&mut self) -> Result<(), DiskFailed>
         requires within { IfSome (D.reads self.old.disk) (λ bytes. self.old.gate < length bytes) }
         requires fits { self.old.gate + 1 < 2 ^ 64 }
@@ -71,7 +71,7 @@ impl<D: Disk> Log<D> {
         Ok(())
     }
 
-    // Writes a record and its closed gate behind the last gate, which is closed.
+    /// Writes a record and its closed gate behind the last gate, which is closed.
     fn stage(&mut self, text: &[u8]) -> Result<(), DiskFailed>
         requires within { IfSome (D.reads self.old.disk) (λ bytes. self.old.gate < length bytes) }
         requires fits { self.old.gate + 1 + length text.now < 2 ^ 64 }
@@ -96,7 +96,7 @@ impl<D: Disk> Log<D> {
         Ok(())
     }
 
-    // Opens the last gate. Behind it stands a record of this length, with its closed gate, which is then the last.
+    /// Opens the last gate. Behind it stands a record of this length, with its closed gate, which is then the last.
     fn unlock(&mut self, size: u64) -> Result<(), DiskFailed>
         requires within { IfSome (D.reads self.old.disk) (λ bytes. self.old.gate + size < length bytes) }
         requires fits { self.old.gate + 1 + size < 2 ^ 64 }

@@ -8,7 +8,7 @@ ghost use Rattle.journal_disk.specs.inner.NewFile.{front_of, IsEmpty, IsShut, Is
 use crate::log::{OPEN, SHUT};
 use crate::{Disk, DiskFailed, write_synced};
 
-// Closes the first gate, if that is to be done.
+/// Closes the first gate, if that is to be done.
 fn close_first<D: Disk>(disk: &mut D, closes: bool) -> Result<(), DiskFailed>
     requires some { closes ≡ false → IfSome (D.reads disk.old) (λ file. 1 ≤ length file) }
     ensures some { OnOk result (IfSome (D.reads disk.new) (λ file. 1 ≤ length file)) }
@@ -27,7 +27,7 @@ fn close_first<D: Disk>(disk: &mut D, closes: bool) -> Result<(), DiskFailed>
     Ok(())
 }
 
-// Writes all that a new file has behind its first gate, which is closed.
+/// Writes all that a new file has behind its first gate, which is closed.
 fn write_rest<D: Disk>(disk: &mut D, rest: &[u8]) -> Result<(), DiskFailed>
     requires some { IfSome (D.reads disk.old) (λ file. 1 ≤ length file) }
     requires fits { 1 + length rest.now < 2 ^ 64 }
@@ -44,7 +44,7 @@ fn write_rest<D: Disk>(disk: &mut D, rest: &[u8]) -> Result<(), DiskFailed>
     write_synced(disk, 1, rest)
 }
 
-// Opens the first gate, behind which all of a new file stands.
+/// Opens the first gate, behind which all of a new file stands.
 fn open_first<D: Disk>(disk: &mut D) -> Result<(), DiskFailed>
     ensures longer { Both IsNoShorter (D.reads disk.old) (D.reads disk.new) }
     ensures untold { D.reads disk.old ≡ None → D.reads disk.new ≡ None }
@@ -59,7 +59,7 @@ fn open_first<D: Disk>(disk: &mut D) -> Result<(), DiskFailed>
     write_synced(disk, 0, &[OPEN])
 }
 
-// Makes the file new: `rest` is all that stands behind its first gate.
+/// Makes the file new: `rest` is all that stands behind its first gate.
 pub(crate) fn make_new<D: Disk>(disk: &mut D, rest: &[u8], closes: bool) -> Result<(), DiskFailed>
     requires some { closes ≡ false → IfSome (D.reads disk.old) (λ file. 1 ≤ length file) }
     requires fits { 1 + length rest.now < 2 ^ 64 }

@@ -59,14 +59,14 @@ impl From<DiskFailed> for OpenFault {
     }
 }
 
-// What a journal goes on with: its entries, where its records begin, and its last gate.
+/// What a journal goes on with: its entries, where its records begin, and its last gate.
 struct Opened {
     history: History,
     start: u64,
     gate: u64,
 }
 
-// The file is made new, or its records are read. It was synced.
+/// The file is made new, or its records are read. It was synced.
 fn open_synced<D: Disk>(
     alloc: Global,
     disk: &mut D,
@@ -110,7 +110,7 @@ fn open_synced<D: Disk>(
     }
 }
 
-// Syncs, and then makes the file new or reads its records.
+/// Syncs, and then makes the file new or reads its records.
 fn open_disk<D: Disk>(
     alloc: Global,
     disk: &mut D,

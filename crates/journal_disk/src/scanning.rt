@@ -16,19 +16,19 @@ use cm_history::{Act, Actor, Entry, History, within_limits};
 use recorder::read_entry;
 use std::alloc::Global;
 
-// An entry, and how many bytes spell it.
+/// An entry, and how many bytes spell it.
 pub(crate) struct Next {
     entry: Entry,
     size: u64,
 }
 
-// What was found in a file: its entries, and the place of the first gate that is not open.
+/// What was found in a file: its entries, and the place of the first gate that is not open.
 pub(crate) struct Found {
     pub(crate) history: History,
     pub(crate) gate: u64,
 }
 
-// The actor may ask the act of the unit.
+/// The actor may ask the act of the unit.
 fn may_ask(unit: u16, actor: Actor, act: &Act) -> bool
     ensures { result ≡ may_ask unit actor act.now }
 {
@@ -38,7 +38,7 @@ fn may_ask(unit: u16, actor: Actor, act: &Act) -> bool
     }
 }
 
-// The entry may stand behind one of this stamp.
+/// The entry may stand behind one of this stamp.
 fn may_follow(config: &Config, unit: u16, last: u64, entry: &Entry) -> bool
     requires { unit < length config.now.units }
     ensures { result ≡ may_follow config.now unit last entry.now }
@@ -49,7 +49,7 @@ fn may_follow(config: &Config, unit: u16, last: u64, entry: &Entry) -> bool
         && last < entry.stamp
 }
 
-// The entry that all of the bytes spell.
+/// The entry that all of the bytes spell.
 fn entry_in(alloc: Global, payload: &[u8]) -> Result<Option<Entry>, OutOfMemory>
     ensures { IfOk result (λ found. found ≡ entry_in payload.now) }
 {
@@ -65,7 +65,7 @@ fn entry_in(alloc: Global, payload: &[u8]) -> Result<Option<Entry>, OutOfMemory>
     }
 }
 
-// The entry that all of the bytes spell, if it may stand behind one of this stamp.
+/// The entry that all of the bytes spell, if it may stand behind one of this stamp.
 fn allowed_in(
     alloc: Global,
     config: &Config,
@@ -86,7 +86,7 @@ fn allowed_in(
     }
 }
 
-// The length of the payload of a record behind an open gate, which has its closing gate; the file has so many bytes.
+/// The length of the payload of a record behind an open gate, which has its closing gate; the file has so many bytes.
 fn size_at<D: Disk>(disk: &mut D, gate: u64, size: u64) -> Result<Option<u64>, DiskFailed>
     requires size { IfSome (D.reads disk.old) (λ file. size ≡ length file) }
     requires within { gate < size }
@@ -106,7 +106,7 @@ fn size_at<D: Disk>(disk: &mut D, gate: u64, size: u64) -> Result<Option<u64>, D
     Ok(Some(count))
 }
 
-// So many bytes from a place on.
+/// So many bytes from a place on.
 fn bytes_at<D: Disk>(alloc: Global, disk: &mut D, at: u64, count: u64) -> Result<Vec<u8>, OpenFault>
     requires within { IfSome (D.reads disk.old) (λ file. at + count ≤ length file) }
     requires fits { at + count < 2 ^ 64 }
@@ -120,7 +120,7 @@ fn bytes_at<D: Disk>(alloc: Global, disk: &mut D, at: u64, count: u64) -> Result
     Ok(bytes)
 }
 
-// The next record behind an open gate; the last entry before it has this stamp, and the file has so many bytes.
+/// The next record behind an open gate; the last entry before it has this stamp, and the file has so many bytes.
 fn next_at<D: Disk>(
     alloc: Global,
     disk: &mut D,
@@ -149,7 +149,7 @@ fn next_at<D: Disk>(
     }
 }
 
-// The gate at a place is open.
+/// The gate at a place is open.
 fn is_open<D: Disk>(disk: &mut D, gate: u64, size: u64) -> Result<bool, DiskFailed>
     requires size { IfSome (D.reads disk.old) (λ file. size ≡ length file) }
     requires within { gate < size }
@@ -160,8 +160,8 @@ fn is_open<D: Disk>(disk: &mut D, gate: u64, size: u64) -> Result<bool, DiskFail
     Ok(byte_at(disk, gate)? == OPEN)
 }
 
-// The entries up to the first gate that is not open. The first gate behind the front stands at `start`, and the file has
-// so many bytes.
+/// The entries up to the first gate that is not open. The first gate behind the front stands at `start`, and the file has
+/// so many bytes.
 pub(crate) fn scan<D: Disk>(
     alloc: Global,
     disk: &mut D,

@@ -12,7 +12,7 @@ use recorder::{RecordRefused, Recorder, has_short_lists};
 use std::alloc::Global;
 use std::test::Fail;
 
-// A new file of one unit, and a record of 44 bytes.
+/// A new file of one unit, and a record of 44 bytes.
 const NEW: usize = 86;
 
 const RECORD: usize = 53;

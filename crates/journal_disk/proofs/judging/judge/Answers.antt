@@ -1,4 +1,4 @@
-use Rattle.std.proofs.Common.{◌≡◌, ◌∙◌, ℕ, length, take, false, true, sym, ap, refl, Err}
+use Rattle.std.proofs.Common.{◌≡◌, ◌∙◌, length, take, sym, ap, refl, Err}
 use Rattle.std.specs.Prelude.{bytes_eq}
 use Rattle.journal_disk.specs.Opened.{begins_open}
 use Rattle.journal_disk.proofs.FileReads.{of-told}

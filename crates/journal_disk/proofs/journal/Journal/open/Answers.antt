@@ -1,4 +1,4 @@
-use Rattle.std.proofs.Common.{◌≡◌, ◌⊎◌, ℕ, List, None, Some, false, inl, inr, sym, subst}
+use Rattle.std.proofs.Common.{◌≡◌, None, Some, false, inl, inr, sym, subst}
 use Rattle.journal_disk.specs.Opened.{opened}
 use Rattle.journal_disk.specs.Journal.{SyncsFirst}
 use Rattle.journal_disk.specs.Recording.{recorded_in, IsFit}

@@ -4,7 +4,7 @@ use Rattle.journal_disk.specs.Opened.{front_bytes, entry_in}
 use Rattle.journal_disk.specs.Disk.{LeavesOnly}
 use Rattle.journal_disk.specs.Log.{IsTried, IsKept, HoldsOrOneMore}
 use Rattle.journal_disk.specs.inner.Texts.{HasText}
-use Rattle.journal_disk.specs.Journal.{last_stamp, Spells, IsJournal, OpensAsOrOneMore}
+use Rattle.journal_disk.specs.Journal.{OpensAsOrOneMore}
 use Rattle.journal_disk.specs.declared.log.Log.{Log}
 use Rattle.journal_disk.proofs.Moments.{started, weaker}
 use Rattle.journal_disk.proofs.Told.{on-ok, on-ok-then, on-err-then}
