@@ -1,0 +1,13 @@
+mod Moments
+mod Writes
+mod Gates
+mod Kept
+mod Past
+mod Told
+mod Found
+mod Entries
+mod NewFiles
+mod FileReads
+mod Scans
+mod Shapes
+mod Openings

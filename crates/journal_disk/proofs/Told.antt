@@ -1,0 +1,141 @@
+-- The records that a log tells are those that it has
+use Rattle.std.proofs.Common.{◌≡◌, ◌⊎◌, ◌≤◌, ◌<◌, ℕ, zero, suc, ◌+◌, List, [], ◌∷◌, ◌++◌, length, take, drop, inl, inr, sym, ◌∙◌, ap, subst, refl, arith, append_assoc, length-append, Option, Some, None, Result, Ok, Err, OnOk, OnErr, IfSome}
+use Rattle.std.proofs.lemmas.List.{take_at, drop_at}
+use Rattle.byteorder.specs.Endian.{big_bytes, big_from}
+use Rattle.byteorder.specs.Numbers.{length-bytes_high_first, big_number-reads_back}
+use Rattle.journal_disk.specs.Log.{framed, records, Behind, IsTried, IsKept}
+use Rattle.cm_history.specs.declared.act.Entry.{Entry}
+use Rattle.recorder.specs.Recording.{with_more}
+use Rattle.recorder.specs.Text.{entry_bytes}
+use Rattle.journal_disk.specs.Opened.{entry_in}
+use Rattle.journal_disk.specs.Recording.{payloads_within, payloads_in, if_spelled, entries_of, recorded_in, IsShort, AreShort, IsFit}
+use Rattle.journal_disk.specs.inner.Texts.{HasText}
+use Rattle.journal_disk.specs.declared.log.Log.{Log}
+use Rattle.journal_disk.proofs.Gates.{length-framed}
+
+pub first-length : (p rest : List ℕ) → IsShort p → big_from 0 8 (framed p ++ rest) ≡ length p
+first-length p rest short = ap (λ (l : List ℕ). big_from 0 8 l) (append_assoc (big_bytes 8 (length p)) p rest) ∙ big_number-reads_back 8 (length p) (p ++ rest) short
+
+pub first-payload : (p rest : List ℕ) → IsShort p → take (big_from 0 8 (framed p ++ rest)) (drop 8 (framed p ++ rest)) ≡ p
+first-payload p rest short =
+    ap (λ n. take n (drop 8 (framed p ++ rest))) (first-length p rest short)
+    ∙ ap (λ (l : List ℕ). take (length p) (drop 8 l)) (append_assoc (big_bytes 8 (length p)) p rest)
+    ∙ ap (λ (l : List ℕ). take (length p) l) (drop_at (big_bytes 8 (length p)) (p ++ rest) 8 (length-bytes_high_first 8 (length p)))
+    ∙ take_at p rest (length p) refl
+
+pub first-rest : (p rest : List ℕ) → IsShort p → drop (8 + big_from 0 8 (framed p ++ rest)) (framed p ++ rest) ≡ rest
+first-rest p rest short = ap (λ n. drop (8 + n) (framed p ++ rest)) (first-length p rest short) ∙ drop_at (framed p) rest (8 + length p) (length-framed p)
+
+pub told-within : (n : ℕ) (ps : List (List ℕ)) → AreShort ps → length (records ps) ≤ n → payloads_within n (records ps) ≡ ps
+told-within zero [] short fits = refl
+told-within (suc n) [] short fits = refl
+told-within zero (p ∷ ps) short fits = absurd (omega (arith, fits))
+told-within (suc n) (p ∷ ps) short fits =
+    ap (λ (l : List ℕ). l ∷ payloads_within n (drop (8 + big_from 0 8 (framed p ++ records ps)) (framed p ++ records ps))) (first-payload p (records ps) short.0)
+    ∙ ap (λ (l : List ℕ). p ∷ payloads_within n l) (first-rest p (records ps) short.0)
+    ∙ ap (λ (l : List (List ℕ)). p ∷ l) (told-within n ps short.1 (omega (arith, fits, length-append (framed p) (records ps))))
+
+front-of : (done : List ℕ) (last : Option (List ℕ)) (file : List ℕ) → Behind done last file → take (length done) file ≡ done
+front-of done None file ends = ap (λ (l : List ℕ). take (length done) l) ends.is ∙ take_at done (ends.gate ∷ ends.rest) (length done) refl
+front-of done (Some p) file next = ap (λ (l : List ℕ). take (length done) l) next.is ∙ take_at done (next.gate ∷ (framed p ++ (0 ∷ next.rest))) (length done) refl
+
+module _ {D : Type 0} (reads : D → Option (List ℕ)) (may_leave : D → List ℕ → Type 0) (reads_left : (disk : D) (file : List ℕ) → reads disk ≡ Some file → may_leave disk file) where
+  pub kept-recorded : (front : List ℕ) (ps : List (List ℕ)) (last : Option (List ℕ)) (log : Log D) → IsKept reads may_leave front ps last log → log.start ≡ length front → AreShort ps
+      → recorded_in log.start log.gate (reads log.disk) ≡ Some (entries_of ps)
+  kept-recorded front ps last log kept start short =
+      let file = kept.told.0 in
+      let whole : take log.gate file ≡ front ++ records ps = ap (λ n. take n file) kept.gate ∙ front-of (front ++ records ps) last file (kept.images file (reads_left log.disk file kept.told.1)) in
+      let back : drop log.start (take log.gate file) ≡ records ps = ap (λ (l : List ℕ). drop log.start l) whole ∙ drop_at front (records ps) log.start (sym start) in
+      ap (recorded_in log.start log.gate) kept.told.1 ∙ ap (λ (l : List ℕ). Some (entries_of (payloads_in l))) back ∙ ap (λ (l : List (List ℕ)). Some (entries_of l)) (told-within (length (records ps)) ps short (omega arith))
+
+spelled-append : (o : Option Entry) (xs ys : List Entry) → if_spelled o (xs ++ ys) ≡ if_spelled o xs ++ ys
+spelled-append None xs ys = refl
+spelled-append (Some e) xs ys = refl
+
+pub entries-push : (ps : List (List ℕ)) (p : List ℕ) (e : Entry) → entry_in p ≡ Some e → entries_of (ps ++ (p ∷ [])) ≡ entries_of ps ++ (e ∷ [])
+entries-push [] p e read = ap (λ (o : Option Entry). if_spelled o []) read
+entries-push (q ∷ ps) p e read = ap (λ (l : List Entry). if_spelled (entry_in q) l) (entries-push ps p e read) ∙ spelled-append (entry_in q) (entries_of ps) (e ∷ [])
+
+pub short-push : (ps : List (List ℕ)) (p : List ℕ) → AreShort ps → IsShort p → AreShort (ps ++ (p ∷ []))
+short-push [] p all short = (short, tt)
+short-push (q ∷ ps) p all short = (all.0, short-push ps p all.1 short)
+
+pub on-ok : {T E P : Type 0} (r : Result T E) → P → OnOk r P
+on-ok (Ok x) p = p
+on-ok (Err e) p = tt
+
+pub on-ok-then : {T E P Q : Type 0} (r : Result T E) → (P → Q) → OnOk r P → OnOk r Q
+on-ok-then (Ok x) f p = f p
+on-ok-then (Err e) f p = tt
+
+pub on-both : {T E P Q S : Type 0} (r : Result T E) → (P → Q → S) → OnOk r P → OnOk r Q → OnOk r S
+on-both (Ok x) f p q = f p q
+on-both (Err e) f p q = tt
+
+pub on-err : {T E P : Type 0} (r : Result T E) → P → OnErr r P
+on-err (Ok x) p = tt
+on-err (Err e) p = p
+
+pub on-err-then : {T E P Q : Type 0} (r : Result T E) → (P → Q) → OnErr r P → OnErr r Q
+on-err-then (Ok x) f p = tt
+on-err-then (Err e) f p = f p
+
+-- none was tried but this
+same-again : (last : Option (List ℕ)) (payload : List ℕ) (next : Option (List ℕ)) → (last ≡ None) ⊎ (last ≡ Some payload) → IsTried last payload next → (next ≡ None) ⊎ (next ≡ Some payload)
+same-again last payload next same (inl none) = inl none
+same-again last payload next (inl none) (inr (inl is)) = inl (is ∙ none)
+same-again last payload next (inr some) (inr (inl is)) = inr (is ∙ some)
+same-again last payload next same (inr (inr is)) = inr is
+
+module _ {D : Type 0} (reads : D → Option (List ℕ)) (may_leave : D → List ℕ → Type 0) (reads_left : (disk : D) (file : List ℕ) → reads disk ≡ Some file → may_leave disk file)
+    (old new : Log D) (e : Entry) (start : new.start ≡ old.start) (untold : reads old.disk ≡ None → reads new.disk ≡ None) where
+  abbrev Grows : {T E : Type 0} → Result T E → Type 0
+  Grows {T} {E} r = (front : List ℕ) (ps : List (List ℕ)) (last : Option (List ℕ)) → IsKept reads may_leave front ps last old → OnOk r (IsKept reads may_leave front (ps ++ (entry_bytes e ∷ [])) None new)
+
+  abbrev Stays : {T E : Type 0} → Result T E → Type 0
+  Stays {T} {E} r = (front : List ℕ) (ps : List (List ℕ)) (last : Option (List ℕ)) → IsKept reads may_leave front ps last old
+      → OnErr r ((next : Option (List ℕ)) × IsTried last (entry_bytes e) next × IsKept reads may_leave front ps next new)
+
+  nothing-told : reads old.disk ≡ None → (recorded_in old.start old.gate (reads old.disk) ≡ None) × (recorded_in new.start new.gate (reads new.disk) ≡ None)
+  nothing-told none = (ap (recorded_in old.start old.gate) none, ap (recorded_in new.start new.gate) (untold none))
+
+  pub grown : {T E : Type 0} (r : Result T E) → IsFit reads may_leave old e → OnOk r (HasText e) → Grows r
+      → OnOk r (recorded_in new.start new.gate (reads new.disk) ≡ with_more (recorded_in old.start old.gate (reads old.disk)) (e ∷ []))
+  grown r (inl none) text to = on-ok r ((nothing-told none).1 ∙ sym (ap (λ (t : Option (List Entry)). with_more t (e ∷ [])) (nothing-told none).0))
+  grown r (inr ready) text to = on-both r
+      (λ has kept. kept-recorded reads may_leave reads_left ready.front (ready.ps ++ (entry_bytes e ∷ [])) None new kept (start ∙ ready.start) (short-push ready.ps (entry_bytes e) ready.short has.1)
+      ∙ ap (λ (l : List Entry). Some l) (entries-push ready.ps (entry_bytes e) e has.0)
+      ∙ sym (ap (λ (t : Option (List Entry)). with_more t (e ∷ [])) (kept-recorded reads may_leave reads_left ready.front ready.ps ready.last old ready.kept ready.start ready.short)))
+      text (to ready.front ready.ps ready.last ready.kept)
+
+  pub any : {T E : Type 0} (r : Result T E) → IsFit reads may_leave old e → OnOk r (HasText e) → Grows r → OnOk r ((x : Entry) → IsFit reads may_leave new x)
+  any r (inl none) text to = on-ok r (λ x. inl (untold none))
+  any r (inr ready) text to = on-both r
+      (λ has kept x. inr (record { front = ready.front; ps = ready.ps ++ (entry_bytes e ∷ []); last = None; kept = kept; start = start ∙ ready.start; short = short-push ready.ps (entry_bytes e) ready.short has.1; same = inl refl }))
+      text (to ready.front ready.ps ready.last ready.kept)
+
+  pub kept : {T E : Type 0} (r : Result T E) → IsFit reads may_leave old e → Stays r → OnErr r (recorded_in new.start new.gate (reads new.disk) ≡ recorded_in old.start old.gate (reads old.disk))
+  kept r (inl none) to = on-err r ((nothing-told none).1 ∙ sym (nothing-told none).0)
+  kept r (inr ready) to = on-err-then r
+      (λ after. kept-recorded reads may_leave reads_left ready.front ready.ps after.0 new after.2 (start ∙ ready.start) ready.short
+      ∙ sym (kept-recorded reads may_leave reads_left ready.front ready.ps ready.last old ready.kept ready.start ready.short))
+      (to ready.front ready.ps ready.last ready.kept)
+
+  pub again : {T E : Type 0} (r : Result T E) → IsFit reads may_leave old e → Stays r → OnErr r (IsFit reads may_leave new e)
+  again r (inl none) to = on-err r (inl (untold none))
+  again r (inr ready) to = on-err-then r
+      (λ after. inr (record { front = ready.front; ps = ready.ps; last = after.0; kept = after.2; start = start ∙ ready.start; short = ready.short; same = same-again ready.last (entry_bytes e) after.0 ready.same after.1 }))
+      (to ready.front ready.ps ready.last ready.kept)
+
+-- the last gate lies within the file
+gate-within : (done : List ℕ) (last : Option (List ℕ)) (file : List ℕ) → Behind done last file → length done < length file
+gate-within done None file ends = omega (arith, ap length ends.is, length-append done (ends.gate ∷ ends.rest))
+gate-within done (Some p) file next = omega (arith, ap length next.is, length-append done (next.gate ∷ (framed p ++ (0 ∷ next.rest))))
+
+pub fit-within : {D : Type 0} (reads : D → Option (List ℕ)) (may_leave : D → List ℕ → Type 0) (reads_left : (disk : D) (file : List ℕ) → reads disk ≡ Some file → may_leave disk file)
+    (log : Log D) (e : Entry) → IsFit reads may_leave log e → IfSome (reads log.disk) (λ file. log.gate < length file)
+fit-within reads may_leave reads_left log e (inl none) = subst (λ (r : Option (List ℕ)). IfSome r (λ file. log.gate < length file)) (sym none) tt
+fit-within reads may_leave reads_left log e (inr ready) =
+    let kept = ready.kept in
+    let within : log.gate < length kept.told.0 = omega (arith, kept.gate, gate-within (ready.front ++ records ready.ps) ready.last kept.told.0 (kept.images kept.told.0 (reads_left log.disk kept.told.0 kept.told.1))) in
+    subst (λ (r : Option (List ℕ)). IfSome r (λ file. log.gate < length file)) (sym kept.told.1) within

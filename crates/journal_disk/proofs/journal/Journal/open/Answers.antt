@@ -1,0 +1,28 @@
+use Rattle.std.proofs.Common.{◌≡◌, None, Some, false, inl, inr, sym, subst}
+use Rattle.journal_disk.specs.Opened.{opened}
+use Rattle.journal_disk.specs.Journal.{SyncsFirst}
+use Rattle.journal_disk.specs.Recording.{recorded_in, IsFit}
+use Rattle.journal_disk.specs.declared.log.Log.{Log}
+use Rattle.journal_disk.proofs.Openings.{told-or-not, journal-fits, journal-recorded}
+use Rattle.journal_disk.proofs.journal.Journal.open.Goals as goal
+
+pub returns-in-Ok-clause-recorded : goal.returns-in-Ok-clause-recorded
+returns-in-Ok-clause-recorded g c = λ file told.
+    let found = c.in-Ok.found in
+    subst (λ (l : Log _). recorded_in l.start l.gate (g.D.Disk.reads l.disk) ≡ Some found.history.entries) (sym c.over.ensures)
+    (journal-recorded c.args.config.now c.args.unit g.D.Disk.reads g.D.Disk.may_leave g.met.D.Disk.reads_left found.history.entries None
+    (record { disk = c.open_disk.new.disk; start = found.start; gate = found.gate; begun = false }) (c.in-Ok.ensures.kept file told))
+
+pub returns-in-Ok-clause-fits : goal.returns-in-Ok-clause-fits
+returns-in-Ok-clause-fits g c = λ e.
+    let found = c.in-Ok.found in
+    subst (λ (l : Log _). IsFit g.D.Disk.reads g.D.Disk.may_leave l e) (sym c.over.ensures)
+    (elim (told-or-not (g.D.Disk.reads c.args.disk)) [
+      | inl none ↦ inl (c.open_disk.ensures.untold none)
+      | inr told ↦ journal-fits c.args.config.now c.args.unit g.D.Disk.reads g.D.Disk.may_leave found.history.entries (record { disk = c.open_disk.new.disk; start = found.start; gate = found.gate; begun = false }) e (c.in-Ok.ensures.kept told.0 told.1)
+    ])
+
+pub returns-in-Ok-clause-any_moment : goal.returns-in-Ok-clause-any_moment
+returns-in-Ok-clause-any_moment g c = λ file told.
+    subst (λ (l : Log _). SyncsFirst g.D.Disk.reads g.D.Disk.may_leave g.D.Disk.moment g.D.Disk.left_since c.args.disk l.disk (λ x. opened c.args.config.now c.args.unit x ≡ opened c.args.config.now c.args.unit file)) (sym c.over.ensures)
+    (c.in-Ok.ensures.synced file told)

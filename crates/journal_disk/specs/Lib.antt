@@ -1,0 +1,7 @@
+pub mod Disk
+pub mod Opened
+pub mod Log
+pub mod Journal
+pub mod Recording
+pub mod Memory
+pub mod inner

@@ -1,0 +1,3 @@
+pub mod NewFile
+pub mod Scanning
+pub mod Texts
