@@ -63,29 +63,75 @@ fn start_redeemed(alloc: Global, config: &Config, unit: &mut Unit) -> Result<Tol
     Ok(ask(config, unit, 0, act))
 }
 
+/// Two blocks are written and frozen, and one of them is written again.
+fn overwritten(alloc: Global, config: &Config, unit: &mut Unit) -> Result<[(Told, u64); 3], Fail>
+    requires config { unit.old.config ≡ config.now }
+    requires unit { unit.old.unit ≡ 0 }
+    requires one { length config.now.units ≡ 1 }
+    ensures config { unit.new.config ≡ unit.old.config }
+    ensures unit { unit.new.unit ≡ unit.old.unit }
+{
+    Ok([
+        (write(alloc, config, unit, 0x11, 0, 2)?, unit.stored()),
+        (freeze(alloc, config, unit)?, unit.stored()),
+        (write(alloc, config, unit, 0x22, 0, 1)?, unit.stored()),
+    ])
+}
+
+/// The other is unmapped, the frozen blocks are written elsewhere, and the token is deleted.
+fn copied(alloc: Global, config: &Config, unit: &mut Unit) -> Result<[(Told, u64); 4], Fail>
+    requires config { unit.old.config ≡ config.now }
+    requires unit { unit.old.unit ≡ 0 }
+    requires one { length config.now.units ≡ 1 }
+    ensures config { unit.new.config ≡ unit.old.config }
+    ensures unit { unit.new.unit ≡ unit.old.unit }
+{
+    let ranges = row(alloc, 1, 1)?;
+    Ok([
+        (ask(config, unit, 0, Act::Unmap { ranges }), unit.stored()),
+        (start_redeemed(alloc, config, unit)?, unit.stored()),
+        (advance(config, unit), unit.stored()),
+        (
+            ask(config, unit, 0, Act::Delete { serial: 0 }),
+            unit.stored(),
+        ),
+    ])
+}
+
 /// A version goes where no token shows it and the block was written again.
 #[test]
 fn versions_are_kept_while_a_token_shows_them(rt: HostRuntime) -> Result<(), Fail> {
     let alloc = rt.alloc();
     let config = ample(alloc)?;
     let mut unit = Unit::new(alloc, &config, 0)?;
-    assert!(rt; unit.stored() == 0);
-    let told = write(alloc, &config, &mut unit, 0x11, 0, 2)?;
-    assert!(rt; told == Told::Done && unit.stored() == 2);
-    let told = freeze(alloc, &config, &mut unit)?;
-    assert!(rt; told == Told::Made(0) && unit.stored() == 2);
-    let told = write(alloc, &config, &mut unit, 0x22, 0, 1)?;
-    assert!(rt; told == Told::Done && unit.stored() == 3);
-    let ranges = row(alloc, 1, 1)?;
-    let told = ask(&config, &mut unit, 0, Act::Unmap { ranges });
-    assert!(rt; told == Told::Done && unit.stored() == 3);
-    let told = start_redeemed(alloc, &config, &mut unit)?;
-    assert!(rt; told == Told::Running(0) && unit.stored() == 3);
-    let told = advance(&config, &mut unit);
-    assert!(rt; told == Told::Ended(2) && unit.stored() == 5);
-    let told = ask(&config, &mut unit, 0, Act::Delete { serial: 0 });
-    assert!(rt; told == Told::Done && unit.stored() == 3);
+    let told = overwritten(alloc, &config, &mut unit)?;
+    assert!(rt; told == [(Told::Done, 2), (Told::Made(0), 2), (Told::Done, 3)]);
+    let told = copied(alloc, &config, &mut unit)?;
+    assert!(rt;
+        told == [
+            (Told::Done, 3),
+            (Told::Running(0), 3),
+            (Told::Ended(2), 5),
+            (Told::Done, 3),
+        ]
+    );
     Ok(())
+}
+
+/// A block is written twice, between which it is frozen for ten seconds.
+fn written_alike(alloc: Global, config: &Config, unit: &mut Unit) -> Result<[(Told, u64); 4], Fail>
+    requires config { unit.old.config ≡ config.now }
+    requires unit { unit.old.unit ≡ 0 }
+    requires one { length config.now.units ≡ 1 }
+    ensures config { unit.new.config ≡ unit.old.config }
+    ensures unit { unit.new.unit ≡ unit.old.unit }
+{
+    Ok([
+        (write(alloc, config, unit, 0x11, 5, 1)?, unit.stored()),
+        (populate(alloc, config, unit, 100, 10, 5)?, unit.stored()),
+        (write(alloc, config, unit, 0x11, 5, 1)?, unit.stored()),
+        (redeem(alloc, config, unit, 121, 0)?, unit.stored()),
+    ])
 }
 
 /// The same bytes written again are another version, and a token that is over shows none.
@@ -94,13 +140,15 @@ fn equal_bytes_are_two_versions(rt: HostRuntime) -> Result<(), Fail> {
     let alloc = rt.alloc();
     let config = ample(alloc)?;
     let mut unit = Unit::new(alloc, &config, 0)?;
-    let _ = write(alloc, &config, &mut unit, 0x11, 5, 1)?;
-    let told = populate(alloc, &config, &mut unit, 100, 10, 5)?;
-    assert!(rt; told == Told::Made(0) && unit.stored() == 1);
-    let _ = write(alloc, &config, &mut unit, 0x11, 5, 1)?;
-    assert!(rt; unit.stored() == 2);
-    let told = redeem(alloc, &config, &mut unit, 121, 0)?;
-    assert!(rt; told == Told::Refused(0x05, 0x23, 0x07) && unit.stored() == 1);
+    let told = written_alike(alloc, &config, &mut unit)?;
+    assert!(rt;
+        told == [
+            (Told::Done, 1),
+            (Told::Made(0), 1),
+            (Told::Done, 2),
+            (Told::Refused(0x05, 0x23, 0x07), 1),
+        ]
+    );
     Ok(())
 }
 
@@ -110,7 +158,7 @@ fn tokens_share_versions(rt: HostRuntime) -> Result<(), Fail> {
     let alloc = rt.alloc();
     let config = ample(alloc)?;
     let mut unit = Unit::new(alloc, &config, 0)?;
-    let _ = write(alloc, &config, &mut unit, 0x11, 0, 4)?;
+    assert!(rt; write(alloc, &config, &mut unit, 0x11, 0, 4)? == Told::Done);
     fill(alloc, &config, &mut unit, 64)?;
     fill(alloc, &config, &mut unit, 8)?;
     assert!(rt; unit.live() == 64 && unit.stored() == 4);
