@@ -1,4 +1,4 @@
-ghost use Rattle.std.specs.Prelude.{◌≡◌, ◌+◌, ◌<◌, ◌≤◌, OnOk, OnErr, IfOk, length, slice_range};
+ghost use Rattle.std.specs.Prelude.{◌≡◌, ◌+◌, ◌<◌, ◌≤◌, ◌∷◌, [], OnErr, IfOk, IfSome, IfNone, length, slice_range};
 ghost use Rattle.lba_ranges.specs.Denoted.{blocks_of, total};
 ghost use Rattle.copy_plan.specs.Jobs.{AreExtents};
 ghost use Rattle.copy_plan.specs.Plans.{IsLongestRun, longest_run, ranges_between};

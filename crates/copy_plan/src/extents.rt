@@ -1,5 +1,7 @@
-ghost use Rattle.std.specs.Prelude.{◌≡◌, ◌+◌, ◌*◌, ◌<◌, ◌≤◌, ◌^◌, ◌++◌, length, All, IfOk, ◌||◌, nat_lt};
+ghost use Rattle.std.specs.Prelude.{◌≡◌, ◌*◌, ◌≤◌, ◌++◌, length, All, IfOk};
 ghost use Rattle.std.specs.List.{position};
+ghost use Rattle.std.specs.List.Sorted.{IsNonDecreasingBy};
+ghost use Rattle.lba_ranges.specs.declared.ranges.Range.{Range};
 ghost use Rattle.lba_ranges.specs.Denoted.{total, is_overlapping};
 ghost use Rattle.copy_plan.specs.Jobs.{IsExtent, is_bad};
 
@@ -45,7 +47,18 @@ pub(crate) fn overlap(alloc: Global, extents: &[Range]) -> Result<bool, OutOfMem
     Ok(neighbours_meet(&sorted))
 }
 
-/// An extent reaches the one behind it.
-fn neighbours_meet(sorted: &[Range]) -> bool {
-    sorted.windows(2).any(|pair| pair[1].lba - pair[0].lba < u64::from(pair[0].count))
+/// An extent reaches into the one behind it; they are sorted by their first block.
+fn neighbours_meet(sorted: &[Range]) -> bool
+    requires extents { All IsExtent sorted.now }
+    requires sorted { IsNonDecreasingBy (λ (extent : Range). extent.lba) sorted.now }
+    ensures { result ≡ is_overlapping sorted.now }
+{
+    for index in 1..sorted.len() {
+        let before = sorted[index - 1];
+        let after = sorted[index];
+        if after.lba - before.lba < u64::from(before.count) {
+            return true;
+        }
+    }
+    false
 }

@@ -1,0 +1,4 @@
+pub mod Between
+pub mod Runs
+pub mod Cuts
+pub mod Overlaps
