@@ -1,5 +1,5 @@
 -- The ranges of the blocks between two places
-use Rattle.std.proofs.Common.{◌≡◌, ℕ, zero, suc, ◌+◌, ◌-◌, ◌<◌, ◌≤◌, List, [], ◌∷◌, ◌++◌, length, take, drop, refl, ap, sym, ◌∙◌, arith, true, false, inl, inr, ◌⊎◌, append-nil}
+use Rattle.std.proofs.Common.{◌≡◌, ℕ, zero, suc, ◌+◌, ◌-◌, ◌<◌, ◌≤◌, List, [], ◌∷◌, ◌++◌, length, take, drop, refl, ap, sym, ◌∙◌, arith, true, false, inl, inr, ◌⊎◌, append-nil, zero-add}
 use Rattle.std.specs.Prelude.{nat_lt, min, slice_range}
 use Rattle.std.proofs.lemmas.Bool.{cases_lt}
 use Rattle.std.proofs.lemmas.Bool.Decides.{nat_tests}
@@ -55,52 +55,54 @@ between-drop (e ∷ es) (suc i) p q =
 -- how many blocks there are
 pub total-between : (es : List Range) (p q : ℕ) → total (ranges_between es p q) ≡ min q (total es) - p
 total-between [] p q = grind (arith, common_steps)
-total-between (e ∷ es) p q = go (cases_lt p q) (cases_lt p e.count)
+total-between (e ∷ es) p q = go (λ a b. total-between es a b) (cases_lt p q) (cases_lt p e.count)
   where
     all : total (e ∷ es) ≡ e.count + total es
     all = sum_by-cons (λ (r : Range). r.count) e es
-    go : ((p < q) ⊎ (q ≤ p)) → ((p < e.count) ⊎ (e.count ≤ p)) → total (ranges_between (e ∷ es) p q) ≡ min q (total (e ∷ es)) - p
-    go (inr none) _ = rw (between-empty (e ∷ es) p q none) (omega (arith, all))
-    go (inl some) (inl within) =
-        let rest = total-between es 0 (q - e.count) in
+
+    go : ((a b : ℕ) → total (ranges_between es a b) ≡ min b (total es) - a) → ((p < q) ⊎ (q ≤ p)) → ((p < e.count) ⊎ (e.count ≤ p))
+        → total (ranges_between (e ∷ es) p q) ≡ min q (total (e ∷ es)) - p
+    go later (inr none) _ = rw (between-empty (e ∷ es) p q none) (omega (arith, all))
+    go later (inl some) (inl within) =
+        let rest = later 0 (q - e.count) in
         let sum = sum_by-cons (λ (r : Range). r.count) (part_of e p q) (ranges_between es 0 (q - e.count)) in
         rw (between-here e es p q within some) (omega (arith, all, rest, sum))
-    go (inl some) (inr past) =
-        let rest = total-between es (p - e.count) (q - e.count) in
+    go later (inl some) (inr past) =
+        let rest = later (p - e.count) (q - e.count) in
         rw (between-past e es p q past) (omega (arith, all, rest))
 
 -- fewer blocks are of no more extents
 pub between-fewer : (es : List Range) (p q r s : ℕ) → p ≤ r → s ≤ q → extents_between es r s ≤ extents_between es p q
 between-fewer [] p q r s later sooner = omega arith
-between-fewer (e ∷ es) p q r s later sooner = go (cases_lt r s) (cases_lt r e.count) (cases_lt p e.count)
+between-fewer (e ∷ es) p q r s later sooner = go (λ a b c d. between-fewer es a b c d) (cases_lt r s) (cases_lt r e.count) (cases_lt p e.count)
   where
-    go : ((r < s) ⊎ (s ≤ r)) → ((r < e.count) ⊎ (e.count ≤ r)) → ((p < e.count) ⊎ (e.count ≤ p)) → extents_between (e ∷ es) r s ≤ extents_between (e ∷ es) p q
-    go (inr none) _ _ = rw (between-empty (e ∷ es) r s none) (omega arith)
-    go (inl some) (inl within) (inl earlier) =
-        let rest = between-fewer es 0 (q - e.count) 0 (s - e.count) (omega arith) (omega arith) in
-        rw (between-here e es r s within some, between-here e es p q earlier (omega arith)) (omega (arith, rest))
-    go (inl some) (inl within) (inr past) = absurd (omega arith)
-    go (inl some) (inr past) (inl earlier) =
-        let rest = between-fewer es 0 (q - e.count) (r - e.count) (s - e.count) (omega arith) (omega arith) in
-        rw (between-past e es r s past, between-here e es p q earlier (omega arith)) (omega (arith, rest))
-    go (inl some) (inr past) (inr before) =
-        let rest = between-fewer es (p - e.count) (q - e.count) (r - e.count) (s - e.count) (omega arith) (omega arith) in
-        rw (between-past e es r s past, between-past e es p q before) (omega (arith, rest))
+    go : ((a b c d : ℕ) → a ≤ c → d ≤ b → extents_between es c d ≤ extents_between es a b) → ((r < s) ⊎ (s ≤ r)) → ((r < e.count) ⊎ (e.count ≤ r)) → ((p < e.count) ⊎ (e.count ≤ p)) → extents_between (e ∷ es) r s ≤ extents_between (e ∷ es) p q
+    go rest (inr none) _ _ = rw (between-empty (e ∷ es) r s none) (omega arith)
+    go rest (inl some) (inl within) (inl earlier) =
+        let fewer = rest 0 (q - e.count) 0 (s - e.count) (omega arith) (omega arith) in
+        rw (between-here e es r s within some, between-here e es p q earlier (omega arith)) (omega (arith, fewer))
+    go rest (inl some) (inl within) (inr past) = absurd (omega arith)
+    go rest (inl some) (inr past) (inl earlier) =
+        let fewer = rest 0 (q - e.count) (r - e.count) (s - e.count) (omega arith) (omega arith) in
+        rw (between-past e es r s past, between-here e es p q earlier (omega arith)) (omega (arith, fewer))
+    go rest (inl some) (inr past) (inr before) =
+        let fewer = rest (p - e.count) (q - e.count) (r - e.count) (s - e.count) (omega arith) (omega arith) in
+        rw (between-past e es r s past, between-past e es p q before) (omega (arith, fewer))
 
 -- as many first ranges of more blocks are no fewer blocks
 pub between-longer : (es : List Range) (p q r : ℕ) → q ≤ r → total (ranges_between es p q) ≤ total (take (extents_between es p q) (ranges_between es p r))
 between-longer [] p q r more = omega arith
-between-longer (e ∷ es) p q r more = go (cases_lt p q) (cases_lt p e.count)
+between-longer (e ∷ es) p q r more = go (λ a b c h. between-longer es a b c h) (cases_lt p q) (cases_lt p e.count)
   where
-    go : ((p < q) ⊎ (q ≤ p)) → ((p < e.count) ⊎ (e.count ≤ p)) → total (ranges_between (e ∷ es) p q) ≤ total (take (extents_between (e ∷ es) p q) (ranges_between (e ∷ es) p r))
-    go (inr none) _ = rw (between-empty (e ∷ es) p q none) (omega arith)
-    go (inl some) (inl within) =
-        let rest = between-longer es 0 (q - e.count) (r - e.count) (omega arith) in
+    go : ((a b c : ℕ) → b ≤ c → total (ranges_between es a b) ≤ total (take (extents_between es a b) (ranges_between es a c))) → ((p < q) ⊎ (q ≤ p)) → ((p < e.count) ⊎ (e.count ≤ p)) → total (ranges_between (e ∷ es) p q) ≤ total (take (extents_between (e ∷ es) p q) (ranges_between (e ∷ es) p r))
+    go later (inr none) _ = rw (between-empty (e ∷ es) p q none) (omega arith)
+    go later (inl some) (inl within) =
+        let rest = later 0 (q - e.count) (r - e.count) (omega arith) in
         let one = sum_by-cons (λ (x : Range). x.count) (part_of e p q) (ranges_between es 0 (q - e.count)) in
         let other = sum_by-cons (λ (x : Range). x.count) (part_of e p r) (take (extents_between es 0 (q - e.count)) (ranges_between es 0 (r - e.count))) in
         rw (between-here e es p q within some, between-here e es p r within (omega arith)) (omega (arith, rest, one, other))
-    go (inl some) (inr past) =
-        rw (between-past e es p q past, between-past e es p r past) (between-longer es (p - e.count) (q - e.count) (r - e.count) (omega arith))
+    go later (inl some) (inr past) =
+        rw (between-past e es p q past, between-past e es p r past) (later (p - e.count) (q - e.count) (r - e.count) (omega arith))
 
 -- the same blocks of an extent, where so many more are asked for as it and the later ones have
 take-here : (e : Range) (es : List Range) (k p q n : ℕ) → p < e.count → p < q
@@ -119,6 +121,7 @@ take-here e es k p q n within some is rest = go (cases_lt q e.count)
         nil : (j : ℕ) → take j (let l : List Range = [] in l) ≡ []
         nil zero = refl
         nil (suc j) = refl
+
         none : (j : ℕ) → total (take j []) ≡ 0
         none zero = refl
         none (suc j) = refl
@@ -132,16 +135,29 @@ take-here e es k p q n within some is rest = go (cases_lt q e.count)
 pub between-take : (k : ℕ) (es : List Range) (p q : ℕ) → ranges_between es p (p + total (take k (ranges_between es p q))) ≡ take k (ranges_between es p q)
 between-take zero es p q = between-empty es p _ (omega arith)
 between-take (suc k) [] p q = refl
-between-take (suc k) (e ∷ es) p q = go (cases_lt p q) (cases_lt p e.count)
+between-take (suc k) (e ∷ es) p q = go (rw zero-add at (between-take k es 0 (q - e.count))) (between-take (suc k) es (p - e.count) (q - e.count)) (cases_lt p q) (cases_lt p e.count)
   where
-    go : ((p < q) ⊎ (q ≤ p)) → ((p < e.count) ⊎ (e.count ≤ p)) → ranges_between (e ∷ es) p (p + total (take (suc k) (ranges_between (e ∷ es) p q))) ≡ take (suc k) (ranges_between (e ∷ es) p q)
-    go (inr none) _ = rw (between-empty (e ∷ es) p q none) (between-empty (e ∷ es) p _ (omega arith))
-    go (inl some) (inr past) =
+    go : ranges_between es 0 (total (take k (ranges_between es 0 (q - e.count)))) ≡ take k (ranges_between es 0 (q - e.count))
+        → ranges_between es (p - e.count) (p - e.count + total (take (suc k) (ranges_between es (p - e.count) (q - e.count)))) ≡ take (suc k) (ranges_between es (p - e.count) (q - e.count))
+        → ((p < q) ⊎ (q ≤ p)) → ((p < e.count) ⊎ (e.count ≤ p))
+        → ranges_between (e ∷ es) p (p + total (take (suc k) (ranges_between (e ∷ es) p q))) ≡ take (suc k) (ranges_between (e ∷ es) p q)
+    go here past (inr none) _ = rw (between-empty (e ∷ es) p q none) (between-empty (e ∷ es) p _ (omega arith))
+    go here past (inl some) (inr passed) =
         let n = total (take (suc k) (ranges_between es (p - e.count) (q - e.count))) in
         let last : p + n - e.count ≡ p - e.count + n = omega arith in
-        rw (between-past e es p q past, between-past e es p (p + n) past, last) (between-take (suc k) es (p - e.count) (q - e.count))
-    go (inl some) (inl within) =
+        rw (between-past e es p q passed, between-past e es p (p + n) passed, last) past
+    go here past (inl some) (inl within) =
         let later = take k (ranges_between es 0 (q - e.count)) in
         let sum : total (part_of e p q ∷ later) ≡ min e.count q - p + total later = sum_by-cons (λ (r : Range). r.count) (part_of e p q) later in
-        rw (between-here e es p q within some, sum)
-        (take-here e es k p q (total later) within some refl (between-take k es 0 (q - e.count)))
+        rw (between-here e es p q within some, sum) (take-here e es k p q (total later) within some refl here)
+
+-- one block is of one extent
+pub between-one : (es : List Range) (p : ℕ) → extents_between es p (p + 1) ≤ 1
+between-one [] p = omega arith
+between-one (e ∷ es) p = go (λ a. between-one es a) (cases_lt p e.count)
+  where
+    go : ((a : ℕ) → extents_between es a (a + 1) ≤ 1) → ((p < e.count) ⊎ (e.count ≤ p)) → extents_between (e ∷ es) p (p + 1) ≤ 1
+    go later (inl within) = rw (between-here e es p (p + 1) within (omega arith), between-empty es 0 (p + 1 - e.count) (omega arith)) (omega arith)
+    go later (inr past) =
+        let last : p + 1 - e.count ≡ p - e.count + 1 = omega arith in
+        rw (between-past e es p (p + 1) past, last) (later (p - e.count))

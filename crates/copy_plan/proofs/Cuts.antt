@@ -4,7 +4,7 @@ use Rattle.std.proofs.lemmas.Bool.{cases_lt}
 use Rattle.lba_ranges.specs.declared.ranges.Range.{Range}
 use Rattle.lba_ranges.specs.Denoted.{total}
 use Rattle.copy_plan.specs.Plans.{extents_between, ranges_limit, part_limit, IsLongestRun, IsPart, IsCut, IsPlan, IsGreedy}
-use Rattle.copy_plan.proofs.Between.{between-fewer}
+use Rattle.copy_plan.proofs.Between.{between-fewer, between-one}
 
 -- one more part
 pub cut-push : (from : List Range) (first last next : ℕ) (ends : List ℕ) → IsCut from first last ends → IsPart from last next → IsCut from first next (ends ++ next ∷ [])
@@ -14,6 +14,25 @@ cut-push from first last next (end ∷ ends) cut part = (cut.0, cut-push from en
 pub greedy-push : (from : List Range) (first last next : ℕ) (ends : List ℕ) → IsCut from first last ends → IsGreedy from first ends → IsLongestRun from last part_limit (next - last) → IsGreedy from first (ends ++ next ∷ [])
 greedy-push from first last next [] e greedy run = (subst (λ place. IsLongestRun from place part_limit (next - place)) (sym e) run, tt)
 greedy-push from first last next (end ∷ ends) cut greedy run = (greedy.0, greedy-push from end last next ends cut.1 greedy.1 run)
+
+-- a longest run of some blocks is a part
+pub run-part : (from : List Range) (place n : ℕ) → IsLongestRun from place part_limit n → 0 < n → IsPart from place (place + n)
+run-part from place n run some = record {
+  some = omega arith;
+  blocks = let within = run.within in omega arith;
+  extents = run.few;
+}
+
+-- it is empty at the end alone
+pub run-none : (from : List Range) (place most n : ℕ) → IsLongestRun from place most n → 0 < most → n ≡ 0 → total from ≤ place
+run-none from place most n run some none = go (cases_lt place (total from))
+  where
+    go : ((place < total from) ⊎ (total from ≤ place)) → total from ≤ place
+    go (inr ended) = ended
+    go (inl more) =
+        let one = between-one from place in
+        let longest = run.longest 1 (omega arith) (omega arith) (omega arith) in
+        absurd (omega arith)
 
 pub cut-rises : (from : List Range) (first last : ℕ) (ends : List ℕ) → IsCut from first last ends → first ≤ last
 cut-rises from first last [] e = omega arith
@@ -44,7 +63,7 @@ ahead-more from other done place n ahead run more = go ahead.reached ahead.left 
         record { reached = end; left = ends; behind = further (cases_lt place end); parts = omega arith; cut = cut.1 }
       where
         further : ((place < end) ⊎ (end ≤ place)) → end ≤ place + n
-        further (inr no) = omega arith
+        further (inr passed) = omega arith
         further (inl short) =
             let is : place + (end - place) ≡ end = omega arith in
             let bound = cut.0.blocks in

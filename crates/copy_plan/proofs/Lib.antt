@@ -1,4 +1,5 @@
 pub mod Between
 pub mod Runs
 pub mod Cuts
+pub mod Cursors
 pub mod Overlaps

@@ -1,5 +1,5 @@
 -- Extents that share a block, in any order and sorted
-use Rattle.std.proofs.Common.{◌≡◌, ◌≢◌, ℕ, zero, suc, ◌+◌, ◌-◌, ◌<◌, ◌≤◌, List, [], ◌∷◌, length, length-drop, length-swap, get_or-drop, take, drop, get_or, swap, refl, ap, sym, ◌∙◌, arith, true, false, Bool, inl, inr, ◌⊎◌, drop-cons, add-one, IsPermutation, true≢false}
+use Rattle.std.proofs.Common.{◌≡◌, ◌≢◌, ℕ, zero, suc, ◌+◌, ◌-◌, ◌<◌, ◌≤◌, List, [], ◌∷◌, length, take, drop, get_or, swap, refl, ap, sym, ◌∙◌, arith, true, false, Bool, inl, inr, ◌⊎◌, drop-cons, add-one, IsPermutation, true≢false}
 use Rattle.std.specs.Prelude.{nat_lt, min, max, All, ◌||◌}
 use Rattle.std.specs.List.{list_any}
 use Rattle.std.specs.List.Sorted.{IsNonDecreasingBy}
@@ -7,7 +7,8 @@ use Rattle.std.proofs.lemmas.Bool.{cases_lt, cases_eq, lt-ltb, le-ltb}
 use Rattle.std.proofs.lemmas.Bool.Decides.{nat_tests}
 use Rattle.std.proofs.lemmas.List.Folds.{list_any_none, list_any_at}
 use Rattle.std.proofs.lemmas.List.Sorted.{IsPermutation-keeps, IsPermutation-sym}
-use Rattle.std.proofs.lemmas.List.Edits.{swapped_from_swap, Swapped}
+use Rattle.std.proofs.lemmas.List.{length-drop, get_or-drop}
+use Rattle.std.proofs.lemmas.List.Edits.{swapped_from_swap, length-swap, Swapped}
 use Rattle.lba_ranges.specs.declared.ranges.Range.{Range}
 use Rattle.lba_ranges.specs.Denoted.{is_overlapping}
 use Rattle.lba_ranges.specs.inner.Denoted.{meets}

@@ -46,11 +46,36 @@ run-longest es place most within =
       within = omega arith;
       few = few;
       longest = λ more there bound allowed.
-        let count : total (ranges_between es place (place + more)) ≡ min (place + more) (total es) - place = total-between es place (place + more) in
-        let longer = between-longer es place (place + more) (place + most) (omega arith) in
-        let rest = total-more (extents_between es place (place + more)) ranges_limit all allowed in
-        omega arith;
+          let count : total (ranges_between es place (place + more)) ≡ min (place + more) (total es) - place = total-between es place (place + more) in
+          let longer = between-longer es place (place + more) (place + most) (omega arith) in
+          let rest = total-more (extents_between es place (place + more)) ranges_limit all allowed in
+          omega arith;
     }
+
+-- ---- range by range
+
+-- the first ranges are the next one and one fewer of the later ones
+pub take-next : (k : ℕ) (es : List Range) (place left : ℕ) (r : Range)
+    → ranges_between es place (place + left) ≡ r ∷ ranges_between es (place + r.count) (place + left) → r.count ≤ left
+    → take (suc k) (ranges_between es place (place + left)) ≡ r ∷ take k (ranges_between es (place + r.count) (place + r.count + (left - r.count)))
+take-next k es place left r next within =
+    let same : place + r.count + (left - r.count) ≡ place + left = omega arith in
+    rw (same, next) refl
+
+pub total-next : (k : ℕ) (es : List Range) (place left : ℕ) (r : Range)
+    → ranges_between es place (place + left) ≡ r ∷ ranges_between es (place + r.count) (place + left) → r.count ≤ left
+    → total (take (suc k) (ranges_between es place (place + left))) ≡ r.count + total (take k (ranges_between es (place + r.count) (place + r.count + (left - r.count))))
+total-next k es place left r next within =
+    ap total (take-next k es place left r next within)
+    ∙ sum_by-cons (λ (x : Range). x.count) r (take k (ranges_between es (place + r.count) (place + r.count + (left - r.count))))
+
+pub take-none : (k : ℕ) (rs : List Range) → rs ≡ [] → take k rs ≡ []
+take-none zero rs e = refl
+take-none (suc k) rs e = rw e refl
+
+pub total-none : (k : ℕ) (rs : List Range) → rs ≡ [] → total (take k rs) ≡ 0
+total-none zero rs e = refl
+total-none (suc k) rs e = rw e refl
 
 -- ---- the blocks of the ranges
 

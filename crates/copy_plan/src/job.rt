@@ -116,7 +116,7 @@ impl Job {
     /// The extents that are read.
     pub fn from(&self) -> &[Range]
         ensures extents { result.now ≡ self.now.from }
-        ensures limits { AreExtents self.now.from }
+        ensures limits { AreExtents result.now }
     {
         self.from.as_slice()
     }
@@ -124,7 +124,7 @@ impl Job {
     /// The extents that are written.
     pub fn to(&self) -> &[Range]
         ensures extents { result.now ≡ self.now.to }
-        ensures limits { AreExtents self.now.to }
+        ensures limits { AreExtents result.now }
     {
         self.to.as_slice()
     }
