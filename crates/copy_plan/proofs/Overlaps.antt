@@ -129,3 +129,26 @@ overlapping-sorted rs i extents sorted within =
         let start : (at rs i).lba ≤ (at rs (i + 1)).lba = sorted i (i + 1) no_range (omega arith) within in
         rw place (before-meets (at rs i) (at rs (i + 1 + k)) (omega arith)))
         ∙ sym (le-ltb _ _ ends)
+
+-- a list of one or none
+pub overlapping-last : (rs : List Range) → length rs ≤ 1 → is_overlapping rs ≡ false
+overlapping-last [] h = refl
+overlapping-last (r ∷ []) h = overlapping-cons r []
+overlapping-last (r ∷ q ∷ rs) h = absurd (omega arith)
+
+-- what the test of two neighbours says, of which the second is at `i`
+pub reaches-sorted : (rs : List Range) (i : ℕ) → All IsExtent rs → IsNonDecreasingBy (λ (r : Range). r.lba) rs → 1 ≤ i → i < length rs
+    → (at rs i).lba - (at rs (i - 1)).lba < (at rs (i - 1)).count → is_overlapping (drop (i - 1) rs) ≡ true
+reaches-sorted rs i extents sorted some within test =
+    let next : i - 1 + 1 ≡ i = omega arith in
+    let step = overlapping-sorted rs (i - 1) extents sorted (omega arith) in
+    let there : nat_lt ((at rs (i - 1 + 1)).lba - (at rs (i - 1)).lba) (at rs (i - 1)).count ≡ true = rw next (lt-ltb _ _ test) in
+    step ∙ rw there refl
+
+pub apart-sorted : (rs : List Range) (i : ℕ) → All IsExtent rs → IsNonDecreasingBy (λ (r : Range). r.lba) rs → 1 ≤ i → i < length rs
+    → (at rs (i - 1)).count ≤ (at rs i).lba - (at rs (i - 1)).lba → is_overlapping (drop (i - 1) rs) ≡ is_overlapping (drop i rs)
+apart-sorted rs i extents sorted some within test =
+    let next : i - 1 + 1 ≡ i = omega arith in
+    let step = overlapping-sorted rs (i - 1) extents sorted (omega arith) in
+    let there : nat_lt ((at rs (i - 1 + 1)).lba - (at rs (i - 1)).lba) (at rs (i - 1)).count ≡ false = rw next (le-ltb _ _ test) in
+    step ∙ rw (there, next) refl

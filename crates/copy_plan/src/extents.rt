@@ -1,4 +1,4 @@
-ghost use Rattle.std.specs.Prelude.{◌≡◌, ◌*◌, ◌≤◌, ◌++◌, length, All, IfOk};
+ghost use Rattle.std.specs.Prelude.{◌≡◌, ◌*◌, ◌<◌, ◌≤◌, ◌++◌, length, All, IfOk, IfSome};
 ghost use Rattle.std.specs.List.{position};
 ghost use Rattle.std.specs.List.Sorted.{IsNonDecreasingBy};
 ghost use Rattle.lba_ranges.specs.declared.ranges.Range.{Range};
@@ -16,11 +16,25 @@ fn is_bad(extent: &Range) -> bool
     extent.count == 0 || extent.lba > u64::MAX - u64::from(extent.count - 1)
 }
 
-/// The first bad extent of two lists, counted through both.
-pub(crate) fn first_bad(first: &[Range], second: &[Range]) -> Option<usize>
-    ensures { result ≡ position is_bad (first.now ++ second.now) }
+/// The first bad extent.
+fn first_bad(extents: &[Range]) -> Option<usize>
+    ensures { result ≡ position is_bad extents.now }
 {
-    first.iter().chain(second).position(is_bad)
+    extents.iter().position(is_bad)
+}
+
+/// The first bad extent of two lists, counted through both.
+pub(crate) fn first_bad_of(first: &[Range], second: &[Range]) -> Option<usize>
+    requires first { length first.now ≤ 65_536 }
+    requires second { length second.now ≤ 65_536 }
+    ensures first { result ≡ position is_bad (first.now ++ second.now) }
+    ensures within { IfSome result (λ index. index < 131_072) }
+{
+    if let Some(index) = first_bad(first) {
+        return Some(index);
+    }
+    let index = first_bad(second)?;
+    Some(first.len() + index)
 }
 
 /// How many blocks the extents have.
