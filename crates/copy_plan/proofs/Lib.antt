@@ -5,3 +5,4 @@ pub mod Cursors
 pub mod Overlaps
 pub mod Positions
 pub mod Judged
+pub mod ReadExtents

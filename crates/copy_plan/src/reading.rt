@@ -1,8 +1,8 @@
-ghost use Rattle.std.specs.Prelude.{◌≡◌, ◌+◌, ◌*◌, ◌<◌, ◌≤◌, ◌^◌, length, drop, IfOk};
-ghost use Rattle.cm_base.specs.Fields.{field};
+ghost use Rattle.std.specs.Prelude.{◌≡◌, ◌≢◌, ◌+◌, ◌*◌, ◌<◌, ◌≤◌, ◌^◌, length, drop, IfOk, OnOk};
 ghost use Rattle.cm_base.specs.declared.parsed.Parsed.TheVariants.{Bad};
 ghost use Rattle.cm_frame.specs.Laws.{IfWhole};
-ghost use Rattle.copy_plan.specs.Reading.{extents_in, place_of, read_job};
+ghost use Rattle.copy_plan.specs.declared.fault.JobFault.{JobFault};
+ghost use Rattle.copy_plan.specs.Reading.{extent_in, extents_in, place_of, read_job};
 
 use crate::fault::JobFault;
 use crate::job::{EXTENTS_LIMIT, ExtentList, Job};
@@ -34,13 +34,13 @@ pub fn read_job(alloc: Global, bytes: &[u8]) -> Result<Parsed<Job>, OutOfMemory>
     let sources = get_u32(bytes, 8) as usize;
     let targets = get_u32(bytes, 12) as usize;
     if polls == 0 {
-        return Ok(bad(JobFault::NoPolls));
+        return bad(JobFault::NoPolls);
     }
     if sources > EXTENTS_LIMIT {
-        return Ok(bad(JobFault::ManySources));
+        return bad(JobFault::ManySources);
     }
     if targets > EXTENTS_LIMIT {
-        return Ok(bad(JobFault::ManyTargets));
+        return bad(JobFault::ManyTargets);
     }
     let used = FRONT + EXTENT * (sources + targets);
     if bytes.len() < used {
@@ -50,8 +50,7 @@ pub fn read_job(alloc: Global, bytes: &[u8]) -> Result<Parsed<Job>, OutOfMemory>
     let to = extents_in(alloc, &bytes[FRONT + EXTENT * sources..], targets)?;
     match Job::new(alloc, get_u16(bytes, 0), get_u16(bytes, 2), polls, from, to) {
         Ok(value) => Ok(Parsed::Whole { value, used }),
-        Err(JobFault::OutOfMemory) => Err(OutOfMemory),
-        Err(fault) => Ok(bad(fault)),
+        Err(fault) => bad(fault),
     }
 }
 
@@ -70,7 +69,7 @@ fn extents_in(alloc: Global, bytes: &[u8], count: usize) -> Result<ExtentList, O
 /// The extent that 12 bytes spell.
 fn extent_in(bytes: &[u8]) -> Range
     requires { 12 ≤ length bytes.now }
-    ensures { result ≡ record { lba = field bytes.now 0 7; count = field bytes.now 8 11 } }
+    ensures { result ≡ extent_in bytes.now }
 {
     Range {
         lba: get_u64(bytes, 0),
@@ -79,16 +78,18 @@ fn extent_in(bytes: &[u8]) -> Range
 }
 
 /// What is read where the bytes spell no job.
-fn bad(fault: JobFault) -> Parsed<Job>
+fn bad(fault: JobFault) -> Result<Parsed<Job>, OutOfMemory>
     requires { place_of fault < 2 ^ 64 }
-    ensures { result ≡ Bad (place_of fault) }
+    ensures bad { IfOk result (λ p. p ≡ Bad (place_of fault)) }
+    ensures memory { OnOk result (fault ≢ JobFault.OutOfMemory) }
 {
     let place = match fault {
+        JobFault::OutOfMemory => return Err(OutOfMemory),
         JobFault::NoPolls => 4,
         JobFault::ManySources => 8,
         JobFault::ManyTargets => 12,
         JobFault::BadExtent { index } => FRONT as u64 + EXTENT as u64 * index,
-        JobFault::SharedBlock | JobFault::BadTotals | JobFault::OutOfMemory => 0,
+        JobFault::SharedBlock | JobFault::BadTotals => 0,
     };
-    Parsed::Bad { place }
+    Ok(Parsed::Bad { place })
 }

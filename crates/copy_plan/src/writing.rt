@@ -1,5 +1,4 @@
-ghost use Rattle.std.specs.Prelude.{◌≡◌, ◌++◌, IfOk};
-ghost use Rattle.byteorder.specs.Endian.{big_bytes};
+ghost use Rattle.std.specs.Prelude.{◌≡◌, ◌++◌, flat_map, IfOk, OnOk};
 ghost use Rattle.copy_plan.specs.Spelling.{extent_bytes, front_bytes, job_bytes};
 
 use crate::job::Job;
@@ -13,13 +12,19 @@ pub fn write_job(alloc: Global, job: &Job) -> Result<Bytes, OutOfMemory>
 {
     let mut bytes = Bytes::empty(alloc);
     bytes.extend(&front_bytes(job))?;
-    for extent in job.from() {
-        bytes.extend(&extent_bytes(extent))?;
-    }
-    for extent in job.to() {
-        bytes.extend(&extent_bytes(extent))?;
-    }
+    append_extents(&mut bytes, job.from())?;
+    append_extents(&mut bytes, job.to())?;
     Ok(bytes)
+}
+
+/// Adds the spelling of some extents.
+fn append_extents(bytes: &mut Bytes, extents: &[Range]) -> Result<(), OutOfMemory>
+    ensures { OnOk result (bytes.new ≡ bytes.old ++ flat_map extent_bytes extents.now) }
+{
+    for extent in extents {
+        bytes.extend(&extent_bytes(extent))?;
+    }
+    Ok(())
 }
 
 /// What stands before the extents.
