@@ -6,3 +6,8 @@ pub mod Overlaps
 pub mod Positions
 pub mod Judged
 pub mod ReadExtents
+pub mod Chains
+pub mod Judgement
+pub mod JobBack
+pub mod JobSpelled
+pub mod JobStays
