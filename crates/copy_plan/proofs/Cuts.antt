@@ -75,3 +75,27 @@ ahead-more from other done place n ahead run more = go ahead.reached ahead.left 
 
 pub ahead-fewer : (from : List Range) (other : List ℕ) (done place : ℕ) → IsAhead from other done place → done ≤ length other
 ahead-fewer from other done place ahead = let e = ahead.parts in omega arith
+
+-- one longest run is no longer than another
+run-le : (from : List Range) (place most m n : ℕ) → IsLongestRun from place most m → IsLongestRun from place most n → m ≤ n
+run-le from place most m n one other = other.longest m one.there one.within one.few
+
+-- there is one greedy plan
+pub greedy-same : (from : List Range) (first last : ℕ) (xs ys : List ℕ) → IsCut from first last xs → IsGreedy from first xs → IsCut from first last ys → IsGreedy from first ys → xs ≡ ys
+greedy-same from first last [] [] a b c d = refl
+greedy-same from first last [] (y ∷ ys) a b c d =
+    let some = c.0.some in
+    let rest = cut-rises from y last ys c.1 in
+    absurd (omega arith)
+greedy-same from first last (x ∷ xs) [] a b c d =
+    let some = a.0.some in
+    let rest = cut-rises from x last xs a.1 in
+    absurd (omega arith)
+greedy-same from first last (x ∷ xs) (y ∷ ys) a b c d =
+    let up = run-le from first part_limit (x - first) (y - first) b.0 d.0 in
+    let down = run-le from first part_limit (y - first) (x - first) d.0 b.0 in
+    let some = a.0.some in
+    let more = c.0.some in
+    let same : y ≡ x = omega arith in
+    let rest = greedy-same from x last xs ys a.1 b.1 (subst (λ (e : ℕ). IsCut from e last ys) same c.1) (subst (λ (e : ℕ). IsGreedy from e ys) same d.1) in
+    rw same (ap (λ l. x ∷ l) rest)

@@ -11,3 +11,4 @@ pub mod Judgement
 pub mod JobBack
 pub mod JobSpelled
 pub mod JobStays
+pub mod PublicLaws
