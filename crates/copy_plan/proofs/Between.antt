@@ -1,13 +1,12 @@
 -- The ranges of the blocks between two places
-use Rattle.std.proofs.Common.{◌≡◌, ℕ, zero, suc, ◌+◌, ◌-◌, ◌<◌, ◌≤◌, List, [], ◌∷◌, ◌++◌, length, take, drop, refl, ap, sym, ◌∙◌, arith, true, false, inl, inr, ◌⊎◌, append-nil, zero-add}
-use Rattle.std.specs.Prelude.{nat_lt, min, slice_range}
+use Rattle.std.proofs.Common.{◌≡◌, ℕ, zero, suc, ◌+◌, ◌-◌, ◌<◌, ◌≤◌, List, [], ◌∷◌, take, drop, refl, ◌∙◌, arith, true, false, inl, inr, ◌⊎◌, zero-add}
+use Rattle.std.specs.Prelude.{nat_lt, min}
 use Rattle.std.proofs.lemmas.Bool.{cases_lt}
 use Rattle.std.proofs.lemmas.Bool.Decides.{nat_tests}
 use Rattle.std.proofs.lemmas.Grind.{common_steps}
 use Rattle.std.proofs.lemmas.List.Sums.{sum_by-cons}
 use Rattle.lba_ranges.specs.declared.ranges.Range.{Range}
-use Rattle.lba_ranges.specs.Denoted.{row, blocks_of, total}
-use Rattle.lba_ranges.proofs.PublicLaws.{length-row}
+use Rattle.lba_ranges.specs.Denoted.{total}
 use Rattle.copy_plan.specs.Plans.{range_between, ranges_between, extents_between}
 
 -- the blocks of an extent from the p-th on, up to the q-th

@@ -1,17 +1,16 @@
 -- The steps of a cursor
 use Rattle.std.proofs.Common.{◌≡◌, ℕ, zero, suc, ◌+◌, ◌-◌, ◌<◌, ◌≤◌, List, [], ◌∷◌, length, take, drop, get_or, refl, ap, sym, ◌∙◌, arith, Some, None, Option, add-one, drop-cons, inl, inr, ◌⊎◌}
-use Rattle.std.specs.Prelude.{min, slice_get, All}
-use Rattle.std.specs.Option.{ForSome, ForNone}
+use Rattle.std.specs.Prelude.{min, slice_get}
 use Rattle.std.proofs.lemmas.Bool.{cases_lt}
 use Rattle.std.proofs.lemmas.Option.{slice_get_within, get_or_from_slice_get}
 use Rattle.std.proofs.lemmas.List.Sums.{sum_by_push, sum_by-take-le}
 use Rattle.lba_ranges.specs.declared.ranges.Range.{Range}
 use Rattle.lba_ranges.specs.Denoted.{total}
 use Rattle.lba_ranges.proofs.PublicLaws.{take-get, total-get}
-use Rattle.copy_plan.specs.Jobs.{IsExtent, AreExtents}
+use Rattle.copy_plan.specs.Jobs.{AreExtents}
 use Rattle.copy_plan.specs.Plans.{ranges_between}
 use Rattle.copy_plan.specs.inner.Cursors.{IsAt}
-use Rattle.copy_plan.proofs.Between.{part_of, between-empty, between-past, between-here, between-drop}
+use Rattle.copy_plan.proofs.Between.{between-empty, between-past, between-here, between-drop}
 
 -- an extent is not empty
 some-at : (es : List Range) (i : ℕ) (r : Range) → AreExtents es → slice_get es i ≡ Some r → 0 < r.count

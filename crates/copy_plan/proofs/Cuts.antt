@@ -1,9 +1,9 @@
 -- Plans, part by part
-use Rattle.std.proofs.Common.{◌≡◌, ℕ, zero, suc, ◌+◌, ◌-◌, ◌<◌, ◌≤◌, List, [], ◌∷◌, ◌++◌, length, refl, ap, sym, ◌∙◌, arith, inl, inr, ◌⊎◌, length-append, subst}
+use Rattle.std.proofs.Common.{◌≡◌, ℕ, ◌+◌, ◌-◌, ◌<◌, ◌≤◌, List, [], ◌∷◌, ◌++◌, length, refl, ap, sym, arith, inl, inr, ◌⊎◌, subst}
 use Rattle.std.proofs.lemmas.Bool.{cases_lt}
 use Rattle.lba_ranges.specs.declared.ranges.Range.{Range}
 use Rattle.lba_ranges.specs.Denoted.{total}
-use Rattle.copy_plan.specs.Plans.{extents_between, ranges_limit, part_limit, IsLongestRun, IsPart, IsCut, IsPlan, IsGreedy}
+use Rattle.copy_plan.specs.Plans.{part_limit, IsLongestRun, IsPart, IsCut, IsPlan, IsGreedy}
 use Rattle.copy_plan.proofs.Between.{between-fewer, between-one}
 
 -- one more part

@@ -1,5 +1,5 @@
 -- A job is read from its spelling, whatever follows it
-use Rattle.std.proofs.Common.{◌≡◌, ℕ, suc, ◌+◌, ◌*◌, ◌^◌, ◌<◌, ◌≤◌, List, [], ◌∷◌, ◌++◌, length, drop, refl, ap, sym, ◌∙◌, arith, None, append_assoc, drop_at}
+use Rattle.std.proofs.Common.{◌≡◌, ℕ, suc, ◌+◌, ◌*◌, ◌^◌, ◌<◌, List, [], ◌∷◌, ◌++◌, length, drop, refl, ap, sym, ◌∙◌, arith, append_assoc, drop_at}
 use Rattle.std.specs.Prelude.{flat_map, All}
 use Rattle.std.proofs.lemmas.List.{length-append, drop-drop}
 use Rattle.byteorder.specs.Endian.{big_from, big_bytes}
@@ -9,7 +9,7 @@ use Rattle.cm_base.proofs.PublicLaws.{number-back}
 use Rattle.cm_frame.specs.Laws.{IsReadBack}
 use Rattle.lba_ranges.specs.declared.ranges.Range.{Range}
 use Rattle.copy_plan.specs.Jobs.{CopyJob, IsExtent, job_fault}
-use Rattle.copy_plan.specs.Spelling.{extent_bytes, front_bytes, job_bytes, FitsJob}
+use Rattle.copy_plan.specs.Spelling.{extent_bytes, job_bytes, FitsJob}
 use Rattle.copy_plan.specs.Reading.{extent_in, extents_in, sources_told, targets_told, job_length, job_in, judged_job, read_job}
 use Rattle.copy_plan.proofs.ReadExtents.{read-judged}
 use Rattle.copy_plan.proofs.Judgement.{none-fault}

@@ -1,19 +1,17 @@
 -- A job that is read was spelled so
-use Rattle.std.proofs.Common.{◌≡◌, ℕ, zero, suc, ◌+◌, ◌*◌, ◌^◌, ◌<◌, ◌≤◌, List, [], ◌∷◌, ◌++◌, length, take, drop, get_or, refl, ap, sym, ◌∙◌, subst, arith, None, Some, Option}
+use Rattle.std.proofs.Common.{◌≡◌, ℕ, zero, suc, ◌+◌, ◌*◌, ◌^◌, ◌<◌, ◌≤◌, List, ◌++◌, length, take, drop, refl, ap, sym, ◌∙◌, subst, arith, None, Some, Option}
 use Rattle.std.specs.Prelude.{flat_map, All, ◌==◌, nat_lt}
-use Rattle.std.proofs.lemmas.Bool.{ltb-false}
 use Rattle.std.proofs.lemmas.List.{length-drop}
 use Rattle.std.proofs.lemmas.List.Elements.{All-drop}
-use Rattle.byteorder.specs.Endian.{big_from, big_bytes}
-use Rattle.cm_base.specs.declared.parsed.Parsed.{Parsed}
-use Rattle.cm_base.specs.declared.parsed.Parsed.TheVariants.{Whole, Short, Bad}
+use Rattle.byteorder.specs.Endian.{big_bytes}
+use Rattle.cm_base.specs.declared.parsed.Parsed.TheVariants.{Whole}
 use Rattle.cm_base.specs.Fields.{field, part, AreBytes}
 use Rattle.cm_base.proofs.PublicLaws.{field-fits, field-spelled, parts-join}
 use Rattle.cm_frame.specs.Laws.{IsSpelledSo}
 use Rattle.lba_ranges.specs.declared.ranges.Range.{Range}
 use Rattle.copy_plan.specs.declared.fault.JobFault.{JobFault}
 use Rattle.copy_plan.specs.Jobs.{CopyJob, job_fault, extents_limit}
-use Rattle.copy_plan.specs.Spelling.{extent_bytes, front_bytes, job_bytes, FitsJob}
+use Rattle.copy_plan.specs.Spelling.{extent_bytes, job_bytes, FitsJob}
 use Rattle.copy_plan.specs.Reading.{extent_in, extents_in, sources_told, targets_told, job_length, job_in, judged_job, read_job, place_of}
 use Rattle.copy_plan.proofs.Chains.{guard-whole, bad-whole}
 use Rattle.copy_plan.proofs.Judgement.{fault-none}

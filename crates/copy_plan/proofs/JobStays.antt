@@ -1,15 +1,14 @@
 -- What was judged of a job stays judged so, whatever comes behind
-use Rattle.std.proofs.Common.{◌≡◌, ℕ, zero, suc, ◌+◌, ◌*◌, ◌<◌, ◌≤◌, List, [], ◌∷◌, ◌++◌, length, take, drop, refl, ap, sym, ◌∙◌, arith, None, Some, Option}
+use Rattle.std.proofs.Common.{◌≡◌, ℕ, zero, suc, ◌+◌, ◌*◌, ◌≤◌, List, ◌++◌, length, drop, refl, ap, ◌∙◌, arith, None, Some, Option}
 use Rattle.std.specs.Prelude.{◌==◌, nat_lt}
 use Rattle.std.proofs.lemmas.List.{length-drop, drop-append-le}
-use Rattle.cm_base.specs.declared.parsed.Parsed.TheVariants.{Whole, Bad}
+use Rattle.cm_base.specs.declared.parsed.Parsed.TheVariants.{Whole}
 use Rattle.cm_base.specs.Fields.{field}
 use Rattle.cm_base.proofs.PublicLaws.{field-stays}
 use Rattle.cm_frame.specs.Laws.{StaysJudged}
-use Rattle.lba_ranges.specs.declared.ranges.Range.{Range}
 use Rattle.copy_plan.specs.declared.fault.JobFault.{JobFault}
 use Rattle.copy_plan.specs.Jobs.{CopyJob, job_fault, extents_limit}
-use Rattle.copy_plan.specs.Reading.{extent_in, extents_in, sources_told, targets_told, job_length, job_in, judged_job, read_job, place_of}
+use Rattle.copy_plan.specs.Reading.{extents_in, sources_told, targets_told, job_length, job_in, judged_job, read_job}
 use Rattle.copy_plan.proofs.Chains.{guard-stays, test-stays}
 use Rattle.copy_plan.proofs.ReadExtents.{job-is}
 

@@ -1,5 +1,5 @@
 -- A job has no fault exactly where it keeps its limits
-use Rattle.std.proofs.Common.{◌≡◌, ℕ, zero, suc, ◌+◌, ◌<◌, ◌≤◌, ◌^◌, List, [], ◌∷◌, ◌++◌, length, get_or, refl, ap, sym, ◌∙◌, arith, true, false, Bool, Some, None, Option}
+use Rattle.std.proofs.Common.{◌≡◌, ℕ, suc, ◌+◌, ◌≤◌, List, [], ◌∷◌, ◌++◌, length, refl, sym, ◌∙◌, arith, true, false, Bool, Some, None, Option}
 use Rattle.std.specs.Prelude.{All, cond, nat_lt, ◌==◌, ◌||◌, not}
 use Rattle.std.specs.List.{position, position_from}
 use Rattle.std.proofs.lemmas.Bool.{ltb-false, le-ltb, eqb-true, eqb-false, or_parts, not-false}
@@ -9,7 +9,7 @@ use Rattle.std.proofs.lemmas.Iterator.Adapters.{position_from-zero}
 use Rattle.lba_ranges.specs.declared.ranges.Range.{Range}
 use Rattle.lba_ranges.specs.Denoted.{total, is_overlapping}
 use Rattle.copy_plan.specs.declared.fault.JobFault.{JobFault}
-use Rattle.copy_plan.specs.Jobs.{CopyJob, IsExtent, AreExtents, IsJob, is_bad, fault_of_blocks, fault_of_extents, job_fault, extents_limit, blocks_limit}
+use Rattle.copy_plan.specs.Jobs.{CopyJob, IsExtent, IsJob, is_bad, fault_of_blocks, fault_of_extents, job_fault, extents_limit, blocks_limit}
 use Rattle.copy_plan.proofs.Judged.{good-first, good-second}
 
 bad-from : (rs : List Range) (i : ℕ) → All IsExtent rs → position_from is_bad i rs ≡ None

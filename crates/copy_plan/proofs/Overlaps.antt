@@ -1,11 +1,11 @@
 -- Extents that share a block, in any order and sorted
-use Rattle.std.proofs.Common.{◌≡◌, ◌≢◌, ℕ, zero, suc, ◌+◌, ◌-◌, ◌<◌, ◌≤◌, List, [], ◌∷◌, length, take, drop, get_or, swap, refl, ap, sym, ◌∙◌, arith, true, false, Bool, inl, inr, ◌⊎◌, drop-cons, add-one, IsPermutation, true≢false}
-use Rattle.std.specs.Prelude.{nat_lt, min, max, All, ◌||◌}
+use Rattle.std.proofs.Common.{◌≡◌, ◌≢◌, ℕ, zero, suc, ◌+◌, ◌-◌, ◌<◌, ◌≤◌, List, [], ◌∷◌, length, drop, get_or, swap, refl, ap, sym, ◌∙◌, arith, true, false, Bool, inl, inr, ◌⊎◌, drop-cons, add-one, IsPermutation}
+use Rattle.std.specs.Prelude.{nat_lt, All, ◌||◌}
 use Rattle.std.specs.List.{list_any}
 use Rattle.std.specs.List.Sorted.{IsNonDecreasingBy}
 use Rattle.std.proofs.lemmas.Bool.{cases_lt, cases_eq, lt-ltb, le-ltb}
 use Rattle.std.proofs.lemmas.Bool.Decides.{nat_tests}
-use Rattle.std.proofs.lemmas.List.Folds.{list_any_none, list_any_at}
+use Rattle.std.proofs.lemmas.List.Folds.{list_any_at}
 use Rattle.std.proofs.lemmas.List.Sorted.{IsPermutation-keeps, IsPermutation-sym}
 use Rattle.std.proofs.lemmas.List.{length-drop, get_or-drop}
 use Rattle.std.proofs.lemmas.List.Edits.{swapped_from_swap, length-swap, Swapped}

@@ -1,8 +1,8 @@
 -- The extents of a job, one after the other
-use Rattle.std.proofs.Common.{◌≡◌, ℕ, zero, suc, ◌+◌, ◌*◌, ◌-◌, ◌<◌, ◌≤◌, List, [], ◌∷◌, ◌++◌, length, take, drop, refl, sym, ap, ◌∙◌, arith, inl, inr}
+use Rattle.std.proofs.Common.{◌≡◌, ℕ, suc, ◌+◌, ◌*◌, ◌-◌, ◌<◌, ◌≤◌, List, ◌∷◌, length, take, drop, refl, sym, ap, ◌∙◌, arith, inl, inr}
 use Rattle.std.proofs.Math.Seq.{take-length}
 use Rattle.std.proofs.lemmas.List.{length-drop, drop-drop}
-use Rattle.std.specs.Prelude.{Result, Ok, Err, Some, None, IfOk, OnOk, ◌≢◌, ◌⊎◌, nat_lt, ◌==◌, false}
+use Rattle.std.specs.Prelude.{Result, Ok, Err, Some, IfOk, OnOk, ◌≢◌, ◌⊎◌, nat_lt, ◌==◌, false}
 use Rattle.std.proofs.lemmas.Bool.{le-ltb}
 use Rattle.std.proofs.lemmas.Bool.Decides.{nat_tests}
 use Rattle.cm_base.specs.Fields.{field}

@@ -1,4 +1,4 @@
-use Rattle.std.proofs.Common.{◌≡◌, ◌∙◌, sym, Some, None}
+use Rattle.std.proofs.Common.{◌≡◌, ◌∙◌, sym, None}
 use Rattle.std.specs.List.{position}
 use Rattle.copy_plan.specs.Jobs.{is_bad}
 use Rattle.copy_plan.proofs.Positions.{position-first, position-second, position-none}

@@ -1,9 +1,6 @@
-use Rattle.std.proofs.Common.{◌≡◌, ◌+◌, ◌-◌, ◌<◌, ◌≤◌, drop, length, arith, true, false, sym, ap, ◌∙◌, ℕ}
-use Rattle.std.specs.Prelude.{nat_lt, ◌||◌}
-use Rattle.std.proofs.lemmas.Bool.{lt-ltb, le-ltb}
+use Rattle.std.proofs.Common.{◌≡◌, ◌+◌, ◌-◌, drop, arith, sym, ◌∙◌}
 use Rattle.std.proofs.lemmas.List.{length-drop}
-use Rattle.lba_ranges.specs.Denoted.{is_overlapping}
-use Rattle.copy_plan.proofs.Overlaps.{overlapping-sorted, overlapping-last, reaches-sorted, apart-sorted}
+use Rattle.copy_plan.proofs.Overlaps.{overlapping-last, reaches-sorted, apart-sorted}
 use Rattle.copy_plan.proofs.extents.neighbours_meet.Goals as goal
 
 pub returns-then-after-before : goal.returns-then-after-before

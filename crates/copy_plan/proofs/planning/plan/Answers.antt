@@ -1,8 +1,7 @@
-use Rattle.std.proofs.Common.{◌≡◌, ◌+◌, ◌-◌, ◌<◌, ◌≤◌, [], ◌∷◌, ◌++◌, List, ℕ, length, arith, length-append, subst, ap, ◌∙◌}
-use Rattle.lba_ranges.specs.declared.ranges.Range.{Range}
+use Rattle.std.proofs.Common.{◌≡◌, ◌+◌, ◌-◌, [], ◌∷◌, ◌++◌, ℕ, length, arith, length-append, ap, ◌∙◌}
 use Rattle.lba_ranges.specs.Denoted.{total}
-use Rattle.copy_plan.specs.Plans.{Standing, part_limit, IsLongestRun, IsCut, IsPlan}
-use Rattle.copy_plan.proofs.Cuts.{IsAhead, ahead-first, ahead-more, ahead-fewer, cut-push, greedy-push, run-part, run-none}
+use Rattle.copy_plan.specs.Plans.{Standing, part_limit, IsLongestRun}
+use Rattle.copy_plan.proofs.Cuts.{ahead-more, cut-push, greedy-push, run-part, run-none}
 use Rattle.copy_plan.proofs.planning.plan.Goals as goal
 
 pub loop-cursor-preserved : goal.loop-cursor-preserved

@@ -1,8 +1,7 @@
-use Rattle.std.proofs.Common.{◌≡◌, ◌+◌, ◌*◌, ◌<◌, ◌≤◌, List, length, drop, arith, ap, sym, ◌∙◌, None, Some, refl}
+use Rattle.std.proofs.Common.{◌≡◌, ◌+◌, ◌*◌, drop, arith, ap, sym, ◌∙◌, None, refl}
 use Rattle.cm_base.specs.declared.parsed.Parsed.TheVariants.{Whole}
-use Rattle.lba_ranges.specs.declared.ranges.Range.{Range}
 use Rattle.copy_plan.specs.Jobs.{CopyJob, job_fault}
-use Rattle.copy_plan.specs.Reading.{extents_in, sources_told, targets_told, job_length, job_in, judged_job, read_job}
+use Rattle.copy_plan.specs.Reading.{extents_in, sources_told, targets_told, job_length, job_in, judged_job}
 use Rattle.copy_plan.proofs.ReadExtents.{rest-of, read-judged, job-is, bad-read}
 use Rattle.copy_plan.proofs.reading.read_job.Goals as goal
 

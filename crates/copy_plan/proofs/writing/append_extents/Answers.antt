@@ -1,4 +1,4 @@
-use Rattle.std.proofs.Common.{◌≡◌, ◌+◌, ◌++◌, ◌∷◌, [], List, ℕ, take, get_or, sym, ap, ◌∙◌}
+use Rattle.std.proofs.Common.{◌++◌, List, ℕ, take, get_or, sym, ap, ◌∙◌}
 use Rattle.std.specs.Prelude.{flat_map}
 use Rattle.std.proofs.lemmas.List.{take_more, flat_map_more}
 use Rattle.copy_plan.specs.Spelling.{extent_bytes}

@@ -1,4 +1,3 @@
-use Rattle.std.proofs.Common.{◌≡◌}
 use Rattle.copy_plan.proofs.Cursors.{at-first}
 use Rattle.copy_plan.proofs.cursor.ExtentCursor.new.Goals as goal
 

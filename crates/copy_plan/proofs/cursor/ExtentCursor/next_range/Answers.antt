@@ -1,4 +1,4 @@
-use Rattle.std.proofs.Common.{◌≡◌, ◌+◌, ◌-◌, ◌<◌, ◌≤◌, [], ◌∷◌, arith, length, get_or, subst, ℕ}
+use Rattle.std.proofs.Common.{◌≡◌, ◌+◌, ◌<◌, ◌≤◌, [], ◌∷◌, arith, length, get_or, subst, ℕ}
 use Rattle.std.proofs.lemmas.Option.{slice_get-get_or, slice_get_past}
 use Rattle.lba_ranges.specs.declared.ranges.Range.{Range}
 use Rattle.lba_ranges.specs.Denoted.{total}

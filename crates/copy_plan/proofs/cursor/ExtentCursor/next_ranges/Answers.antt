@@ -1,8 +1,7 @@
-use Rattle.std.proofs.Common.{◌≡◌, ℕ, List, [], ◌∷◌, suc, ◌+◌, ◌-◌, ◌<◌, ◌≤◌, ◌++◌, length, take, arith, refl, sym, ap, ◌∙◌, append-nil, append_assoc, length-append}
-use Rattle.std.specs.Prelude.{slice_range}
+use Rattle.std.proofs.Common.{◌≡◌, List, [], ◌∷◌, suc, ◌+◌, ◌-◌, ◌≤◌, ◌++◌, length, take, arith, sym, ap, ◌∙◌, append-nil, append_assoc, length-append}
 use Rattle.lba_ranges.specs.declared.ranges.Range.{Range}
 use Rattle.lba_ranges.specs.Denoted.{total, blocks_of}
-use Rattle.copy_plan.specs.Plans.{Standing, ranges_between, longest_run, IsLongestRun}
+use Rattle.copy_plan.specs.Plans.{Standing, ranges_between, longest_run}
 use Rattle.std.proofs.lemmas.List.Sums.{sum_by_push}
 use Rattle.copy_plan.proofs.Runs.{take-next, take-none, run-longest, run-between, blocks-between}
 use Rattle.copy_plan.proofs.cursor.ExtentCursor.next_ranges.Goals as goal

@@ -1,7 +1,7 @@
-use Rattle.std.proofs.Common.{◌≡◌, ℕ, List, [], suc, ◌+◌, ◌-◌, ◌<◌, ◌≤◌, take, subst, arith, refl}
+use Rattle.std.proofs.Common.{◌≡◌, ℕ, List, [], suc, ◌+◌, ◌-◌, ◌≤◌, take, arith}
 use Rattle.lba_ranges.specs.declared.ranges.Range.{Range}
 use Rattle.lba_ranges.specs.Denoted.{total}
-use Rattle.copy_plan.specs.Plans.{Standing, ranges_between, longest_run, IsLongestRun}
+use Rattle.copy_plan.specs.Plans.{ranges_between, longest_run, IsLongestRun}
 use Rattle.copy_plan.proofs.Runs.{total-next, total-none, run-longest}
 use Rattle.copy_plan.proofs.cursor.ExtentCursor.pass.Goals as goal
 use Rattle.copy_plan.proofs.cursor.ExtentCursor.pass.Goals.{else-loop-test, then-loop-test+in-None}

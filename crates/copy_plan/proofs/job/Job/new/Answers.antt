@@ -1,7 +1,7 @@
-use Rattle.std.proofs.Common.{◌≡◌, ◌+◌, ◌<◌, ◌≤◌, ◌++◌, length, arith, sym, ap, ◌∙◌, None, false}
+use Rattle.std.proofs.Common.{◌≡◌, ◌++◌, arith, sym, ap, ◌∙◌, None, false}
 use Rattle.std.specs.List.{position}
 use Rattle.lba_ranges.specs.Denoted.{total, is_overlapping}
-use Rattle.copy_plan.specs.Jobs.{IsExtent, is_bad}
+use Rattle.copy_plan.specs.Jobs.{is_bad}
 use Rattle.copy_plan.proofs.Judged.{good-first, good-second}
 use Rattle.copy_plan.proofs.job.Job.new.Goals as goal
 
