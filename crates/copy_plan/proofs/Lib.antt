@@ -1,0 +1,14 @@
+pub mod Between
+pub mod Runs
+pub mod Cuts
+pub mod Cursors
+pub mod Overlaps
+pub mod Positions
+pub mod Judged
+pub mod ReadExtents
+pub mod Chains
+pub mod Judgement
+pub mod JobBack
+pub mod JobSpelled
+pub mod JobStays
+pub mod PublicLaws

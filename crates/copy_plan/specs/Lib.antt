@@ -1,0 +1,5 @@
+pub mod Jobs
+pub mod Plans
+pub mod Spelling
+pub mod Reading
+pub mod inner
