@@ -1,0 +1,47 @@
+-- How the parts of a copy follow its rule
+use Rattle.std.specs.Prelude.{◌≡◌, ℕ, ◌-◌, List, Result, Ok, Err, ◌⊎◌}
+use Rattle.lba_ranges.specs.declared.ranges.Range.{Range}
+use Rattle.lba_ranges.specs.Denoted.{total}
+use Rattle.odx_host.specs.dev.Jobs.{CopyJob}
+use Rattle.cm_frame.specs.declared.frame.Request.{Request}
+use Rattle.odx_host.specs.declared.fault.CopyFault.{CopyFault}
+use Rattle.odx_host.specs.Talk.{Talked}
+use Rattle.odx_host.specs.Worlds.{World}
+use Rattle.odx_host.specs.Parts.{Part, writes_from, parts_from}
+use Rattle.odx_host.specs.Rule.{HostProgram, Asks, Ends, if_good, populating, polling}
+use Rattle.odx_host.specs.Ruled.{AreAsked, after, Leads}
+
+-- some requests were asked from one state of the port to another, and this is true of them
+pub record Talking (Talks : List Talked → Type 0) (Was Is : World → Type 0) (F : List Talked → Type 0) : Type 0 where
+  pub talk : List Talked
+  pub talks : Talks talk
+  pub leads : Leads Was talk Is
+  pub follows : F talk
+
+-- a program that is at its end, or memory was wanted
+abbrev pub StopsSo : HostProgram → CopyFault → Type 0
+StopsSo p fault = (fault ≡ CopyFault.OutOfMemory) ⊎ (p ≡ Ends (Err fault))
+
+-- the requests are those of the program, and it is then at what comes next, or at its end
+abbrev pub Follows : {A : Type 0} → HostProgram → List Talked → (A → HostProgram) → Result A CopyFault → Type 0
+Follows {A} p talk next (Ok x) = AreAsked p talk × (after p talk ≡ next x)
+Follows {A} p talk next (Err fault) = AreAsked p talk × StopsSo (after p talk) fault
+
+-- a request was asked, and the program goes on with the data of its reply
+abbrev pub HasAsked : Request → ℕ → List Talked → Result (List ℕ) CopyFault → Type 0
+HasAsked request step talk found = (go_on : List ℕ → HostProgram) → Follows (Asks request (if_good step go_on)) talk go_on found
+
+-- a token was made
+abbrev pub HasPopulated : ℕ → ℕ → List Range → List Talked → Result (List ℕ) CopyFault → Type 0
+HasPopulated unit step ranges talk token = (go_on : List ℕ → HostProgram) → Follows (populating unit step ranges go_on) talk go_on token
+
+-- a write was polled until it was done
+abbrev pub HasPolled : ℕ → ℕ → ℕ → ℕ → List Talked → Result Unit CopyFault → Type 0
+HasPolled unit step blocks polls talk done = (next : HostProgram) → Follows (polling unit step blocks next polls) talk (λ none. next) done
+
+-- the writes up to a place, and the parts, that are still to come
+abbrev pub writes_to_come : List Range → ℕ → ℕ → List (List Range)
+writes_to_come to place last = writes_from (last - place) to place last
+
+abbrev pub parts_to_come : CopyJob → ℕ → List Part
+parts_to_come job place = parts_from (total job.from - place) job place
