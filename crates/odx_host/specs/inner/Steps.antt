@@ -45,3 +45,8 @@ writes_to_come to place last = writes_from (last - place) to place last
 
 abbrev pub parts_to_come : CopyJob → ℕ → List Part
 parts_to_come job place = parts_from (total job.from - place) job place
+
+-- a write was polled, and it still runs; so many polls are left
+abbrev pub StillRuns : ℕ → ℕ → ℕ → ℕ → ℕ → List Talked → Type 0
+StillRuns unit step blocks polls left talk = (next : HostProgram) → AreAsked (polling unit step blocks next polls) talk
+    × (after (polling unit step blocks next polls) talk ≡ polling unit step blocks next left)
