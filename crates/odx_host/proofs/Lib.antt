@@ -2,3 +2,5 @@ pub mod Steps
 pub mod Asking
 pub mod Lengths
 pub mod StatusBack
+pub mod Coming
+pub mod Linking

@@ -5,5 +5,6 @@ pub mod Requests
 pub mod Parts
 pub mod Rule
 pub mod Ruled
+pub mod Linked
 pub mod inner
 pub mod dev

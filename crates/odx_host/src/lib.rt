@@ -3,9 +3,11 @@
 
 mod copying;
 mod fault;
+mod link_port;
 mod port;
 mod requests;
 mod told;
 
 pub use fault::{Copied, CopyFault};
+pub use link_port::LinkPort;
 pub use port::{Port, PortFault};
