@@ -27,11 +27,12 @@ pub record IsExtent (extent : Range) : Type 0 where
   pub some : 0 < extent.count
   pub numbers : extent.lba + extent.count ≤ 2 ^ 64
 
--- a list of extents, in which no block stands twice
+-- a list of extents, in which no block stands twice, and not too many blocks stand
 pub record AreExtents (extents : List Range) : Type 0 where
   pub few : length extents ≤ extents_limit
   pub each : All IsExtent extents
   pub apart : is_overlapping extents ≡ false
+  pub blocks : total extents ≤ blocks_limit
 
 -- as many blocks are read as are written
 pub record IsJob (job : CopyJob) : Type 0 where
@@ -39,7 +40,6 @@ pub record IsJob (job : CopyJob) : Type 0 where
   pub from : AreExtents job.from
   pub to : AreExtents job.to
   pub same : total job.to ≡ total job.from
-  pub blocks : total job.from ≤ blocks_limit
 
 -- ---- what is wrong with a job
 

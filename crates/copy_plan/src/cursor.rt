@@ -1,4 +1,4 @@
-ghost use Rattle.std.specs.Prelude.{◌≡◌, ◌+◌, ◌<◌, ◌≤◌, OnOk, OnErr, IfOk, length, slice_range};
+ghost use Rattle.std.specs.Prelude.{◌≡◌, ◌+◌, ◌<◌, ◌≤◌, ◌∷◌, [], OnErr, IfOk, IfSome, IfNone, length, slice_range};
 ghost use Rattle.lba_ranges.specs.Denoted.{blocks_of, total};
 ghost use Rattle.copy_plan.specs.Jobs.{AreExtents};
 ghost use Rattle.copy_plan.specs.Plans.{IsLongestRun, longest_run, ranges_between};
@@ -96,8 +96,19 @@ impl<'a> ExtentCursor<'a> {
     }
 
     /// Passes over the next blocks of one extent, at most so many; `None` where there are none.
-    fn next_range(&mut self, most: u64) -> Option<Range> {
-        let extent = self.extents.get(self.index)?;
+    fn next_range(&mut self, most: u64) -> Option<Range>
+        ensures next { IfSome result (λ range. ranges_between self.old.extents self.old.place (self.old.place + most)
+            ≡ range ∷ ranges_between self.old.extents (self.old.place + range.count) (self.old.place + most)) }
+        ensures passed { IfSome result (λ range. self.new ≡ record self.old { place = self.old.place + range.count }) }
+        ensures within { IfSome result (λ range. range.count ≤ most) }
+        ensures there { self.old.place ≤ total self.old.extents }
+        ensures none { IfNone result (ranges_between self.old.extents self.old.place (self.old.place + most) ≡ []) }
+        ensures same { IfNone result (self.new ≡ self.old) }
+    {
+        if self.index == self.extents.len() {
+            return None;
+        }
+        let extent = self.extents[self.index];
         let left = extent.count - self.passed;
         let count = u64::from(left).min(most) as u32;
         if count == 0 {

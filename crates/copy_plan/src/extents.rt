@@ -1,5 +1,7 @@
-ghost use Rattle.std.specs.Prelude.{◌≡◌, ◌+◌, ◌*◌, ◌<◌, ◌≤◌, ◌^◌, ◌++◌, length, All, IfOk, ◌||◌, nat_lt};
+ghost use Rattle.std.specs.Prelude.{◌≡◌, ◌*◌, ◌<◌, ◌≤◌, ◌++◌, length, All, IfOk, IfSome};
 ghost use Rattle.std.specs.List.{position};
+ghost use Rattle.std.specs.List.Sorted.{IsNonDecreasingBy};
+ghost use Rattle.lba_ranges.specs.declared.ranges.Range.{Range};
 ghost use Rattle.lba_ranges.specs.Denoted.{total, is_overlapping};
 ghost use Rattle.copy_plan.specs.Jobs.{IsExtent, is_bad};
 
@@ -14,11 +16,25 @@ fn is_bad(extent: &Range) -> bool
     extent.count == 0 || extent.lba > u64::MAX - u64::from(extent.count - 1)
 }
 
-/// The first bad extent of two lists, counted through both.
-pub(crate) fn first_bad(first: &[Range], second: &[Range]) -> Option<usize>
-    ensures { result ≡ position is_bad (first.now ++ second.now) }
+/// The first bad extent.
+fn first_bad(extents: &[Range]) -> Option<usize>
+    ensures { result ≡ position is_bad extents.now }
 {
-    first.iter().chain(second).position(is_bad)
+    extents.iter().position(is_bad)
+}
+
+/// The first bad extent of two lists, counted through both.
+pub(crate) fn first_bad_of(first: &[Range], second: &[Range]) -> Option<usize>
+    requires first { length first.now ≤ 65_536 }
+    requires second { length second.now ≤ 65_536 }
+    ensures first { result ≡ position is_bad (first.now ++ second.now) }
+    ensures within { IfSome result (λ index. index < 131_072) }
+{
+    if let Some(index) = first_bad(first) {
+        return Some(index);
+    }
+    let index = first_bad(second)?;
+    Some(first.len() + index)
 }
 
 /// How many blocks the extents have.
@@ -45,7 +61,18 @@ pub(crate) fn overlap(alloc: Global, extents: &[Range]) -> Result<bool, OutOfMem
     Ok(neighbours_meet(&sorted))
 }
 
-/// An extent reaches the one behind it.
-fn neighbours_meet(sorted: &[Range]) -> bool {
-    sorted.windows(2).any(|pair| pair[1].lba - pair[0].lba < u64::from(pair[0].count))
+/// An extent reaches into the one behind it; they are sorted by their first block.
+fn neighbours_meet(sorted: &[Range]) -> bool
+    requires extents { All IsExtent sorted.now }
+    requires sorted { IsNonDecreasingBy (λ (extent : Range). extent.lba) sorted.now }
+    ensures { result ≡ is_overlapping sorted.now }
+{
+    for index in 1..sorted.len() {
+        let before = sorted[index - 1];
+        let after = sorted[index];
+        if after.lba - before.lba < u64::from(before.count) {
+            return true;
+        }
+    }
+    false
 }

@@ -3,7 +3,7 @@ ghost use Rattle.lba_ranges.specs.Denoted.{total};
 ghost use Rattle.copy_plan.specs.declared.fault.JobFault.{JobFault};
 ghost use Rattle.copy_plan.specs.Jobs.{AreExtents, fault_of_blocks, job_fault};
 
-use crate::extents::{first_bad, overlap, total};
+use crate::extents::{first_bad_of, overlap, total};
 use crate::fault::JobFault;
 use cm_base::{OutOfMemory, Sequence};
 use lba_ranges::Range;
@@ -70,7 +70,7 @@ impl Job {
         if to.len() > EXTENTS_LIMIT {
             return Err(JobFault::ManyTargets);
         }
-        if let Some(index) = first_bad(from.as_slice(), to.as_slice()) {
+        if let Some(index) = first_bad_of(from.as_slice(), to.as_slice()) {
             return Err(JobFault::BadExtent {
                 index: index as u64,
             });
@@ -116,7 +116,7 @@ impl Job {
     /// The extents that are read.
     pub fn from(&self) -> &[Range]
         ensures extents { result.now ≡ self.now.from }
-        ensures limits { AreExtents self.now.from }
+        ensures limits { AreExtents result.now }
     {
         self.from.as_slice()
     }
@@ -124,7 +124,7 @@ impl Job {
     /// The extents that are written.
     pub fn to(&self) -> &[Range]
         ensures extents { result.now ≡ self.now.to }
-        ensures limits { AreExtents self.now.to }
+        ensures limits { AreExtents result.now }
     {
         self.to.as_slice()
     }
@@ -135,6 +135,6 @@ impl Job {
         ensures to { result ≡ total self.now.to }
         ensures few { result ≤ 4_294_967_296 }
     {
-        total(self.from())
+        total(self.from.as_slice())
     }
 }

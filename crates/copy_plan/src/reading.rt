@@ -1,4 +1,4 @@
-ghost use Rattle.std.specs.Prelude.{◌≡◌, ◌+◌, ◌*◌, ◌≤◌, length, drop, IfOk};
+ghost use Rattle.std.specs.Prelude.{◌≡◌, ◌+◌, ◌*◌, ◌<◌, ◌≤◌, ◌^◌, length, drop, IfOk};
 ghost use Rattle.cm_base.specs.Fields.{field};
 ghost use Rattle.cm_base.specs.declared.parsed.Parsed.TheVariants.{Bad};
 ghost use Rattle.cm_frame.specs.Laws.{IfWhole};
@@ -80,6 +80,7 @@ fn extent_in(bytes: &[u8]) -> Range
 
 /// What is read where the bytes spell no job.
 fn bad(fault: JobFault) -> Parsed<Job>
+    requires { place_of fault < 2 ^ 64 }
     ensures { result ≡ Bad (place_of fault) }
 {
     let place = match fault {
