@@ -102,3 +102,9 @@ pub one-left : (unit step blocks polls counter : ℕ) (xs : List Talked) → cou
 one-left unit step blocks polls counter xs low runs =
     let same : polls - counter ≡ suc (polls - suc counter) = omega arith in
     subst (λ n. StillRuns unit step blocks polls n xs) same runs
+
+pub polled-is : (unit unit' step step' blocks blocks' polls polls' : ℕ) (talk : List Talked) (r : Result (Unit {0}) CopyFault) → unit ≡ unit' → step ≡ step' → blocks ≡ blocks' → polls ≡ polls'
+    → HasPolled unit step blocks polls talk r → HasPolled unit' step' blocks' polls' talk r
+polled-is unit unit' step step' blocks blocks' polls polls' talk r a b c d h =
+    subst (λ u. HasPolled u step' blocks' polls' talk r) a (subst (λ s. HasPolled unit s blocks' polls' talk r) b
+    (subst (λ n. HasPolled unit step n polls' talk r) c (subst (λ n. HasPolled unit step blocks n talk r) d h)))

@@ -6,8 +6,8 @@ use Rattle.std.proofs.lemmas.Bool.Decides.{nat_tests}
 use Rattle.std.proofs.lemmas.List.Sums.{sum_by-cons}
 use Rattle.lba_ranges.specs.declared.ranges.Range.{Range}
 use Rattle.lba_ranges.specs.Denoted.{total}
-use Rattle.odx_host.specs.dev.Jobs.{CopyJob}
-use Rattle.odx_host.specs.dev.Plans.{range_between, ranges_between, longest_run, ranges_limit, part_limit}
+use Rattle.copy_plan.specs.Jobs.{CopyJob}
+use Rattle.copy_plan.specs.Plans.{range_between, ranges_between, longest_run, ranges_limit, part_limit}
 use Rattle.odx_host.specs.Parts.{Part, part_at, parts, parts_from, place_behind, ranges_at, writes_from}
 use Rattle.odx_host.specs.inner.Steps.{writes_to_come, parts_to_come}
 

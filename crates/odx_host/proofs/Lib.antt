@@ -4,3 +4,5 @@ pub mod Lengths
 pub mod StatusBack
 pub mod Coming
 pub mod Linking
+pub mod Ranges
+pub mod Writing

@@ -7,4 +7,3 @@ pub mod Rule
 pub mod Ruled
 pub mod Linked
 pub mod inner
-pub mod dev

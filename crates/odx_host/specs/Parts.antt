@@ -2,8 +2,8 @@
 use Rattle.std.specs.Prelude.{ℕ, zero, suc, ◌+◌, ◌-◌, List, [], ◌∷◌, nat_lt, if◌then◌else◌}
 use Rattle.lba_ranges.specs.declared.ranges.Range.{Range}
 use Rattle.lba_ranges.specs.Denoted.{total}
-use Rattle.odx_host.specs.dev.Jobs.{CopyJob}
-use Rattle.odx_host.specs.dev.Plans.{longest_run, part_limit}
+use Rattle.copy_plan.specs.Jobs.{CopyJob}
+use Rattle.copy_plan.specs.Plans.{longest_run, part_limit}
 
 -- the ranges of one POPULATE TOKEN, and those of each WRITE USING TOKEN of its token
 pub record Part : Type 0 where

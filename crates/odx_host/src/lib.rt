@@ -8,6 +8,7 @@ mod port;
 mod requests;
 mod told;
 
+pub use copying::copy;
 pub use fault::{Copied, CopyFault};
 pub use link_port::LinkPort;
 pub use port::{Port, PortFault};

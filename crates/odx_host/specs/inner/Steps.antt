@@ -1,14 +1,16 @@
 -- How the parts of a copy follow its rule
-use Rattle.std.specs.Prelude.{◌≡◌, ℕ, ◌-◌, List, Result, Ok, Err, ◌⊎◌}
+use Rattle.std.specs.Prelude.{◌≡◌, ℕ, suc, ◌+◌, ◌-◌, List, [], ◌∷◌, length, Result, Ok, Err, ◌⊎◌}
 use Rattle.lba_ranges.specs.declared.ranges.Range.{Range}
 use Rattle.lba_ranges.specs.Denoted.{total}
-use Rattle.odx_host.specs.dev.Jobs.{CopyJob}
+use Rattle.copy_plan.specs.Jobs.{CopyJob}
+use Rattle.copy_plan.specs.Plans.{longest_run}
 use Rattle.cm_frame.specs.declared.frame.Request.{Request}
+use Rattle.odx_host.specs.declared.fault.Copied.{Copied}
 use Rattle.odx_host.specs.declared.fault.CopyFault.{CopyFault}
 use Rattle.odx_host.specs.Talk.{Talked}
 use Rattle.odx_host.specs.Worlds.{World}
-use Rattle.odx_host.specs.Parts.{Part, writes_from, parts_from}
-use Rattle.odx_host.specs.Rule.{HostProgram, Asks, Ends, if_good, populating, polling}
+use Rattle.odx_host.specs.Parts.{Part, writes_from, parts_from, place_behind}
+use Rattle.odx_host.specs.Rule.{HostProgram, Asks, Ends, if_good, populating, polling, writing, copying, one_write, rule}
 use Rattle.odx_host.specs.Ruled.{AreAsked, after, Leads}
 
 -- some requests were asked from one state of the port to another, and this is true of them
@@ -50,3 +52,39 @@ parts_to_come job place = parts_from (total job.from - place) job place
 abbrev pub StillRuns : ℕ → ℕ → ℕ → ℕ → ℕ → List Talked → Type 0
 StillRuns unit step blocks polls left talk = (next : HostProgram) → AreAsked (polling unit step blocks next polls) talk
     × (after (polling unit step blocks next polls) talk ≡ polling unit step blocks next left)
+
+-- where the write that begins at a place ends
+abbrev pub behind_write : List Range → ℕ → ℕ → ℕ
+behind_write to place last = place + total (longest_run to place (last - place))
+
+-- the writes of a token whose blocks are those from `first` to `last`, of which those up to a place were written
+abbrev pub writes_on : CopyJob → List ℕ → (Copied → HostProgram) → Copied → ℕ → ℕ → ℕ → HostProgram
+writes_on job token go_on done first last place = writing job token go_on done (place - first) (writes_to_come job.to place last)
+
+-- one write
+abbrev pub HasWritten : CopyJob → List ℕ → Copied → ℕ → ℕ → ℕ → List Talked → Result Unit CopyFault → Type 0
+HasWritten job token done first last place talk r = (go_on : Copied → HostProgram) → Follows (writes_on job token go_on done first last place) talk
+    (λ none. writes_on job token go_on (one_write done) first last (behind_write job.to place last)) r
+
+-- all writes of a token, with what was then done
+abbrev pub HasWrittenAll : CopyJob → List ℕ → Copied → ℕ → ℕ → Copied → List Talked → Result Unit CopyFault → Type 0
+HasWrittenAll job token done first last then_done talk r = (go_on : Copied → HostProgram) → Follows (writes_on job token go_on done first last first) talk (λ none. go_on then_done) r
+
+-- one part
+abbrev pub HasCopiedPart : CopyJob → Copied → ℕ → Copied → List Talked → Result Unit CopyFault → Type 0
+HasCopiedPart job done place then_done talk r =
+    Follows (copying job done (parts_to_come job place)) talk (λ none. copying job then_done (parts_to_come job (place_behind job place))) r
+
+-- the program of the writes came to a place, with what was done so far
+abbrev pub WritesOn : CopyJob → List ℕ → Copied → ℕ → ℕ → Copied → ℕ → List Talked → Type 0
+WritesOn job token done first last so_far place talk = (go_on : Copied → HostProgram) → AreAsked (writes_on job token go_on done first last first) talk
+    × (after (writes_on job token go_on done first last first) talk ≡ writes_on job token go_on so_far first last place)
+
+-- the program of the whole copy came to a place
+abbrev pub CopiesOn : CopyJob → Copied → ℕ → List Talked → Type 0
+CopiesOn job so_far place talk = AreAsked (rule job) talk × (after (rule job) talk ≡ copying job so_far (parts_to_come job place))
+
+-- the POPULATE TOKENs and WRITE USING TOKENs of some parts
+abbrev pub steps_in : List Part → ℕ
+steps_in [] = 0
+steps_in (part ∷ more) = suc (length part.writes) + steps_in more
