@@ -6,3 +6,4 @@ pub mod Coming
 pub mod Linking
 pub mod Ranges
 pub mod Writing
+pub mod Identifiers

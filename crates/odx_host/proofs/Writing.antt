@@ -16,9 +16,9 @@ use Rattle.odx_host.specs.declared.fault.CopyFault.{CopyFault}
 use Rattle.odx_host.specs.Talk.{Talked}
 use Rattle.odx_host.specs.Requests.{write_request, write_list}
 use Rattle.odx_host.specs.Parts.{Part, part_at, place_behind, ranges_at}
-use Rattle.odx_host.specs.Rule.{HostProgram, Asks, Ends, if_good, polling, writing, copying, populating, next_step, one_write, one_token, is_last}
-use Rattle.odx_host.specs.Ruled.{AreAsked, after}
-use Rattle.odx_host.specs.inner.Steps.{Follows, HasAsked, HasPolled, HasPopulated, HasWritten, HasWrittenAll, HasCopiedPart, WritesOn, CopiesOn, writes_on, writes_to_come, parts_to_come, behind_write}
+use Rattle.odx_host.specs.Rule.{HostProgram, Asks, Ends, if_good, polling, writing, copying, populating, next_step, one_write, one_token, is_last, rule}
+use Rattle.odx_host.specs.Ruled.{AreAsked, after, EndsSo, IsRuled}
+use Rattle.odx_host.specs.inner.Steps.{StopsSo, steps_in, Follows, HasAsked, HasPolled, HasPopulated, HasWritten, HasWrittenAll, HasCopiedPart, WritesOn, CopiesOn, writes_on, writes_to_come, parts_to_come, behind_write}
 use Rattle.odx_host.proofs.Steps.{follows-on, after-append, asked-append}
 use Rattle.odx_host.proofs.Coming.{run-some, writes-next, writes-end, parts-next, writes-of}
 
@@ -191,3 +191,47 @@ host-on i s n place copied is was =
     all
     ∙ ap (λ p. record i { to = record i.to { place = p }; copied = copied }) (sym (ap (λ (h : Host). h.to.place) all))
     ∙ ap (λ c. record i { to = record i.to { place = n.to.place }; copied = c }) (sym (ap (λ (h : Host). h.copied) all))
+
+pub populated-is : (unit unit' step step' : ℕ) (ranges ranges' : List Range) (talk : List Talked) (r : Result (List ℕ) CopyFault) → unit ≡ unit' → step ≡ step' → ranges ≡ ranges'
+    → HasPopulated unit step ranges talk r → HasPopulated unit' step' ranges' talk r
+populated-is unit unit' step step' ranges ranges' talk r a b c h =
+    subst (λ u. HasPopulated u step' ranges' talk r) a (subst (λ s. HasPopulated unit s ranges' talk r) b (subst (λ l. HasPopulated unit step l talk r) c h))
+
+pub written-is : (job job' : CopyJob) (token : List ℕ) (done done' : Copied) (first first' last last' : ℕ) (then_done : Copied) (talk : List Talked) (r : Result (Unit {0}) CopyFault)
+    → job ≡ job' → done ≡ done' → first ≡ first' → last ≡ last' → HasWrittenAll job token done first last then_done talk r → HasWrittenAll job' token done' first' last' then_done talk r
+written-is job job' token done done' first first' last last' then_done talk r z a b c h =
+    subst (λ j. HasWrittenAll j token done' first' last' then_done talk r) z
+    (subst (λ d. HasWrittenAll job token d first' last' then_done talk r) a
+    (subst (λ n. HasWrittenAll job token done n last' then_done talk r) b (subst (λ n. HasWrittenAll job token done first n then_done talk r) c h)))
+
+-- ---- the whole copy
+
+pub copies-on : (job : CopyJob) (so_far then_done : Copied) (place : ℕ) (xs ys : List Talked) → CopiesOn job so_far place xs
+    → HasCopiedPart job so_far place then_done ys (Ok (tt {0})) → CopiesOn job then_done (place_behind job place) (xs ++ ys)
+copies-on job so_far then_done place xs ys here more = (
+  asked-append (rule job) xs ys here.0 (subst (λ s. AreAsked s ys) (sym here.1) more.0),
+  after-append (rule job) xs ys ∙ ap (λ s. after s ys) here.1 ∙ more.1,
+)
+
+pub copies-stop : (job : CopyJob) (so_far then_done : Copied) (place : ℕ) (xs ys : List Talked) (fault : CopyFault) → CopiesOn job so_far place xs
+    → HasCopiedPart job so_far place then_done ys (Err fault) → IsRuled (rule job) (xs ++ ys) (Err fault)
+copies-stop job so_far then_done place xs ys fault here more = record {
+  asked = asked-append (rule job) xs ys here.0 (subst (λ s. AreAsked s ys) (sym here.1) more.0);
+  ended = ends fault (subst (λ s. StopsSo s fault) (sym (after-append (rule job) xs ys ∙ ap (λ s. after s ys) here.1)) more.1);
+}
+  where
+    ends : (f : CopyFault) → StopsSo (after (rule job) (xs ++ ys)) f → EndsSo (after (rule job) (xs ++ ys)) (Err f)
+    ends f (inl wanted) = inl (ap Err wanted)
+    ends f (inr stopped) = inr stopped
+
+pub copied-is : (job job' : CopyJob) (done : Copied) (place : ℕ) (then_done : Copied) (talk : List Talked) (r : Result (Unit {0}) CopyFault) → job ≡ job'
+    → HasCopiedPart job done place then_done talk r → HasCopiedPart job' done place then_done talk r
+copied-is job job' done place then_done talk r e h = subst (λ j. HasCopiedPart j done place then_done talk r) e h
+
+-- the identifiers of the parts to come
+pub steps-next : (job : CopyJob) (place : ℕ) → place < total job.from
+    → steps_in (parts_to_come job place) ≡ suc (length (part_at job place).writes) + steps_in (parts_to_come job (place_behind job place))
+steps-next job place some = ap steps_in (parts-next job place some)
+
+pub part-ends : (job : CopyJob) (place : ℕ) → place < total job.from → place < place_behind job place
+part-ends job place some = let more : 0 < total (ranges_at job place) = run-some job.from place 1_048_576 some (omega arith) in omega arith
