@@ -5,3 +5,9 @@ pub mod Cursors
 pub mod Overlaps
 pub mod Positions
 pub mod Judged
+pub mod ReadExtents
+pub mod Chains
+pub mod Judgement
+pub mod JobBack
+pub mod JobSpelled
+pub mod JobStays

@@ -7,10 +7,14 @@ use Rattle.lba_ranges.specs.declared.ranges.Range.{Range}
 use Rattle.copy_plan.specs.declared.fault.JobFault.{JobFault}
 use Rattle.copy_plan.specs.Jobs.{CopyJob, extents_limit, job_fault}
 
+-- the extent that 12 bytes spell
+abbrev pub extent_in : List ℕ → Range
+extent_in bytes = record { lba = field bytes 0 7; count = field bytes 8 11 }
+
 -- `n` extents, 12 bytes each
 abbrev pub extents_in : ℕ → List ℕ → List Range
 extents_in zero bytes = []
-extents_in (suc n) bytes = record { lba = field bytes 0 7; count = field bytes 8 11 } ∷ extents_in n (drop 12 bytes)
+extents_in (suc n) bytes = extent_in bytes ∷ extents_in n (drop 12 bytes)
 
 -- the numbers of extents that the front tells
 abbrev pub sources_told : List ℕ → ℕ
