@@ -1,0 +1,9 @@
+pub mod Talk
+pub mod Worlds
+pub mod StatusRead
+pub mod Requests
+pub mod Parts
+pub mod Rule
+pub mod Ruled
+pub mod Linked
+pub mod inner

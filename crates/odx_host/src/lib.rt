@@ -1,0 +1,14 @@
+// The host copier: it copies extents of one unit to those of another by ROD tokens, as a host does that asks a copy manager.
+#![tactic(auto)]
+
+mod copying;
+mod fault;
+mod link_port;
+mod port;
+mod requests;
+mod told;
+
+pub use copying::copy;
+pub use fault::{Copied, CopyFault};
+pub use link_port::LinkPort;
+pub use port::{Port, PortFault};
