@@ -26,7 +26,8 @@ Conversation = collections.namedtuple("Conversation", "replies units")
 
 
 class Nexus:
-    """The connection, in the plain replay."""
+    """The connection, in the plain replay. It may be refused memory at one of the items that its commands are as a trace,
+    which are counted from 1."""
 
     def __init__(self, machine, number=None, shortage=None):
         self.player, self.number, self.shortage, self.played = Player(machine), number, shortage, 0

@@ -1,7 +1,8 @@
-"""What tools/serving-load counts of a command holds: the acts of each unit lie within the bounds."""
+"""What tools/serving-load counts of a command holds: the acts of each unit lie within the bounds; and a run of it."""
 
 import collections
 import random
+import socket
 import sys
 import unittest
 
@@ -10,6 +11,7 @@ from . import support
 sys.path.insert(0, str(support.TOP / "clients/python"))
 
 # pylint: disable=wrong-import-position
+from copymgr.server import can_serve
 from loading import bounds, clients
 from loading.tallies import Row, Tallies
 from replay import frames
@@ -17,6 +19,7 @@ from replay.player import Player
 from replay.requests import Requests
 from replay.traces import STYLES
 
+NO_PROGRAM = None if can_serve(support.PROGRAM) else f"no program that serves at {support.PROGRAM}"
 STATUS_OF = {0x00: "good", 0x02: "check", 0x28: "full"}
 Told = collections.namedtuple("Told", "status data")
 
@@ -81,3 +84,25 @@ class Rows(unittest.TestCase):
         row.maps(2, 1, 1)
         self.assertEqual((tallies.sum("low 2"), tallies.sum("high 2"), tallies.sum("fewest 2")), (1, 1, 1))
         self.assertEqual((tallies.sum("replies"), tallies.sum("check")), (1, 0))
+
+
+class Tool(unittest.TestCase):
+    def setUp(self):
+        try:
+            socket.create_server(("127.0.0.1", 0)).close()
+        except OSError as error:
+            self.skipTest(f"no sockets here: {error}")
+
+    def is_served(self, program):
+        """Both parts, of few connections; what bounds it stands in the lines that are looked for."""
+        said, why, status = support.run("serving-load", program, "--connections", "6", "--seconds", "2")
+        lines = said.decode().splitlines()
+        self.assertEqual((lines[-1].split()[1:], why, status), (["passed,", "0", "failed"], "", 0), lines)
+        self.assertEqual(len([line for line in lines if line.startswith(("most threads: ", "most files "))]), 4, lines)
+
+    def test_the_plain_server(self):
+        self.is_served("-")
+
+    @unittest.skipIf(NO_PROGRAM, NO_PROGRAM)
+    def test_the_program(self):
+        self.is_served(support.PROGRAM)
