@@ -49,6 +49,8 @@ fn kinds(rt: HostRuntime) {
     assert!(rt; matches!(classify(&token), TokenKind::BadLength));
     token[6..8].copy_from_slice(&[0x01, 0xf8]);
     assert!(rt; matches!(classify(&token), TokenKind::BadType));
-    token[..4].copy_from_slice(&[0xff, 0xff, 0x00, 0x01]);
+    token = [0xff; 512];
+    token[2..4].copy_from_slice(&[0x00, 0x01]);
+    token[6..8].copy_from_slice(&[0x01, 0xf8]);
     assert!(rt; matches!(classify(&token), TokenKind::Zero));
 }
