@@ -17,6 +17,7 @@ sense. It wants Python alone; the formats are those of tools/replay beside it. T
     hosts.py     the program that replays, and the connection
     server.py    the program that serves
     status.py    what is told of a disk and of an operation
+    plans.py     the plan of a copy
     disk.py      a disk
     command.py   the command cmgr
 """

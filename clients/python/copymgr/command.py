@@ -18,22 +18,24 @@ The exit status is that of sg3_utils: 0 all was done, 5 illegal request, 7 data 
 98 another sense. Wrong words are 2, which no disk of copymgr answers as it is always ready.
 """
 
+import bisect
 import fcntl
 import os
 import pathlib
 import shlex
 import sys
 
+from . import plans
 from .disk import Disk
 from .errors import Busy, CheckCondition, Ended, OperationEnded, TaskSetFull
 from .hosts import Connection, Replay, Shape
-from .wire import frames, senses
+from .wire import frames, lists, senses
 
 # pylint: disable=wrong-import-order
 from replay.serving import address_of
 from tracetext.command_line import Parser, end_quietly, fail
 from tracetext.replies import counted, hex_lines, run_text
-from tracetext.values import U16, U32, U64, ranges_of
+from tracetext.values import U16, U32, U64, ranges_of, ranges_text
 from tracetext.words import number_of
 
 PROGRAM = "cmgr"
@@ -66,9 +68,9 @@ def ranges(text):
 
 
 def place(text):
-    """A unit and a block, as in 0:5."""
-    lun, lba = text.split(":")
-    return number_of(lun, U16), number_of(lba, U64)
+    """A unit, and a block of it, as in 0:5, or extents, as in 0:5+2,9+3."""
+    lun, blocks = text.split(":")
+    return number_of(lun, U16), ranges_of(blocks) if "+" in blocks else number_of(blocks, U64)
 
 
 def address(text):
@@ -97,7 +99,7 @@ HOST = [
 
 
 def place_option(name, dest, what):
-    return name, {"dest": dest, "type": place, "required": True, "metavar": "LUN:LBA", "help": what}
+    return name, {"dest": dest, "type": place, "required": True, "metavar": "LUN:BLOCKS", "help": what}
 
 
 def unit_option():
@@ -120,12 +122,14 @@ def kinds():
         ]),
         "unmap": (unmap, "unmaps ranges", [LUN, RANGES]),
         "map": (show_map, "tells which blocks are mapped", [LUN]),
-        "copy": (copy, "copies blocks by a token", [
-            COUNT, LIST_ID,
-            place_option("--from", "source", "the first block to copy"),
-            place_option("--to", "target", "where to"),
-            ("--immed", {"action": "store_true", "help": "ends when the copy is begun"}),
-            ("--segments", {"action": "store_true", "help": "by EXTENDED COPY, of at most 65535 blocks"}),
+        "copy": (copy, "copies blocks by tokens", [
+            ("--count", {"type": number(2**32), "help": "how many blocks, where neither option names extents"}),
+            LIST_ID,
+            place_option("--from", "source", "the first block to copy, as in 0:5, or extents, as in 0:5+2,9+3"),
+            place_option("--to", "target", "where to, in the same way"),
+            ("--plan", {"action": "store_true", "help": "tells which tokens and writes it takes, and copies nothing"}),
+            ("--immed", {"action": "store_true", "help": "ends when the copy is begun; one write alone"}),
+            ("--segments", {"action": "store_true", "help": "by EXTENDED COPY, in pieces of at most 65535 blocks"}),
         ]),
         "inq": (inq, "tells what the unit is", [LUN, PAGE]),
         "readcap": (readcap, "tells how large the unit is", [LUN]),
@@ -233,23 +237,73 @@ def show_map(words, host):
         print(run_text(run))
 
 
-def progress_to(count):
-    """A line on a terminal that tells how far a copy is."""
-    if not sys.stderr.isatty():
-        return None
-    return lambda blocks: print(f"\r{blocks} of {count} blocks", end="\n" if blocks == count else "", file=sys.stderr)
+class Progress:
+    """Tells on a terminal, in one line, how far a copy is; on anything else nothing."""
+
+    def __init__(self, parts):
+        self.ends = [part.first + lists.total(part.ranges) for part in parts]
+        self.shown = False
+
+    def __call__(self, blocks):
+        if not sys.stderr.isatty():
+            return
+        part = f", part {1 + bisect.bisect_left(self.ends, blocks)} of {len(self.ends)}" if len(self.ends) > 1 else ""
+        print(f"\r{blocks} of {self.ends[-1]} blocks{part}", end="", file=sys.stderr, flush=True)
+        self.shown = True
+
+    def end(self):
+        """What comes next stands in a line of its own."""
+        if self.shown:
+            print(file=sys.stderr)
+
+
+def extents(words):
+    """The extents to copy, and where to. A block alone begins as many blocks as --count or the other option says."""
+    places = [blocks for _, blocks in (words.source, words.target)]
+    named = [blocks for blocks in places if isinstance(blocks, list)]
+    if bool(named) == (words.count is not None):
+        raise ValueError("either --count says how many blocks, or --from or --to names extents, as in 0:5+2,9+3")
+    count = lists.total(named[0]) if named else words.count
+    return [blocks if isinstance(blocks, list) else plans.extent(blocks, count) for blocks in places]
 
 
 def copy(words, host):
-    (lun, lba), (to_lun, to_lba) = words.source, words.target
-    source, target = Disk(host, lun), Disk(host, to_lun)
+    source, target = Disk(host, words.source[0]), Disk(host, words.target[0])
     if words.segments:
-        source.extended_copy(target, [(lba, to_lba, words.count)], words.id)
-    elif words.immed:
-        token = source.populate([(lba, words.count)], list_id=words.id)
-        target.write_using_token(token, [(to_lba, words.count)], background=True, delete=True, list_id=words.id)
-    else:
-        source.copy_to(target, lba, to_lba, words.count, progress_to(words.count), words.id)
+        source.extended_copy(target, plans.moves(*extents(words)), words.id)
+        return
+    parts = plans.parts(*extents(words))
+    if words.immed:
+        if len(parts) != 1 or len(parts[0].writes) != 1:
+            raise ValueError(f"it takes {plan_text(parts)}: without --immed it waits for each")
+        token = source.populate(parts[0].ranges, list_id=words.id)
+        target.write_using_token(token, parts[0].writes[0].ranges, background=True, delete=True, list_id=words.id)
+        return
+    progress = Progress(parts)
+    try:
+        source.copy_extents(target, *extents(words), progress, words.id)
+    finally:
+        progress.end()
+
+
+def plan_text(parts):
+    writes = sum(len(part.writes) for part in parts)
+    return f"{counted(len(parts), 'POPULATE TOKEN')} and {counted(writes, 'WRITE USING TOKEN')}"
+
+
+def blocks_text(ranges):
+    return counted(lists.total(ranges), "block")
+
+
+def show_plan(words):
+    """Tells the plan of a copy by tokens."""
+    parts = plans.parts(*extents(words))
+    print(f"{blocks_text([each for part in parts for each in part.ranges])}: {plan_text(parts)}")
+    for at, part in enumerate(parts, 1):
+        of = counted(len(part.ranges), "extent")
+        print(f"token {at}: {blocks_text(part.ranges)} of {of}, lun={words.source[0]} {ranges_text(part.ranges)}")
+        for _, ranges in part.writes:
+            print(f"  {blocks_text(ranges)} to lun={words.target[0]} {ranges_text(ranges)}")
 
 
 def inq(words, host):
@@ -284,6 +338,9 @@ def main(arguments=None):
     try:
         if words.do is new:
             new(words)
+            return
+        if words.do is copy and words.plan:
+            show_plan(words)
             return
         device = opened(words)
         try:

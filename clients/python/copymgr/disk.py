@@ -1,10 +1,9 @@
 """A disk: a logical unit of a host."""
 
-from . import status
+from . import plans, status
 from .wire import cdbs, lists, returned, rod_token
 
 BLOCKS_OF_COMMAND = 2048
-BLOCKS_OF_TOKEN = 1_048_576
 RANGES = 64
 ALLOCATION = 4096
 
@@ -113,15 +112,21 @@ class Disk:
     # ---- copies
 
     def copy_to(self, other, lba, to_lba, count, progress=None, list_id=None):
-        """Copies blocks to a disk of the same host by tokens, in the background, and waits. `progress` is called with
-        the blocks so far; the list identifier is that of the tokens and of the writes."""
+        """Copies blocks to a disk of the same host, as `copy_extents` does."""
+        self.copy_extents(other, plans.extent(lba, count), plans.extent(to_lba, count), progress, list_id)
+
+    def copy_extents(self, other, extents, to_extents, progress=None, list_id=None):
+        """Copies the blocks of extents to those of others, on a disk of the same host, by tokens, in the background, and
+        waits. `progress` is called with the blocks so far; the list identifier is that of the tokens and of the writes."""
         self.judge_host(other)
         list_id = self.host.new_id() if list_id is None else list_id
-        for done in range(0, count, BLOCKS_OF_TOKEN):
-            part = min(BLOCKS_OF_TOKEN, count - done)
-            token = self.populate([(lba + done, part)], list_id=list_id)
-            other.write_using_token(token, [(to_lba + done, part)], background=True, delete=True, list_id=list_id)
-            other.wait(list_id, progress and (lambda blocks, before=done: progress(before + blocks)))
+        for part in plans.parts(extents, to_extents):
+            token = self.populate(part.ranges, list_id=list_id)
+            for offset, ranges in part.writes:
+                last = offset == part.writes[-1].offset
+                other.write_using_token(token, ranges, offset, background=True, delete=last, list_id=list_id)
+                before = part.first + offset
+                other.wait(list_id, progress and (lambda blocks, before=before: progress(before + blocks)))
 
     def extended_copy(self, other, moves, list_id=None):
         """EXTENDED COPY (LID1) of segments (from, to, blocks) to a disk of the same host; gives the list identifier."""

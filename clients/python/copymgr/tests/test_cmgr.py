@@ -63,6 +63,57 @@ class Traces(unittest.TestCase):
         self.good("abort", self.trace, "--lun", "1", "--id", "9")
         self.assertEqual(self.good(*status, "--pump", "1"), b"terminated, 1024 blocks\n")
 
+    def test_copies_of_extents(self):
+        self.good("write", self.trace, data=b"".join(bytes([1 + at]) * 512 for at in range(200)))
+        self.good("copy", self.trace, "--from", "0:0+2,100+3", "--to", "1:7")
+        blocks = self.good("read", self.trace, "--lun", "1", "--lba", "7", "--count", "5")
+        self.assertEqual(blocks[::512], bytes([1, 2, 101, 102, 103]))
+        self.good("copy", self.trace, "--from", "0:20", "--to", "1:50+1,40+2", "--segments")
+        blocks = self.good("read", self.trace, "--lun", "1", "--lba", "40", "--count", "11")
+        self.assertEqual(blocks[::512], bytes([22, 23, 0, 0, 0, 0, 0, 0, 0, 0, 21]))
+        self.good("copy", self.trace, "--from", "0:30+1,40+1", "--to", "1:60", "--immed")
+        self.assertEqual(self.good("status", self.trace, "--lun", "1", "--pump", "1"), b"done, 2 blocks\n")
+        self.bad(2, "2 POPULATE TOKENs and 2 WRITE USING TOKENs", "copy", self.trace, *self.many(), "--immed")
+
+    def many(self):
+        """65 blocks of extents of their own, and where to."""
+        return "--from", "0:" + ",".join(f"{2 * at}+1" for at in range(65)), "--to", "1:5000"
+
+    def test_plans(self):
+        """No device is asked for a plan, and none is wanted."""
+        apart = ",".join(f"{2 * at}+1" for at in range(64))
+        for words, plan in [
+            (["--from", "0:0+8,100+8", "--to", "1:50"], [
+                "16 blocks: 1 POPULATE TOKEN and 1 WRITE USING TOKEN",
+                "token 1: 16 blocks of 2 extents, lun=0 0+8,100+8",
+                "  16 blocks to lun=1 50+16",
+            ]),
+            (self.many(), [
+                "65 blocks: 2 POPULATE TOKENs and 2 WRITE USING TOKENs",
+                f"token 1: 64 blocks of 64 extents, lun=0 {apart}",
+                "  64 blocks to lun=1 5000+64",
+                "token 2: 1 block of 1 extent, lun=0 128+1",
+                "  1 block to lun=1 5064+1",
+            ]),
+            (["--from", "3:5", "--to", f"2:{apart},128+1"], [
+                "65 blocks: 1 POPULATE TOKEN and 2 WRITE USING TOKENs",
+                "token 1: 65 blocks of 1 extent, lun=3 5+65",
+                f"  64 blocks to lun=2 {apart}",
+                "  1 block to lun=2 128+1",
+            ]),
+            (["--from", "0:7", "--to", "1:0", "--count", "1048577"], [
+                "1048577 blocks: 2 POPULATE TOKENs and 2 WRITE USING TOKENs",
+                "token 1: 1048576 blocks of 1 extent, lun=0 7+1048576",
+                "  1048576 blocks to lun=1 0+1048576",
+                "token 2: 1 block of 1 extent, lun=0 1048583+1",
+                "  1 block to lun=1 1048576+1",
+            ]),
+            (["--from", "0:7", "--to", "1:0", "--count", "0"], ["0 blocks: 0 POPULATE TOKENs and 0 WRITE USING TOKENs"]),
+        ]:
+            for device in [], [self.trace], ["nowhere"]:
+                with self.subTest(words=words, device=device):
+                    self.assertEqual(self.good("copy", *device, *words, "--plan").decode().splitlines(), plan)
+
     def test_what_a_unit_is(self):
         self.assertEqual(self.good("readcap", self.trace, "--lun", "2"), b"50 blocks of 4096 bytes: 204800 bytes\n")
         self.assertEqual(self.good("inq", self.trace), b"COPYMGR ROD TOKEN UNIT 0001\n")
@@ -94,6 +145,14 @@ class Traces(unittest.TestCase):
             ["read", self.trace, "--count", "x"],
             ["copy", self.trace, "--from", "0", "--to", "1:0", "--count", "1"],
             ["copy", self.trace, "--from", "0:0", "--to", "1:0", "--count", "1", "--segments", "--id", "256"],
+            ["copy", self.trace, "--from", "0:0", "--to", "1:0"],
+            ["copy", self.trace, "--from", "0:0+1", "--to", "1:0", "--count", "1"],
+            ["copy", self.trace, "--from", "0:0+2", "--to", "1:0+1"],
+            ["copy", self.trace, "--from", "0:0+2,1+1", "--to", "1:0"],
+            ["copy", self.trace, "--from", "0:0+0", "--to", "1:0"],
+            ["copy", self.trace, "--from", "0:none", "--to", "1:0", "--plan"],
+            ["copy", "--from", "0:0", "--to", "1:0", "--plan"],
+            ["copy", "--from", "0:0", "--to", "1:0", "--count", "1"],
             ["unmap", self.trace, "--ranges", "5"],
             ["readcap", "--connect", "nowhere"],
             ["readcap", "--connect", "127.0.0.1:1", self.trace],
@@ -107,14 +166,27 @@ class Traces(unittest.TestCase):
         self.assertEqual(pathlib.Path(self.trace).read_bytes()[: len(before)], before)
         self.assertFalse(os.path.exists(self.trace + "2"))
 
-    def test_progress_on_a_terminal(self):
+    def said_on_a_terminal(self, *words):
+        """The status, and the lines that were written over one another."""
         outside, inside = pty.openpty()
-        words = [CMGR, "copy", self.trace, "--from", "0:0", "--to", "1:0", "--count", "2000", "--program", self.PROGRAM]
-        subprocess.run(words, stderr=inside, check=True)
+        done = subprocess.run([CMGR, *words, "--program", self.PROGRAM], stderr=inside, check=False)
         os.close(inside)
         said = os.read(outside, 1000).decode()
         os.close(outside)
-        self.assertEqual(said.split("\r")[1:], ["0 of 2000 blocks", "1024 of 2000 blocks", "2000 of 2000 blocks", "\n"])
+        return done.returncode, said.split("\r")[1:]
+
+    def test_progress_on_a_terminal(self):
+        status, said = self.said_on_a_terminal("copy", self.trace, "--from", "0:0", "--to", "1:0", "--count", "2000")
+        self.assertEqual((status, said), (0, ["0 of 2000 blocks", "1024 of 2000 blocks", "2000 of 2000 blocks", "\n"]))
+        status, said = self.said_on_a_terminal("copy", self.trace, *self.many())
+        ends = ["0 of 65 blocks, part 1 of 2", "64 of 65 blocks, part 1 of 2", "65 of 65 blocks, part 2 of 2", "\n"]
+        self.assertEqual((status, [line for at, line in enumerate(said) if line not in said[:at]]), (0, ends))
+
+    def test_an_error_on_a_terminal_has_a_line_of_its_own(self):
+        past_the_end = [*self.many()[:3], "1:9936"]
+        status, said = self.said_on_a_terminal("copy", self.trace, *past_the_end)
+        self.assertEqual((status, said[-3]), (22, "64 of 65 blocks, part 1 of 2"))
+        self.assertEqual(said[-2], "\ncmgr: ILLEGAL REQUEST, logical block address out of range (05/21/00)")
 
     def test_help_has_an_example(self):
         done = subprocess.run([CMGR, "--help"], capture_output=True, check=True)

@@ -97,6 +97,31 @@ class Disks:
         self.assertEqual((seen[-1], sorted(seen)), (4100, seen))
         self.assertEqual(target.map(), [Run(0, 100, False), Run(100, 4096, True), Run(4196, 5804, False)])
 
+    def test_a_copy_of_extents(self):
+        source, target = self.disks[:2]
+        source.write(0, b"".join(bytes([1 + at]) * 512 for at in range(200)))
+        seen, apart = [], [(2 * at, 1) for at in range(70)]
+        source.copy_extents(target, apart, [(500, 3), (100, 67)], seen.append)
+        self.assertEqual((seen[-1], sorted(seen)), (70, seen))
+        self.assertEqual(target.read(500, 4)[::512], bytes([1, 3, 5, 0]))
+        self.assertEqual(target.read(100, 67)[::512], bytes(range(7, 141, 2)))
+        target.copy_extents(source, [(100, 67)], [(1000 - 3 * at, 1) for at in range(67)])
+        self.assertEqual(source.read(802, 199)[::-512][::3], bytes(range(7, 141, 2)))
+
+    def test_extents_that_are_no_copy(self):
+        for extents, to_extents in [
+            ([(0, 2)], [(0, 1)]),
+            ([(0, 2), (1, 1)], [(0, 3)]),
+            ([(0, 2)], [(5, 1), (5, 1)]),
+            ([(0, 1), (2, 0)], [(0, 1)]),
+            ([(2**64 - 1, 2)], [(0, 2)]),
+            ([(0, 2**32), (2**40, 1)], [(0, 2**32), (2**40, 1)]),
+            ([(2 * at, 1) for at in range(65_537)], [(0, 65_537)]),
+        ]:
+            with self.subTest(extents=extents[:2], to=to_extents), self.assertRaises(ValueError):
+                self.disks[0].copy_extents(self.disks[1], extents, to_extents)
+        self.assertEqual(self.disks[1].map(), [Run(0, 10_000, False)])
+
     def test_a_copy_that_meets_the_quota(self):
         self.disks[0].write(0, b"x" * 512 * 2048)
         with self.refused((7, 0x27, 7)):
