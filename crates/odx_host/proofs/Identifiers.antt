@@ -7,8 +7,8 @@ use Rattle.lba_ranges.specs.declared.ranges.Range.{Range}
 use Rattle.lba_ranges.specs.Denoted.{total}
 use Rattle.copy_plan.specs.Jobs.{CopyJob, AreExtents}
 use Rattle.copy_plan.specs.Plans.{IsLongestRun, extents_between, ranges_between, longest_run, part_limit}
-use Rattle.copy_plan.proofs.Between.{between-empty, between-here, between-past, between-fewer, between-one, total-between}
-use Rattle.copy_plan.proofs.Runs.{run-longest}
+use Rattle.copy_plan.proofs.PublicLaws.{between-empty, between-here, between-past, between-fewer, between-one, total-between}
+use Rattle.copy_plan.proofs.PublicLaws.{run-longest}
 use Rattle.odx_host.specs.Parts.{parts, parts_from, part_at, place_behind, ranges_at}
 use Rattle.odx_host.specs.inner.Steps.{steps_in, writes_to_come, parts_to_come, behind_write}
 use Rattle.odx_host.proofs.Coming.{run-some, writes-next, writes-end, parts-next, parts-end, writes-of}

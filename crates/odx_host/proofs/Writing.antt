@@ -9,7 +9,7 @@ use Rattle.block_params.specs.declared.lists.WriteList.{WriteList}
 use Rattle.cm_frame.specs.declared.frame.Request.{Request}
 use Rattle.copy_plan.specs.Jobs.{CopyJob}
 use Rattle.copy_plan.specs.Plans.{IsLongestRun, longest_run}
-use Rattle.copy_plan.proofs.Runs.{run-longest}
+use Rattle.copy_plan.proofs.PublicLaws.{run-longest}
 use Rattle.odx_host.specs.declared.copying.Host.{Host}
 use Rattle.odx_host.specs.declared.fault.Copied.{Copied}
 use Rattle.odx_host.specs.declared.fault.CopyFault.{CopyFault}

@@ -4,6 +4,7 @@ use Rattle.std.proofs.Common.{subst, sym}
 use Rattle.std.specs.Io.KnownBytes.{Consumes, Appends, IsAtEnd}
 use Rattle.cm_base.specs.Outside.{Faulted, IsBeginning}
 use Rattle.cm_base.specs.Sides.{IsCut}
+use Rattle.cm_base.specs.declared.input_buffer.FillFailed.{FillFailed}
 use Rattle.cm_base.specs.declared.parsed.Parsed.TheVariants.{Whole, Short, Bad}
 use Rattle.cm_frame.specs.declared.frame.Reply.{Reply}
 use Rattle.cm_frame.specs.Grammar.{request_bytes}
@@ -11,6 +12,11 @@ use Rattle.cm_frame.specs.Reading.{read_reply}
 use Rattle.odx_host.specs.declared.port.PortFault.{PortFault}
 use Rattle.odx_host.specs.declared.port.PortFault.TheVariants.{OutOfMemory, ReadFault, WriteFault, Ended, BadReply}
 use Rattle.odx_host.specs.Talk.{Talked}
+
+-- a fault of a fill, as one of the port
+abbrev pub fault_of : FillFailed → PortFault
+fault_of FillFailed.Read = ReadFault
+fault_of FillFailed.OutOfMemory = OutOfMemory
 
 -- a connection, and the bytes that were pulled and not used yet
 pub record Linked (K : Type 0) : Type 0 where

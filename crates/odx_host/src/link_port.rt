@@ -32,7 +32,7 @@ impl From<WriteFailed> for PortFault {
 
 impl From<FillFailed> for PortFault {
     ghost use Rattle.std.specs.Prelude.{◌≡◌};
-    ghost use Rattle.odx_host.specs.inner.Linked.{fault_of};
+    ghost use Rattle.odx_host.specs.Linked.{fault_of};
 
     ghost from_gives = { λ failed fault. fault ≡ fault_of failed };
 
