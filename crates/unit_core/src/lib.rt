@@ -12,7 +12,6 @@ mod plan;
 mod plans;
 mod refusals;
 mod room;
-mod sharing;
 mod tables;
 #[cfg(test)]
 mod tests;
@@ -20,5 +19,4 @@ mod token_plans;
 mod unit;
 
 pub use folding::FoldEnd;
-pub use sharing::SharedVersions;
 pub use unit::{Unit, UnitOver};
