@@ -43,10 +43,10 @@ few-by false false false false true f good check last limit told size one two th
 few-by false false false false false true good check last limit told size one two three four five low is = let few = four is in omega (arith, few)
 few-by false false false false false false good check last limit told size one two three four five low is = absurd (five is)
 
-is-below : (a b : ℕ) → nat_lt a b ≡ true → a < b
+pub is-below : (a b : ℕ) → nat_lt a b ≡ true → a < b
 is-below a b e = grind (arith, nat_tests)
 
-is-not-below : (a b : ℕ) → nat_lt a b ≡ false → b ≤ a
+pub is-not-below : (a b : ℕ) → nat_lt a b ≡ false → b ≤ a
 is-not-below a b e = grind (arith, nat_tests)
 
 good-few : (bytes : List ℕ) → read_good bytes ≡ Short → length bytes < 6 + field bytes 2 5

@@ -7,44 +7,41 @@ use Rattle.cm_frame.specs.Reading.{read_reply}
 use Rattle.odx_host.specs.declared.port.PortFault.{PortFault}
 use Rattle.odx_host.specs.Linked.{IsRead}
 use Rattle.odx_host.proofs.Linking.{HasPulled, none-came, read-there, short-few}
-use Rattle.odx_host.proofs.link_port.LinkPort.reply.Goals as goal
+use Rattle.odx_host.proofs.replies.next_reply.Goals as goal
 
 pub returns-in-Whole-clause-read : goal.returns-in-Whole-clause-read
 returns-in-Whole-clause-read g c =
     let found = sym (ap read_reply c.as_slice.ensures) ∙ sym c.in_ok-value.ensures.value ∙ c.in-Whole.is in
     let within = subst (λ p. IfWhole p (λ reply used. used ≤ length c.as_slice.result.now)) c.in-Whole.is c.in_ok-value.ensures.within in
-    subst (λ p. (pulled : List ℕ) × Consumes (g.K.Source.left p.link) (g.K.Source.left c.pulls.self-inside.link) pulled × IsRead (Ok c.in-Whole.value) (p.input ++ pulled) c.consume.new.self) c.self.view_is
-    (read-there (Ok c.in-Whole.value) (g.K.Source.left c.self.inside.link) (g.K.Source.left c.pulls.self-inside.link) c.self.inside.input c.pulls.self-inside.input c.consume.new.self c.pulls.invariant.pulled
-    (c.in-Whole.used, found, subst (λ b. c.in-Whole.used ≤ length b) c.as_slice.ensures within, c.consume.ensures))
+    read-there (Ok c.in-Whole.value) (g.S.Source.left c.args.source.now) (g.S.Source.left c.pulls.source) c.args.input.now c.pulls.input c.consume.new.self c.pulls.invariant.pulled
+    (c.in-Whole.used, found, subst (λ b. c.in-Whole.used ≤ length b) c.as_slice.ensures within, c.consume.ensures)
 
 pub returns-in-Bad-clause-read : goal.returns-in-Bad-clause-read
 returns-in-Bad-clause-read g c =
     let found = sym (ap read_reply c.as_slice.ensures) ∙ sym c.in_ok-value.ensures.value ∙ c.in-Bad.is in
-    subst (λ p. (pulled : List ℕ) × Consumes (g.K.Source.left p.link) (g.K.Source.left c.pulls.self-inside.link) pulled × IsRead (Err PortFault.BadReply) (p.input ++ pulled) c.pulls.self-inside.input) c.self.view_is
-    (read-there (Err PortFault.BadReply) (g.K.Source.left c.self.inside.link) (g.K.Source.left c.pulls.self-inside.link) c.self.inside.input c.pulls.self-inside.input c.pulls.self-inside.input c.pulls.invariant.pulled
-    ((c.in-Bad.place, found), refl))
+    read-there (Err PortFault.BadReply) (g.S.Source.left c.args.source.now) (g.S.Source.left c.pulls.source) c.args.input.now c.pulls.input c.pulls.input c.pulls.invariant.pulled
+    ((c.in-Bad.place, found), refl)
 
 pub returns-then-branch-eq0-clause-read : goal.returns-then-branch-eq0-clause-read
 returns-then-branch-eq0-clause-read g c =
     let found = sym (ap read_reply c.as_slice.ensures) ∙ sym c.in_ok-value.ensures.value ∙ c.in-Short.is in
     let m = c.in_ok-fill.ensures.ok in
-    let same = none-came c.pulls.self-inside.input c.fill.new.self m.0 (m.1 ∙ c.if-branch-eq0.true) m.2 in
+    let same = none-came c.pulls.input c.fill.new.self m.0 (m.1 ∙ c.if-branch-eq0.true) m.2 in
     let p = c.pulls.invariant.pulled in
-    let all : HasPulled (g.K.Source.left c.self.inside.link) (g.K.Source.left c.fill.new.source) c.self.inside.input c.fill.new.self = (
+    let all : HasPulled (g.S.Source.left c.args.source.now) (g.S.Source.left c.fill.new.source) c.args.input.now c.fill.new.self = (
       p.0 ++ m.0,
       Consumes-trans _ _ _ _ _ p.1 m.3,
-      m.2 ∙ ap (λ l. l ++ m.0) p.2 ∙ append_assoc c.self.inside.input p.0 m.0,
+      m.2 ∙ ap (λ l. l ++ m.0) p.2 ∙ append_assoc c.args.input.now p.0 m.0,
     ) in
-    subst (λ p. (pulled : List ℕ) × Consumes (g.K.Source.left p.link) (g.K.Source.left c.fill.new.source) pulled × IsRead (Err PortFault.Ended) (p.input ++ pulled) c.fill.new.self) c.self.view_is
-    (read-there (Err PortFault.Ended) (g.K.Source.left c.self.inside.link) (g.K.Source.left c.fill.new.source) c.self.inside.input c.fill.new.self c.fill.new.self all
-    (ap read_reply same ∙ found, refl))
+    read-there (Err PortFault.Ended) (g.S.Source.left c.args.source.now) (g.S.Source.left c.fill.new.source) c.args.input.now c.fill.new.self c.fill.new.self all
+    (ap read_reply same ∙ found, refl)
 
 pub pulls-smaller : goal.pulls-smaller
 pulls-smaller g c =
     let found = sym (ap read_reply c.as_slice.ensures) ∙ sym c.in_ok-value.ensures.value ∙ c.in-Short.is in
-    let few = short-few c.pulls.self-inside.input found in
+    let few = short-few c.pulls.input found in
     let m = c.in_ok-fill.ensures.ok in
-    omega (arith, few, m.1, ap length m.2, length-append c.pulls.self-inside.input m.0, c.if-branch-eq0.false)
+    omega (arith, few, m.1, ap length m.2, length-append c.pulls.input m.0, c.if-branch-eq0.false)
 
 pub pulls-preserved : goal.pulls-preserved
 pulls-preserved g c =
@@ -54,7 +51,7 @@ pulls-preserved g c =
       pulled = (
         p.0 ++ m.0,
         Consumes-trans _ _ _ _ _ p.1 m.3,
-        m.2 ∙ ap (λ l. l ++ m.0) p.2 ∙ append_assoc c.self.inside.input p.0 m.0,
+        m.2 ∙ ap (λ l. l ++ m.0) p.2 ∙ append_assoc c.args.input.now p.0 m.0,
       );
       reads = c.in_ok-fill.ensures.sound ∙ c.pulls.invariant.reads;
       apart = c.in_ok-fill.ensures.apart ∙ c.pulls.invariant.apart;
