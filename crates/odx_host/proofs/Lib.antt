@@ -1,4 +1,6 @@
 pub mod Steps
+pub mod UnitsOn
+pub mod UnitsDo
 pub mod Asking
 pub mod Lengths
 pub mod StatusBack

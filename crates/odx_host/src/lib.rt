@@ -6,9 +6,14 @@ mod fault;
 mod link_port;
 mod port;
 mod requests;
+#[cfg(test)]
+mod tests;
 mod told;
+mod unit_port;
+mod units;
 
 pub use copying::copy;
 pub use fault::{Copied, CopyFault};
 pub use link_port::LinkPort;
 pub use port::{Port, PortFault};
+pub use unit_port::UnitPort;
