@@ -46,10 +46,10 @@ told-back f t is token =
     let n = count-back f.populate f.running f.status f.count f.sense t is.count in
     let r = sym is.running in
     let same : status_told (information_bytes f t) ≡ f =
-        ap (λ x. record { populate = x; status = f.status; running = (f.status == 0x11) || (f.status == 0x12); sense = sense_told (information_bytes f t); count = field (information_bytes f t) 16 23 }) p
-        ∙ ap (λ x. record { populate = f.populate; status = f.status; running = x; sense = sense_told (information_bytes f t); count = field (information_bytes f t) 16 23 }) r
-        ∙ ap (λ x. record { populate = f.populate; status = f.status; running = f.running; sense = x; count = field (information_bytes f t) 16 23 }) s
-        ∙ ap (λ x. record { populate = f.populate; status = f.status; running = f.running; sense = f.sense; count = x }) n in
+    ap (λ x. record { populate = x; status = f.status; running = (f.status == 0x11) || (f.status == 0x12); sense = sense_told (information_bytes f t); count = field (information_bytes f t) 16 23 }) p
+    ∙ ap (λ x. record { populate = f.populate; status = f.status; running = x; sense = sense_told (information_bytes f t); count = field (information_bytes f t) 16 23 }) r
+    ∙ ap (λ x. record { populate = f.populate; status = f.status; running = f.running; sense = x; count = field (information_bytes f t) 16 23 }) s
+    ∙ ap (λ x. record { populate = f.populate; status = f.status; running = f.running; sense = f.sense; count = x }) n in
     ap (λ x. record { status = x; token = token_told (information_bytes f t) }) same ∙ ap (λ x. record { status = f; token = x }) k
 
 key-is : (sense : Option SenseCode) → IfSome sense (λ s. s.key ≤ 15) → is_key sense ≡ true
@@ -72,10 +72,10 @@ information-back f t is token =
     let same = told-back f t is token in
     let bytes = information_bytes f t in
     let test : is_told bytes (information_told bytes) ≡ true =
-        ap (is_told bytes) same
-        ∙ ap (λ b. b && is_token t && bytes_eq bytes bytes) (status-is f is)
-        ∙ ap (λ b. b && bytes_eq bytes bytes) (token-is t token.0)
-        ∙ (bytes_eq-Decides bytes bytes).1 refl in
+    ap (is_told bytes) same
+    ∙ ap (λ b. b && is_token t && bytes_eq bytes bytes) (status-is f is)
+    ∙ ap (λ b. b && bytes_eq bytes bytes) (token-is t token.0)
+    ∙ (bytes_eq-Decides bytes bytes).1 refl in
     ap (λ b. cond b (Some (information_told bytes)) None) test ∙ ap (λ i. Some i) same
 
 -- ---- what is read was spelled

@@ -180,16 +180,23 @@ impl<'a> Host<'a> {
         ensures written { Talking (λ talk. P.Talks port.old talk port.new) (P.IsIn port.old) (P.IsIn port.new)
             (λ talk. HasWritten self.old.job.now token.now self.old.copied first last self.old.to.place talk result) }
         ensures after { OnOk result (self.new ≡ record self.old {
-            to = record self.old.to { place = behind_write self.old.to.extents self.old.to.place last };
-            copied = one_write self.old.copied;
-          }) }
+          to = record self.old.to { place = behind_write self.old.to.extents self.old.to.place last };
+          copied = one_write self.old.copied;
+        }) }
     {
         let step = self.next_step();
         let list = self.next_list(token, first, last)?;
         let unit = self.job.target();
         let request = write_request(self.alloc, unit, step, &list)?;
         ask_good(port, step, &request)?;
-        wait(self.alloc, port, unit, step, list.ranges.total(), self.job.polls())?;
+        wait(
+            self.alloc,
+            port,
+            unit,
+            step,
+            list.ranges.total(),
+            self.job.polls(),
+        )?;
         self.copied.writes += 1;
         Ok(())
     }
@@ -233,10 +240,10 @@ impl<'a> Host<'a> {
         ensures copied { Talking (λ talk. P.Talks port.old talk port.new) (P.IsIn port.old) (P.IsIn port.new)
             (λ talk. HasCopiedPart self.old.job.now self.old.copied self.old.from.place self.new.copied talk result) }
         ensures after { OnOk result (self.new ≡ record self.old {
-            from = record self.old.from { place = place_behind self.old.job.now self.old.from.place };
-            to = record self.old.to { place = place_behind self.old.job.now self.old.from.place };
-            copied = self.new.copied;
-          }) }
+          from = record self.old.from { place = place_behind self.old.job.now self.old.from.place };
+          to = record self.old.to { place = place_behind self.old.job.now self.old.from.place };
+          copied = self.new.copied;
+        }) }
         ensures steps { OnOk result (next_step self.new.copied
             ≡ next_step self.old.copied + 1 + length (part_at self.old.job.now self.old.from.place).writes) }
     {

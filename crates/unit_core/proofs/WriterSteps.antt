@@ -29,7 +29,6 @@ use Rattle.unit_core.specs.inner.Seen.{seen_after, ranges_made, put_seen, lives_
 use Rattle.unit_core.proofs.Pasts.{past_of-push}
 use Rattle.unit_core.proofs.Writers.{is_living, lives_at, seen-deed}
 
-
 same-after : (put : ℕ) (ws ws' : List Writing) (made made' : Option (List Range)) (n n' : ℕ) (lives lives' : ℕ → Bool) (f f' : Sight → ℕ → Option ℕ)
     → ws ≡ ws' → made ≡ made' → n ≡ n' → ((k : ℕ) → lives k ≡ lives' k) → ((s : Sight) (b : ℕ) → f s b ≡ f' s b)
     → (s : Sight) (b : ℕ) → seen_after put ws made n lives f s b ≡ seen_after put ws' made' n' lives' f' s b

@@ -26,7 +26,6 @@ module _ {P : Type 0} (number : P → ℕ) (w : Writers) where
 abbrev pub lives_in : {P : Type 0} → List (Kept (PinnedRod P)) → ℕ → Bool
 lives_in tokens serial = is_some (value_at serial tokens)
 
-
 -- these puts may have written what is seen
 pub record AreWriters {P : Type 0} (number : P → ℕ) (written_by : Writers → Type 0) (tokens : List (Kept (PinnedRod P))) (seen : Sight → ℕ → Option ℕ) : Type 0 where
   pub writers : Writers

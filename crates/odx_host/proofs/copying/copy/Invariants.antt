@@ -8,7 +8,7 @@ use Rattle.odx_host.proofs.copying.copy.Given as goal
 abbrev pub invariant-parts : goal.invariant-parts
 invariant-parts g l = record {
   talking : Talking (λ talk. g.P.Port.Talks l.initial.port talk l.port) (g.P.Port.IsIn l.initial.port) (g.P.Port.IsIn l.port)
-  (λ talk. CopiesOn l.job l.host.copied l.host.from.place talk);
+      (λ talk. CopiesOn l.job l.host.copied l.host.from.place talk);
   job : l.host.job.now ≡ l.job;
   from : l.host.from.extents ≡ l.job.from;
   to : l.host.to.extents ≡ l.job.to;

@@ -17,7 +17,7 @@ returns-in_err-ask_good-clause-written g c =
     let fault = c.in_err-ask_good.field-0.0 in
     let unit = c.target-unit.ensures ∙ ap (λ (h : Host). h.job.now.target) c.in_ok-list.ensures.passed in
     let is = request-is job c.args.token.now c.args.self.now.copied c.args.first c.args.last place _ _ _ _ _
-        c.in_ok-request.ensures.request unit c.next_step-step.ensures c.in_ok-list.ensures.list c.requires.to in
+    c.in_ok-request.ensures.request unit c.next_step-step.ensures c.in_ok-list.ensures.list c.requires.to in
     let within = subst (λ es. c.args.last ≤ total es) c.requires.to c.requires.within in
     rw (p.1, p.2) (talking-also _ _ _ _ _ c.in_err-ask_good.ensures (λ xs f.
     write-refused job c.args.token.now c.args.self.now.copied c.args.first c.args.last place c.requires.begun c.requires.some within xs fault
@@ -31,7 +31,7 @@ returns-in_err-wait-clause-written g c =
     let fault = c.in_err-wait.field-0.0 in
     let unit = c.target-unit.ensures ∙ ap (λ (h : Host). h.job.now.target) c.in_ok-list.ensures.passed in
     let is = request-is job c.args.token.now c.args.self.now.copied c.args.first c.args.last place _ _ _ _ _
-        c.in_ok-request.ensures.request unit c.next_step-step.ensures c.in_ok-list.ensures.list c.requires.to in
+    c.in_ok-request.ensures.request unit c.next_step-step.ensures c.in_ok-list.ensures.list c.requires.to in
     let blocks = blocks-are job c.args.token.now c.args.first c.args.last place _ _ _ c.total.ensures.total c.in_ok-list.ensures.list c.requires.to in
     let polls = c.polls.ensures.polls ∙ ap (λ (h : Host). h.job.now.polls) c.in_ok-list.ensures.passed in
     let within = subst (λ es. c.args.last ≤ total es) c.requires.to c.requires.within in
@@ -46,7 +46,7 @@ returns-clause-written g c =
     let place = c.args.self.now.to.place in
     let unit = c.target-unit.ensures ∙ ap (λ (h : Host). h.job.now.target) c.in_ok-list.ensures.passed in
     let is = request-is job c.args.token.now c.args.self.now.copied c.args.first c.args.last place _ _ _ _ _
-        c.in_ok-request.ensures.request unit c.next_step-step.ensures c.in_ok-list.ensures.list c.requires.to in
+    c.in_ok-request.ensures.request unit c.next_step-step.ensures c.in_ok-list.ensures.list c.requires.to in
     let blocks = blocks-are job c.args.token.now c.args.first c.args.last place _ _ _ c.total.ensures.total c.in_ok-list.ensures.list c.requires.to in
     let polls = c.polls.ensures.polls ∙ ap (λ (h : Host). h.job.now.polls) c.in_ok-list.ensures.passed in
     let within = subst (λ es. c.args.last ≤ total es) c.requires.to c.requires.within in
