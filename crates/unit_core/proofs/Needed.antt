@@ -22,17 +22,17 @@ use Rattle.unit_core.proofs.Writers.{ArePlaced, seen-low}
 
 -- ---- lists of versions
 
-same-is : (a b : Version) → same_version a b ≡ true → a ≡ b
+pub same-is : (a b : Version) → same_version a b ≡ true → a ≡ b
 same-is a b e =
     let block : a.block ≡ b.block = (let t = and_first (a.block == b.block) (a.put == b.put) e in grind (arith, nat_tests)) in
     let put : a.put ≡ b.put = (let t = and_second (a.block == b.block) (a.put == b.put) e in grind (arith, nat_tests)) in
     ap (λ n. let v : Version = record { block = n; put = a.put } in v) block ∙ ap (λ n. let v : Version = record { block = b.block; put = n } in v) put
 
-or-first : (a b : Bool) → a ≡ true → (a || b) ≡ true
+pub or-first : (a b : Bool) → a ≡ true → (a || b) ≡ true
 or-first true b e = refl
 or-first false b e = cc
 
-or-second : (a b : Bool) → b ≡ true → (a || b) ≡ true
+pub or-second : (a b : Bool) → b ≡ true → (a || b) ≡ true
 or-second true b e = refl
 or-second false b e = e
 

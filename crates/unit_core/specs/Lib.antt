@@ -1,4 +1,6 @@
 pub mod Versions
+pub mod Sharing
+pub mod VersionUnits
 pub mod UnitState
 pub mod Acting
 pub mod Unfolded

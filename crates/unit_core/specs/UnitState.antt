@@ -1,9 +1,15 @@
 -- A unit, as contracts see it
-use Rattle.std.specs.Prelude.{ℕ, List}
+use Rattle.std.specs.Prelude.{◌≡◌, ◌≤◌, ℕ, List, length, drop, Bool}
 use Rattle.cm_base.specs.Configuration.{Configuration}
+use Rattle.cm_base.specs.Units.{unit_of}
 use Rattle.cm_history.specs.declared.act.Entry.{Entry}
+use Rattle.cm_history.specs.Asked.{AllAsked}
+use Rattle.cm_history.specs.Deeds.{Deed}
 use Rattle.cm_history.specs.Folding.{StandsFor}
-use Rattle.cm_history.specs.Image.{Image}
+use Rattle.cm_history.specs.History.{on, past_of}
+use Rattle.cm_history.specs.Image.{Image, image, trimmed}
+use Rattle.cm_history.specs.Tokens.{tokens}
+use Rattle.unit_core.specs.Versions.{writer_seen, shares, shares_table}
 
 pub record UnitState : Type 0 where
   pub config : Configuration
@@ -14,7 +20,22 @@ pub record UnitState : Type 0 where
   pub folded : ℕ
   -- all that its answers depend on
   pub image : Image
+  -- which of the versions are the same that it keeps of its blocks: the current ones, and those that live tokens show
+  pub shares : List (List (List Bool))
 
--- the unit answers as after these entries, of which it keeps the later ones
-abbrev pub Stands : UnitState → List Entry → Type 0
-Stands s entries = StandsFor s.config s.unit s.image s.kept s.folded entries
+-- which of the versions are the same by the deeds that wrote them, in a unit of so many blocks
+abbrev pub shared_by : ℕ → List Deed → List (List (List Bool))
+shared_by blocks past = shares_table blocks (length (tokens past)) (shares (writer_seen past))
+
+-- The unit answers as after these entries, of which it keeps the later ones, and its versions are those that they wrote.
+pub record Stands (s : UnitState) (entries : List Entry) : Type 0 where
+  pub own : on s.unit entries ≡ entries
+  pub asked : AllAsked s.config s.unit (past_of s.config s.unit entries)
+  pub image : trimmed (image (unit_of s.config s.unit) (past_of s.config s.unit entries)) ≡ s.image
+  pub keeps : drop s.folded entries ≡ s.kept
+  pub few : s.folded ≤ length entries
+  pub versions : shared_by (unit_of s.config s.unit).blocks (past_of s.config s.unit entries) ≡ s.shares
+
+-- it answers so, whatever versions it keeps
+abbrev pub answers_as : (s : UnitState) (entries : List Entry) → Stands s entries → StandsFor s.config s.unit s.image s.kept s.folded entries
+answers_as s entries stands = record { own = stands.own; asked = stands.asked; image = stands.image; keeps = stands.keeps; few = stands.few }

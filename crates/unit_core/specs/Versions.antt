@@ -1,5 +1,5 @@
 -- The versions of blocks that a unit needs: those that are current, and those that live tokens show
-use Rattle.std.specs.Prelude.{ℕ, List, [], ◌∷◌, ◌++◌, map, length, Option, Some, None, slice_get, ◌&&◌, if◌then◌else◌}
+use Rattle.std.specs.Prelude.{ℕ, List, [], ◌∷◌, ◌++◌, map, length, Option, Some, None, slice_get, Bool, false, ◌==◌, ◌&&◌, if◌then◌else◌}
 use Rattle.cm_base.specs.declared.config.UnitConfig.{UnitConfig}
 use Rattle.lba_ranges.specs.Denoted.{row, denotes}
 use Rattle.lba_ranges.specs.Versions.{Version, writer_after, without_repeats}
@@ -46,3 +46,18 @@ seen_versions seen blocks (sight ∷ more) = versions (seen sight) blocks ++ see
 -- the versions that are current, or that a live token shows, each once
 abbrev pub needed : UnitConfig → List Deed → List Version
 needed unit past = without_repeats (seen_versions (writer_seen past) (row 0 unit.blocks) (sights (length (tokens past))))
+
+-- ---- which of them are the same
+
+-- one put wrote both
+abbrev pub same_put : Option ℕ → Option ℕ → Bool
+same_put (Some a) (Some b) = a == b
+same_put _ _ = false
+
+-- what the two see of the block is one version
+abbrev pub shares : (Sight → ℕ → Option ℕ) → Sight → Sight → ℕ → Bool
+shares seen one other block = same_put (seen one block) (seen other block)
+
+-- for each two of the sights, whether it is so of each of the first blocks
+abbrev pub shares_table : ℕ → ℕ → (Sight → Sight → ℕ → Bool) → List (List (List Bool))
+shares_table blocks made same = map (λ one. map (λ other. map (same one other) (row 0 blocks)) (sights made)) (sights made)

@@ -10,12 +10,12 @@ ghost use Rattle.unit_core.specs.UnitState.{Stands};
 ghost use Rattle.unit_core.specs.Acting.{entry_at, ends_operation_at, is_busy_at, live_at};
 
 use crate::room::token_key;
+use crate::sharing::SharedVersions;
 use crate::unit::UnitOver;
 use cm_history::{Act, Actor, Answer, CopyEnd, standing_law};
 use copy_jobs::Key;
-use lba_ranges::Pins;
 
-impl<B: Pins + Drop> UnitOver<B>
+impl<B: SharedVersions + Drop> UnitOver<B>
 where
     B::Pin: Drop,
 {

@@ -8,9 +8,9 @@ ghost use Rattle.unit_core.specs.UnitState.{Stands};
 ghost use Rattle.unit_core.specs.inner.Agreeing.{payload_in};
 
 use crate::room::bytes_in;
+use crate::sharing::SharedVersions;
 use crate::unit::UnitOver;
 use cm_history::{History, standing_law};
-use lba_ranges::Pins;
 use recorder::{RecordRefused, Recorder};
 
 /// How a fold ended: no entry is kept, or why one is.
@@ -61,7 +61,7 @@ fn record_all<R: Recorder>(history: &mut History, payload: &mut u64, recorder: &
     FoldEnd::All
 }
 
-impl<B: Pins + Drop> UnitOver<B>
+impl<B: SharedVersions + Drop> UnitOver<B>
 where
     B::Pin: Drop,
 {

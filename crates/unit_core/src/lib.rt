@@ -12,6 +12,7 @@ mod plan;
 mod plans;
 mod refusals;
 mod room;
+mod sharing;
 mod tables;
 #[cfg(test)]
 mod tests;
@@ -19,4 +20,5 @@ mod token_plans;
 mod unit;
 
 pub use folding::FoldEnd;
+pub use sharing::SharedVersions;
 pub use unit::{Unit, UnitOver};

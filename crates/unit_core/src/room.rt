@@ -12,6 +12,7 @@ ghost use Rattle.unit_core.specs.Acting.{is_full_at, serves_operation};
 ghost use Rattle.unit_core.specs.inner.Tables.{number_of, key_of};
 
 use crate::inner::{Core, Reached};
+use crate::sharing::SharedVersions;
 use crate::unit::UnitOver;
 use cm_history::{Act, Actor, pieces, standing_law};
 use copy_jobs::Key;
@@ -99,7 +100,7 @@ where
     }
 }
 
-impl<B: Pins + Drop> UnitOver<B>
+impl<B: SharedVersions + Drop> UnitOver<B>
 where
     B::Pin: Drop,
 {

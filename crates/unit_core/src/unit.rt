@@ -17,10 +17,10 @@ ghost use Rattle.unit_core.specs.Acting.{past, is_full_at, entry_at, serves_oper
 
 use crate::inner::Core;
 use crate::room::bytes_in;
+use crate::sharing::SharedVersions;
 use crate::tables::Tables;
 use cm_base::{Config, OutOfMemory};
 use cm_history::{Act, ActRefused, Actor, Answer, Entry, History, standing_law};
-use lba_ranges::Pins;
 use lun_versions::VersionUnit;
 use std::alloc::Global;
 use std::marker::Model;
@@ -29,7 +29,7 @@ use std::marker::Model;
 /// many older ones were recorded elsewhere and dropped, and all that its answers depend on. It answers as after each
 /// list of entries for which it stands.
 #[derive(Drop)]
-pub struct UnitOver<B: Pins + Drop>
+pub struct UnitOver<B: SharedVersions + Drop>
 where
     B::Pin: Drop,
 {
@@ -43,7 +43,7 @@ where
 /// One unit.
 pub type Unit = UnitOver<VersionUnit>;
 
-impl<B: Pins + Drop> Model for UnitOver<B>
+impl<B: SharedVersions + Drop> Model for UnitOver<B>
 where
     B::Pin: Drop,
 {
@@ -51,9 +51,9 @@ where
     ghost use Rattle.cm_history.specs.declared.act.Entry.{Entry};
     ghost use Rattle.unit_core.specs.UnitState.{UnitState};
     ghost use Rattle.unit_core.specs.inner.Shown.{image_shown};
-    ghost use Rattle.unit_core.specs.inner.Seen.{AreWriters};
+    ghost use Rattle.unit_core.specs.inner.Seen.{AreWriters, shares_shown};
     ghost use Rattle.unit_core.specs.inner.Agreeing.{TablesAgree, RecordAgrees};
-    ghost use Rattle.unit_core.specs.Versions.{writer_seen};
+    ghost use Rattle.unit_core.specs.Versions.{writer_seen, shares_table};
     ghost use Rattle.cm_history.specs.History.{past_of};
     ghost use Rattle.token_pins.specs.Pinning.{rods_of, holder, ArePinned};
 
@@ -67,6 +67,8 @@ where
       image = image_shown u.core.moment u.core.last_stamp (u.folded + length u.history.entries)
           (B.blocks u.core.tables.blocks) (B.holds u.core.tables.blocks)
           (rods_of B.number (B.block_length u.core.tables.blocks) (B.shown u.core.tables.blocks) u.core.tables.tokens).tokens u.core.tables.jobs;
+      shares = shares_table (B.blocks u.core.tables.blocks) (length u.core.tables.tokens.tokens)
+          (shares_shown B.number (B.shares u.core.tables.blocks) u.core.tables.tokens.tokens);
     } };
 
     // a list of entries that makes the unit as it is
@@ -80,7 +82,7 @@ where
         × AreWriters B.number (B.written_by u.core.tables.blocks) u.core.tables.tokens.tokens (writer_seen (past_of u.core.config u.core.unit whole)) };
 }
 
-impl<B: Pins + Drop> UnitOver<B>
+impl<B: SharedVersions + Drop> UnitOver<B>
 where
     B::Pin: Drop,
 {
@@ -197,7 +199,7 @@ where
     /// How many versions of blocks are kept, in blocks: those that are current or that a live token shows, each once. What
     /// a running operation is still to write is not among them. It takes no memory.
     pub fn stored(&self) -> u64
-        ensures { (h : List Entry) × Stands self.now h × (result ≡ length (needed (unit_of self.now.config self.now.unit) (past self.now h))) }
+        ensures { (h : List Entry) → Stands self.now h → result ≡ length (needed (unit_of self.now.config self.now.unit) (past self.now h)) }
     {
         self.core.tables.blocks.stored()
     }

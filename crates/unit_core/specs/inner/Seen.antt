@@ -1,5 +1,5 @@
 -- The puts that wrote what the tables of a unit keep of blocks, and what an act changes in them
-use Rattle.std.specs.Prelude.{◌≡◌, ℕ, List, Option, Some, None, is_some, Bool, ◌==◌, if◌then◌else◌}
+use Rattle.std.specs.Prelude.{◌≡◌, ℕ, List, Option, Some, None, is_some, Bool, false, ◌==◌, if◌then◌else◌}
 use Rattle.lba_ranges.specs.declared.ranges.Range.{Range}
 use Rattle.lba_ranges.specs.Denoted.{denotes}
 use Rattle.lba_ranges.specs.Versions.{Writers}
@@ -25,6 +25,27 @@ module _ {P : Type 0} (number : P → ℕ) (w : Writers) where
 -- the token of the serial is live
 abbrev pub lives_in : {P : Type 0} → List (Kept (PinnedRod P)) → ℕ → Bool
 lives_in tokens serial = is_some (value_at serial tokens)
+
+-- ---- which of the versions are the same
+
+abbrev pub if_both : (Option ℕ → Option ℕ → Bool) → Option (Option ℕ) → Option (Option ℕ) → Bool
+if_both shares (Some one) (Some other) = shares one other
+if_both shares _ _ = false
+
+module _ {P : Type 0} (number : P → ℕ) where
+  abbrev pub pin_shown : Option (PinnedRod P) → ℕ → Option (Option ℕ)
+  pin_shown None block = None
+  pin_shown (Some rod) block = if denotes rod.ranges block then Some (Some (number rod.pin)) else None
+
+  -- what shows that of the block: it is current, or the pin of a number shows it, or it is nothing
+  abbrev pub pin_seen : List (Kept (PinnedRod P)) → Sight → ℕ → Option (Option ℕ)
+  pin_seen tokens Now block = Some None
+  pin_seen tokens (ByToken serial) block = pin_shown (value_at serial tokens) block
+
+  abbrev pub shares_shown : (Option ℕ → Option ℕ → ℕ → Bool) → List (Kept (PinnedRod P)) → Sight → Sight → ℕ → Bool
+  shares_shown shares tokens one other block = if_both (λ p q. shares p q block) (pin_seen tokens one block) (pin_seen tokens other block)
+
+-- ---- who wrote them
 
 -- these puts may have written what is seen
 pub record AreWriters {P : Type 0} (number : P → ℕ) (written_by : Writers → Type 0) (tokens : List (Kept (PinnedRod P))) (seen : Sight → ℕ → Option ℕ) : Type 0 where

@@ -3,7 +3,7 @@ use Rattle.std.specs.Prelude.{is_some, max}
 use Rattle.cm_base.specs.Units.{unit_of}
 use Rattle.cm_history.specs.Folding.{StandsFor}
 use Rattle.cm_history.specs.History.{past_of}
-use Rattle.unit_core.specs.UnitState.{Stands}
+use Rattle.unit_core.specs.UnitState.{Stands, answers_as}
 use Rattle.unit_core.specs.inner.Agreeing.{TablesAgree}
 use Rattle.unit_core.specs.inner.Shown.{image_shown}
 use Rattle.unit_core.proofs.Standing.{stands-own}
@@ -23,7 +23,7 @@ use Rattle.cm_history.specs.Forms.{HasForm}
 use Rattle.cm_history.specs.Room.{is_full, reserved, need, payload}
 use Rattle.copy_jobs.specs.Jobs as jobs
 use Rattle.rod_store.specs.declared.kept.Kept.{Kept}
-use Rattle.unit_core.specs.UnitState.{UnitState}
+use Rattle.unit_core.specs.UnitState.{UnitState, shared_by}
 use Rattle.unit_core.specs.Acting.{MayRedeem}
 use Rattle.unit_core.specs.inner.Agreeing.{RecordAgrees, payload_in}
 use Rattle.unit_core.specs.inner.Planning.{IsPlan, takes_none}
@@ -40,6 +40,11 @@ use Rattle.token_pins.specs.Pinning.{rods_of, rod_now, rod_shown}
 use Rattle.unit_core.proofs.Needed.{next-new}
 use Rattle.unit_core.proofs.WriterSteps.{writers-step}
 use Rattle.unit_core.proofs.Writers.{placed}
+use Rattle.cm_history.specs.Image.{Image}
+use Rattle.unit_core.specs.Versions.{shares_table, writer_seen}
+use Rattle.unit_core.specs.inner.Seen.{shares_shown, AreWriters}
+use Rattle.unit_core.proofs.Changing.{on-err}
+use Rattle.unit_core.proofs.WriterSteps.{alike-shared, alike-step, shared-alike, stands-with, table-are}
 use Rattle.unit_core.proofs.unit.UnitOver.act.Goals as goal
 
 if-err : {T F : Type 0} (r : Result T F) (P : F → Type 0) → ((e : F) → P e) → IfErr r P
@@ -67,9 +72,20 @@ returns-then-is_full-clause-serves g c = λ e h s serves.
     let limit = unit_of o.config o.unit in
     let own = stands-own o.config o.unit u.history.entries u.folded u.history.spare u.payload (g.B.Blocks.blocks o.tables.blocks) (g.B.Blocks.block_length o.tables.blocks) (g.B.Blocks.holds o.tables.blocks) (rods_of g.B.Pins.number (g.B.Blocks.block_length o.tables.blocks) (g.B.Blocks.shown o.tables.blocks) o.tables.tokens) o.tables.jobs o.last_stamp o.moment w t r in
     let shown = image_shown o.moment o.last_stamp (u.folded + length u.history.entries) (g.B.Blocks.blocks o.tables.blocks) (g.B.Blocks.holds o.tables.blocks) (rods_of g.B.Pins.number (g.B.Blocks.block_length o.tables.blocks) (g.B.Blocks.shown o.tables.blocks) o.tables.tokens).tokens o.tables.jobs in
-    let stood : StandsFor o.config o.unit shown u.history.entries u.folded h = rw (← c.self.view_is) at s in
+    let stood : StandsFor o.config o.unit shown u.history.entries u.folded h = rw (← c.self.view_is) at (answers_as c.args.self.now h s) in
     let p = c.standing_law.ensures shown u.history.entries u.folded h w stood own in
-    let standing : Stands c.args.self.now w = rw (← c.self.view_is) own in
+    let table = table-are g.B.Pins.number (g.B.Blocks.blocks o.tables.blocks) limit.blocks (g.B.Blocks.pinned o.tables.blocks) (g.B.Blocks.written_by o.tables.blocks) o.tables.tokens.tokens past
+    (rod_shown g.B.Pins.number (g.B.Blocks.block_length o.tables.blocks) (g.B.Blocks.shown o.tables.blocks)) limit c.self.invariant.3 c.self.invariant.4 (g.B.SharedVersions.shares o.tables.blocks)
+    (g.met.B.SharedVersions.told o.tables.blocks c.self.invariant.4.writers c.self.invariant.4.written) t.blocks.count t.tokens.tokens in
+    let state : UnitState = record {
+      config = o.config;
+      unit = o.unit;
+      kept = u.history.entries;
+      folded = u.folded;
+      image = image_shown o.moment o.last_stamp (u.folded + length u.history.entries) (g.B.Blocks.blocks o.tables.blocks) (g.B.Blocks.holds o.tables.blocks) (rods_of g.B.Pins.number (g.B.Blocks.block_length o.tables.blocks) (g.B.Blocks.shown o.tables.blocks) o.tables.tokens).tokens o.tables.jobs;
+      shares = shares_table (g.B.Blocks.blocks o.tables.blocks) (length o.tables.tokens.tokens) (shares_shown g.B.Pins.number (g.B.SharedVersions.shares o.tables.blocks) o.tables.tokens.tokens);
+    } in
+    let standing : Stands c.args.self.now w = rw (← c.self.view_is) (stands-with state w own table) in
     let full : is_full limit u.folded past c.args.actor c.args.stamp c.args.act ≡ true = rw (← c.self.view_is) at (sym (c.is_full.ensures w standing) ∙ c.if-is_full.true) in
     let count : length past - u.folded ≡ length u.history.entries = length-kept o.config o.unit u.history.entries u.folded w t.record_is.own r.keeps in
     let bytes : payload u.folded past ≡ payload_in u.history.entries = payload-kept o.config o.unit u.history.entries u.folded w t.record_is.own r.keeps in
@@ -93,7 +109,7 @@ returns-in_err-reserve-clause-ends g c =
     let never : ends_operation past c.args.actor c.args.act ≡ false = go o.config o.unit past c.args.actor c.args.act u.history.spare c.reserved.result c.need.result free needed r.free c.in_err-reserve.ensures.needed (ends_operation past c.args.actor c.args.act) refl in
     if-err c.from_residual-in_err-reserve.result _ (λ f same h s.
     let shown = image_shown o.moment o.last_stamp (u.folded + length u.history.entries) (g.B.Blocks.blocks o.tables.blocks) (g.B.Blocks.holds o.tables.blocks) (rods_of g.B.Pins.number (g.B.Blocks.block_length o.tables.blocks) (g.B.Blocks.shown o.tables.blocks) o.tables.tokens).tokens o.tables.jobs in
-    let stood : StandsFor o.config o.unit shown u.history.entries u.folded h = rw (← c.self.view_is) at s in
+    let stood : StandsFor o.config o.unit shown u.history.entries u.folded h = rw (← c.self.view_is) at (answers_as c.args.self.now h s) in
     let p = c.standing_law.ensures shown u.history.entries u.folded h w stood own in
     rw (← c.self.view_is) (ends-alike (past_of o.config o.unit h) past c.args.actor c.args.act (p.serves c.args.actor c.args.act) ∙ never))
   where
@@ -152,7 +168,18 @@ invariant_of-self-2 g c =
     let known = known-of o.config o.unit w t.record_is in
     let limit = unit_of o.config o.unit in
     let own = stands-own o.config o.unit u.history.entries u.folded u.history.spare u.payload (g.B.Blocks.blocks o.tables.blocks) (g.B.Blocks.block_length o.tables.blocks) (g.B.Blocks.holds o.tables.blocks) (rods_of g.B.Pins.number (g.B.Blocks.block_length o.tables.blocks) (g.B.Blocks.shown o.tables.blocks) o.tables.tokens) o.tables.jobs o.last_stamp o.moment w t r in
-    let standing : Stands c.args.self.now w = rw (← c.self.view_is) own in
+    let table = table-are g.B.Pins.number (g.B.Blocks.blocks o.tables.blocks) limit.blocks (g.B.Blocks.pinned o.tables.blocks) (g.B.Blocks.written_by o.tables.blocks) o.tables.tokens.tokens past
+    (rod_shown g.B.Pins.number (g.B.Blocks.block_length o.tables.blocks) (g.B.Blocks.shown o.tables.blocks)) limit c.self.invariant.3 c.self.invariant.4 (g.B.SharedVersions.shares o.tables.blocks)
+    (g.met.B.SharedVersions.told o.tables.blocks c.self.invariant.4.writers c.self.invariant.4.written) t.blocks.count t.tokens.tokens in
+    let state : UnitState = record {
+      config = o.config;
+      unit = o.unit;
+      kept = u.history.entries;
+      folded = u.folded;
+      image = image_shown o.moment o.last_stamp (u.folded + length u.history.entries) (g.B.Blocks.blocks o.tables.blocks) (g.B.Blocks.holds o.tables.blocks) (rods_of g.B.Pins.number (g.B.Blocks.block_length o.tables.blocks) (g.B.Blocks.shown o.tables.blocks) o.tables.tokens).tokens o.tables.jobs;
+      shares = shares_table (g.B.Blocks.blocks o.tables.blocks) (length o.tables.tokens.tokens) (shares_shown g.B.Pins.number (g.B.SharedVersions.shares o.tables.blocks) o.tables.tokens.tokens);
+    } in
+    let standing : Stands c.args.self.now w = rw (← c.self.view_is) (stands-with state w own table) in
     let e : Entry = record { stamp = c.max.result + 1; unit = o.unit; actor = c.args.actor; seq = c.args.seq; moment = c.args.moment; act = c.args.act } in
     let asked : IsAsked o.config o.unit (deed o.config o.unit past e) = record { limits = rw (← c.self.view_is) at c.requires.limits; asked = rw (← c.self.view_is) at c.requires.asked } in
     let free : c.reserved.result ≡ reserved past = c.reserved.ensures.reserved ∙ ap jobs.reserved t.jobs ∙ reserved-is o.config o.unit past known.is in
@@ -204,7 +231,7 @@ returns-clause-answer g c = λ h s.
     let limit = unit_of o.config o.unit in
     let own = stands-own o.config o.unit u.history.entries u.folded u.history.spare u.payload (g.B.Blocks.blocks o.tables.blocks) (g.B.Blocks.block_length o.tables.blocks) (g.B.Blocks.holds o.tables.blocks) (rods_of g.B.Pins.number (g.B.Blocks.block_length o.tables.blocks) (g.B.Blocks.shown o.tables.blocks) o.tables.tokens) o.tables.jobs o.last_stamp o.moment w t r in
     let shown = image_shown o.moment o.last_stamp (u.folded + length u.history.entries) (g.B.Blocks.blocks o.tables.blocks) (g.B.Blocks.holds o.tables.blocks) (rods_of g.B.Pins.number (g.B.Blocks.block_length o.tables.blocks) (g.B.Blocks.shown o.tables.blocks) o.tables.tokens).tokens o.tables.jobs in
-    let stood : StandsFor o.config o.unit shown u.history.entries u.folded h = rw (← c.self.view_is) at s in
+    let stood : StandsFor o.config o.unit shown u.history.entries u.folded h = rw (← c.self.view_is) at (answers_as c.args.self.now h s) in
     let p = c.standing_law.ensures shown u.history.entries u.folded h w stood own in
     let planned : IsPlan o.config o.unit past c.args.actor c.args.moment c.args.act c.in_ok-plan.plan = c.in_ok-plan.ensures.planned w t in
     rw (← c.self.view_is) (c.in_ok-answer.ensures.answer ∙ planned.answer ∙ sym (p.alike c.args.actor c.args.moment c.args.act))
@@ -230,7 +257,18 @@ overflow_add-self g c =
     let known = known-of o.config o.unit w t.record_is in
     let limit = unit_of o.config o.unit in
     let own = stands-own o.config o.unit u.history.entries u.folded u.history.spare u.payload (g.B.Blocks.blocks o.tables.blocks) (g.B.Blocks.block_length o.tables.blocks) (g.B.Blocks.holds o.tables.blocks) (rods_of g.B.Pins.number (g.B.Blocks.block_length o.tables.blocks) (g.B.Blocks.shown o.tables.blocks) o.tables.tokens) o.tables.jobs o.last_stamp o.moment w t r in
-    let standing : Stands c.args.self.now w = rw (← c.self.view_is) own in
+    let table = table-are g.B.Pins.number (g.B.Blocks.blocks o.tables.blocks) limit.blocks (g.B.Blocks.pinned o.tables.blocks) (g.B.Blocks.written_by o.tables.blocks) o.tables.tokens.tokens past
+    (rod_shown g.B.Pins.number (g.B.Blocks.block_length o.tables.blocks) (g.B.Blocks.shown o.tables.blocks)) limit c.self.invariant.3 c.self.invariant.4 (g.B.SharedVersions.shares o.tables.blocks)
+    (g.met.B.SharedVersions.told o.tables.blocks c.self.invariant.4.writers c.self.invariant.4.written) t.blocks.count t.tokens.tokens in
+    let state : UnitState = record {
+      config = o.config;
+      unit = o.unit;
+      kept = u.history.entries;
+      folded = u.folded;
+      image = image_shown o.moment o.last_stamp (u.folded + length u.history.entries) (g.B.Blocks.blocks o.tables.blocks) (g.B.Blocks.holds o.tables.blocks) (rods_of g.B.Pins.number (g.B.Blocks.block_length o.tables.blocks) (g.B.Blocks.shown o.tables.blocks) o.tables.tokens).tokens o.tables.jobs;
+      shares = shares_table (g.B.Blocks.blocks o.tables.blocks) (length o.tables.tokens.tokens) (shares_shown g.B.Pins.number (g.B.SharedVersions.shares o.tables.blocks) o.tables.tokens.tokens);
+    } in
+    let standing : Stands c.args.self.now w = rw (← c.self.view_is) (stands-with state w own table) in
     let full : is_full limit u.folded past c.args.actor c.args.stamp c.args.act ≡ false = rw (← c.self.view_is) at (sym (c.is_full.ensures w standing) ∙ c.if-is_full.false) in
     let count : length past - u.folded ≡ length u.history.entries = length-kept o.config o.unit u.history.entries u.folded w t.record_is.own r.keeps in
     let bytes : payload u.folded past ≡ payload_in u.history.entries = payload-kept o.config o.unit u.history.entries u.folded w t.record_is.own r.keeps in
@@ -250,7 +288,18 @@ overflow_add-self-2 g c =
     let known = known-of o.config o.unit w t.record_is in
     let limit = unit_of o.config o.unit in
     let own = stands-own o.config o.unit u.history.entries u.folded u.history.spare u.payload (g.B.Blocks.blocks o.tables.blocks) (g.B.Blocks.block_length o.tables.blocks) (g.B.Blocks.holds o.tables.blocks) (rods_of g.B.Pins.number (g.B.Blocks.block_length o.tables.blocks) (g.B.Blocks.shown o.tables.blocks) o.tables.tokens) o.tables.jobs o.last_stamp o.moment w t r in
-    let standing : Stands c.args.self.now w = rw (← c.self.view_is) own in
+    let table = table-are g.B.Pins.number (g.B.Blocks.blocks o.tables.blocks) limit.blocks (g.B.Blocks.pinned o.tables.blocks) (g.B.Blocks.written_by o.tables.blocks) o.tables.tokens.tokens past
+    (rod_shown g.B.Pins.number (g.B.Blocks.block_length o.tables.blocks) (g.B.Blocks.shown o.tables.blocks)) limit c.self.invariant.3 c.self.invariant.4 (g.B.SharedVersions.shares o.tables.blocks)
+    (g.met.B.SharedVersions.told o.tables.blocks c.self.invariant.4.writers c.self.invariant.4.written) t.blocks.count t.tokens.tokens in
+    let state : UnitState = record {
+      config = o.config;
+      unit = o.unit;
+      kept = u.history.entries;
+      folded = u.folded;
+      image = image_shown o.moment o.last_stamp (u.folded + length u.history.entries) (g.B.Blocks.blocks o.tables.blocks) (g.B.Blocks.holds o.tables.blocks) (rods_of g.B.Pins.number (g.B.Blocks.block_length o.tables.blocks) (g.B.Blocks.shown o.tables.blocks) o.tables.tokens).tokens o.tables.jobs;
+      shares = shares_table (g.B.Blocks.blocks o.tables.blocks) (length o.tables.tokens.tokens) (shares_shown g.B.Pins.number (g.B.SharedVersions.shares o.tables.blocks) o.tables.tokens.tokens);
+    } in
+    let standing : Stands c.args.self.now w = rw (← c.self.view_is) (stands-with state w own table) in
     let full : is_full limit u.folded past c.args.actor c.args.stamp c.args.act ≡ false = rw (← c.self.view_is) at (sym (c.is_full.ensures w standing) ∙ c.if-is_full.false) in
     let count : length past - u.folded ≡ length u.history.entries = length-kept o.config o.unit u.history.entries u.folded w t.record_is.own r.keeps in
     let bytes : payload u.folded past ≡ payload_in u.history.entries = payload-kept o.config o.unit u.history.entries u.folded w t.record_is.own r.keeps in
@@ -273,7 +322,7 @@ returns-in_err-plan-clause-ends g c =
     let never : ends_operation past c.args.actor c.args.act ≡ false = c.in_err-plan.ensures.memory w t in
     if-err c.from_residual.result _ (λ f same h s.
     let shown = image_shown o.moment o.last_stamp (u.folded + length u.history.entries) (g.B.Blocks.blocks o.tables.blocks) (g.B.Blocks.holds o.tables.blocks) (rods_of g.B.Pins.number (g.B.Blocks.block_length o.tables.blocks) (g.B.Blocks.shown o.tables.blocks) o.tables.tokens).tokens o.tables.jobs in
-    let stood : StandsFor o.config o.unit shown u.history.entries u.folded h = rw (← c.self.view_is) at s in
+    let stood : StandsFor o.config o.unit shown u.history.entries u.folded h = rw (← c.self.view_is) at (answers_as c.args.self.now h s) in
     let p = c.standing_law.ensures shown u.history.entries u.folded h w stood own in
     rw (← c.self.view_is) (ends-alike (past_of o.config o.unit h) past c.args.actor c.args.act (p.serves c.args.actor c.args.act) ∙ never))
 
@@ -296,9 +345,41 @@ returns-in_err-answer-clause-ends g c =
     let never : ends_operation past c.args.actor c.args.act ≡ false = off-unless (ends_operation past c.args.actor c.args.act) (takes_none c.in_ok-plan.plan) planned.ends c.in_err-answer.ensures.memory in
     if-err c.from_residual-in_err-answer.result _ (λ f same h s.
     let shown = image_shown o.moment o.last_stamp (u.folded + length u.history.entries) (g.B.Blocks.blocks o.tables.blocks) (g.B.Blocks.holds o.tables.blocks) (rods_of g.B.Pins.number (g.B.Blocks.block_length o.tables.blocks) (g.B.Blocks.shown o.tables.blocks) o.tables.tokens).tokens o.tables.jobs in
-    let stood : StandsFor o.config o.unit shown u.history.entries u.folded h = rw (← c.self.view_is) at s in
+    let stood : StandsFor o.config o.unit shown u.history.entries u.folded h = rw (← c.self.view_is) at (answers_as c.args.self.now h s) in
     let p = c.standing_law.ensures shown u.history.entries u.folded h w stood own in
     rw (← c.self.view_is) (ends-alike (past_of o.config o.unit h) past c.args.actor c.args.act (p.serves c.args.actor c.args.act) ∙ never))
+
+pub returns-in_err-answer-clause-refused : goal.returns-in_err-answer-clause-refused
+returns-in_err-answer-clause-refused g c =
+    let u = c.self.inside in
+    let o = u.core in
+    let w = c.self.invariant.0 in
+    let t : TablesAgree o.config o.unit (g.B.Blocks.blocks o.tables.blocks) (g.B.Blocks.block_length o.tables.blocks) (g.B.Blocks.holds o.tables.blocks) (rods_of g.B.Pins.number (g.B.Blocks.block_length o.tables.blocks) (g.B.Blocks.shown o.tables.blocks) o.tables.tokens) o.tables.jobs o.last_stamp o.moment w = c.self.invariant.1 in
+    let past = past_of o.config o.unit w in
+    let limit = unit_of o.config o.unit in
+    let table = table-are g.B.Pins.number (g.B.Blocks.blocks o.tables.blocks) limit.blocks (g.B.Blocks.pinned o.tables.blocks) (g.B.Blocks.written_by o.tables.blocks) o.tables.tokens.tokens past
+    (rod_shown g.B.Pins.number (g.B.Blocks.block_length o.tables.blocks) (g.B.Blocks.shown o.tables.blocks)) limit c.self.invariant.3 c.self.invariant.4 (g.B.SharedVersions.shares o.tables.blocks)
+    (g.met.B.SharedVersions.told o.tables.blocks c.self.invariant.4.writers c.self.invariant.4.written) t.blocks.count t.tokens.tokens in
+    let k = c.change.new.self in
+    let left = c.in_err-answer.ensures.writers c.self.invariant.4.writers c.self.invariant.4.written in
+    let are : AreWriters g.B.Pins.number (g.B.Blocks.written_by k.blocks) k.tokens.tokens (writer_seen past) =
+    record { writers = left.writers; written = left.written; same = λ s b. left.same s b ∙ c.self.invariant.4.same s b } in
+    let table_now = table-are g.B.Pins.number (g.B.Blocks.blocks k.blocks) limit.blocks (g.B.Blocks.pinned k.blocks) (g.B.Blocks.written_by k.blocks) k.tokens.tokens past
+    (rod_shown g.B.Pins.number (g.B.Blocks.block_length k.blocks) (g.B.Blocks.shown k.blocks)) limit c.change.ensures.pinned are (g.B.SharedVersions.shares k.blocks)
+    (g.met.B.SharedVersions.told k.blocks are.writers are.written) (c.change.ensures.blocks ∙ t.blocks.count) (c.in_err-answer.ensures.same_tokens ∙ t.tokens.tokens) in
+    let shown = image_shown o.moment o.last_stamp (u.folded + length u.history.entries) (g.B.Blocks.blocks o.tables.blocks) (g.B.Blocks.holds o.tables.blocks) (rods_of g.B.Pins.number (g.B.Blocks.block_length o.tables.blocks) (g.B.Blocks.shown o.tables.blocks) o.tables.tokens).tokens o.tables.jobs in
+    let stays = shown-same o.moment o.last_stamp (u.folded + length u.history.entries) (g.B.Blocks.blocks o.tables.blocks) (g.B.Blocks.blocks k.blocks) (g.B.Blocks.holds o.tables.blocks) (g.B.Blocks.holds k.blocks)
+    (rods_of g.B.Pins.number (g.B.Blocks.block_length o.tables.blocks) (g.B.Blocks.shown o.tables.blocks) o.tables.tokens).tokens (rods_of g.B.Pins.number (g.B.Blocks.block_length k.blocks) (g.B.Blocks.shown k.blocks) k.tokens).tokens o.tables.jobs k.jobs
+    c.change.ensures.blocks c.in_err-answer.ensures.same_blocks c.in_err-answer.ensures.same_tokens c.in_err-answer.ensures.same_jobs in
+    let shares_now = shares_table (g.B.Blocks.blocks k.blocks) (length k.tokens.tokens) (shares_shown g.B.Pins.number (g.B.SharedVersions.shares k.blocks) k.tokens.tokens) in
+    let state : List Entry → Image → List (List (List Bool)) → UnitState = λ kept image same. record { config = o.config; unit = o.unit; kept = kept; folded = u.folded; image = image; shares = same } in
+    let image_now : List Entry → Image =
+    λ kept. image_shown o.moment o.last_stamp (u.folded + length kept) (g.B.Blocks.blocks k.blocks) (g.B.Blocks.holds k.blocks) (rods_of g.B.Pins.number (g.B.Blocks.block_length k.blocks) (g.B.Blocks.shown k.blocks) k.tokens).tokens k.jobs in
+    on-err c.from_residual-in_err-answer.result _
+    (ap (λ l. state l (image_now l) shares_now) c.in_ok-reserve.ensures.same
+    ∙ ap (λ i. state u.history.entries i shares_now) stays
+    ∙ ap (λ x. state u.history.entries shown x) (sym table_now ∙ table)
+    ∙ c.self.view_is)
 
 pub returns-clause-stands : goal.returns-clause-stands
 returns-clause-stands g c = λ h s.
@@ -312,9 +393,20 @@ returns-clause-stands g c = λ h s.
     let limit = unit_of o.config o.unit in
     let own = stands-own o.config o.unit u.history.entries u.folded u.history.spare u.payload (g.B.Blocks.blocks o.tables.blocks) (g.B.Blocks.block_length o.tables.blocks) (g.B.Blocks.holds o.tables.blocks) (rods_of g.B.Pins.number (g.B.Blocks.block_length o.tables.blocks) (g.B.Blocks.shown o.tables.blocks) o.tables.tokens) o.tables.jobs o.last_stamp o.moment w t r in
     let shown = image_shown o.moment o.last_stamp (u.folded + length u.history.entries) (g.B.Blocks.blocks o.tables.blocks) (g.B.Blocks.holds o.tables.blocks) (rods_of g.B.Pins.number (g.B.Blocks.block_length o.tables.blocks) (g.B.Blocks.shown o.tables.blocks) o.tables.tokens).tokens o.tables.jobs in
-    let stood : StandsFor o.config o.unit shown u.history.entries u.folded h = rw (← c.self.view_is) at s in
+    let stood : StandsFor o.config o.unit shown u.history.entries u.folded h = rw (← c.self.view_is) at (answers_as c.args.self.now h s) in
     let p = c.standing_law.ensures shown u.history.entries u.folded h w stood own in
-    let standing : Stands c.args.self.now w = rw (← c.self.view_is) own in
+    let table = table-are g.B.Pins.number (g.B.Blocks.blocks o.tables.blocks) limit.blocks (g.B.Blocks.pinned o.tables.blocks) (g.B.Blocks.written_by o.tables.blocks) o.tables.tokens.tokens past
+    (rod_shown g.B.Pins.number (g.B.Blocks.block_length o.tables.blocks) (g.B.Blocks.shown o.tables.blocks)) limit c.self.invariant.3 c.self.invariant.4 (g.B.SharedVersions.shares o.tables.blocks)
+    (g.met.B.SharedVersions.told o.tables.blocks c.self.invariant.4.writers c.self.invariant.4.written) t.blocks.count t.tokens.tokens in
+    let state : UnitState = record {
+      config = o.config;
+      unit = o.unit;
+      kept = u.history.entries;
+      folded = u.folded;
+      image = image_shown o.moment o.last_stamp (u.folded + length u.history.entries) (g.B.Blocks.blocks o.tables.blocks) (g.B.Blocks.holds o.tables.blocks) (rods_of g.B.Pins.number (g.B.Blocks.block_length o.tables.blocks) (g.B.Blocks.shown o.tables.blocks) o.tables.tokens).tokens o.tables.jobs;
+      shares = shares_table (g.B.Blocks.blocks o.tables.blocks) (length o.tables.tokens.tokens) (shares_shown g.B.Pins.number (g.B.SharedVersions.shares o.tables.blocks) o.tables.tokens.tokens);
+    } in
+    let standing : Stands c.args.self.now w = rw (← c.self.view_is) (stands-with state w own table) in
     let e : Entry = record { stamp = c.max.result + 1; unit = o.unit; actor = c.args.actor; seq = c.args.seq; moment = c.args.moment; act = c.args.act } in
     let asked : IsAsked o.config o.unit (deed o.config o.unit past e) = record { limits = rw (← c.self.view_is) at c.requires.limits; asked = rw (← c.self.view_is) at c.requires.asked } in
     let free : c.reserved.result ≡ reserved past = c.reserved.ensures.reserved ∙ ap jobs.reserved t.jobs ∙ reserved-is o.config o.unit past known.is in
@@ -350,7 +442,22 @@ returns-clause-stands g c = λ h s.
     let own-now = stands-own o.config o.unit (u.history.entries ++ e ∷ []) u.folded c.append.new.self.spare (u.payload + c.bytes_in.result) (g.B.Blocks.blocks k.blocks) (g.B.Blocks.block_length k.blocks) (g.B.Blocks.holds k.blocks)
     (rods_of g.B.Pins.number (g.B.Blocks.block_length k.blocks) (g.B.Blocks.shown k.blocks) k.tokens) k.jobs (c.max.result + 1) c.max-now.result (w ++ e ∷ []) tables record_now in
     let all = subst (λ j. StandsFor o.config o.unit j (u.history.entries ++ e ∷ []) u.folded (h ++ e ∷ [])) own-now.image (q.more e refl asked.limits asked.asked) in
-    rw (← c.self.view_is, ← c.max.ensures, kept) all
+    let were = c.self.invariant.4 in
+    let changed = c.in_ok-answer.ensures.written were.writers (length past) were.written
+    (next-new g.B.Pins.number (g.B.Blocks.blocks o.tables.blocks) (g.B.Blocks.pinned o.tables.blocks) (g.B.Blocks.written_by o.tables.blocks) o.tables.tokens.tokens past c.self.invariant.3 were (placed o.config o.unit past known.is)) in
+    let are = writers-step g.B.Pins.number o.config o.unit w e c.in_ok-plan.plan (g.B.Blocks.written_by o.tables.blocks) (g.B.Blocks.written_by k.blocks) o.tables.tokens.tokens k.tokens.tokens
+    (rod_shown g.B.Pins.number (g.B.Blocks.block_length o.tables.blocks) (g.B.Blocks.shown o.tables.blocks)) (rod_shown g.B.Pins.number (g.B.Blocks.block_length k.blocks) (g.B.Blocks.shown k.blocks))
+    were refl planned t.tokens.tokens tables.tokens.tokens changed in
+    let table_now = table-are g.B.Pins.number (g.B.Blocks.blocks k.blocks) limit.blocks (g.B.Blocks.pinned k.blocks) (g.B.Blocks.written_by k.blocks) k.tokens.tokens (past_of o.config o.unit (w ++ e ∷ []))
+    (rod_shown g.B.Pins.number (g.B.Blocks.block_length k.blocks) (g.B.Blocks.shown k.blocks)) limit c.change.ensures.pinned are (g.B.SharedVersions.shares k.blocks)
+    (g.met.B.SharedVersions.told k.blocks are.writers are.written) (c.change.ensures.blocks ∙ t.blocks.count) tables.tokens.tokens in
+    let its : shared_by limit.blocks (past_of o.config o.unit h) ≡ state.shares = (subst (λ (v : UnitState). Stands v h) (sym c.self.view_is) s).versions in
+    let images = own.image ∙ sym stood.image in
+    let images_now = own-now.image ∙ sym all.image in
+    let alike = shared-alike limit past (past_of o.config o.unit h) images (table ∙ sym its) in
+    let later = alike-step o.config o.unit limit.blocks w h e refl images images_now (sym (p.alike c.args.actor c.args.moment c.args.act)) alike in
+    let shared = sym (alike-shared limit (past_of o.config o.unit (w ++ e ∷ [])) (past_of o.config o.unit (h ++ e ∷ [])) images_now later) ∙ table_now in
+    rw (← c.self.view_is, ← c.max.ensures, kept) (record { own = all.own; asked = all.asked; image = all.image; keeps = all.keeps; few = all.few; versions = shared })
 
 pub returns-clause-redeems : goal.returns-clause-redeems
 returns-clause-redeems g c = λ h s text target x e may.
@@ -364,10 +471,10 @@ returns-clause-redeems g c = λ h s text target x e may.
     let limit = unit_of o.config o.unit in
     let own = stands-own o.config o.unit u.history.entries u.folded u.history.spare u.payload (g.B.Blocks.blocks o.tables.blocks) (g.B.Blocks.block_length o.tables.blocks) (g.B.Blocks.holds o.tables.blocks) (rods_of g.B.Pins.number (g.B.Blocks.block_length o.tables.blocks) (g.B.Blocks.shown o.tables.blocks) o.tables.tokens) o.tables.jobs o.last_stamp o.moment w t r in
     let shown = image_shown o.moment o.last_stamp (u.folded + length u.history.entries) (g.B.Blocks.blocks o.tables.blocks) (g.B.Blocks.holds o.tables.blocks) (rods_of g.B.Pins.number (g.B.Blocks.block_length o.tables.blocks) (g.B.Blocks.shown o.tables.blocks) o.tables.tokens).tokens o.tables.jobs in
-    let stood : StandsFor o.config o.unit shown u.history.entries u.folded h = rw (← c.self.view_is) at s in
+    let stood : StandsFor o.config o.unit shown u.history.entries u.folded h = rw (← c.self.view_is) at (answers_as c.args.self.now h s) in
     let p = c.standing_law.ensures shown u.history.entries u.folded h w stood own in
     let planned : IsPlan o.config o.unit past c.args.actor c.args.moment c.args.act c.in_ok-plan.plan = c.in_ok-plan.ensures.planned w t in
-    let seen : UnitState = record { config = o.config; unit = o.unit; kept = u.history.entries; folded = u.folded; image = shown } in
+    let seen : UnitState = record { config = o.config; unit = o.unit; kept = u.history.entries; folded = u.folded; image = shown; shares = shares_table (g.B.Blocks.blocks o.tables.blocks) (length o.tables.tokens.tokens) (shares_shown g.B.Pins.number (g.B.SharedVersions.shares o.tables.blocks) o.tables.tokens.tokens) } in
     let may' : MayRedeem seen h c.args.moment text target x = rw (← c.self.view_is) at may in
     rw (← c.self.view_is) (c.in_ok-answer.ensures.answer ∙ planned.answer ∙ sym (p.alike c.args.actor c.args.moment c.args.act)
     ∙ ap (answer_after o.config o.unit (past_of o.config o.unit h) c.args.actor c.args.moment) e

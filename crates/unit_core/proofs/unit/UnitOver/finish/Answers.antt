@@ -15,7 +15,10 @@ use Rattle.cm_history.specs.declared.refused.ActRefused.{ActRefused}
 use Rattle.unit_core.specs.UnitState.{UnitState}
 use Rattle.unit_core.specs.Acting.{past, serves_operation, ends_operation_at}
 use Rattle.unit_core.proofs.Planned.{ends-serves}
-use Rattle.token_pins.specs.Pinning.{rods_of}
+use Rattle.token_pins.specs.Pinning.{rods_of, rod_shown}
+use Rattle.unit_core.specs.Versions.{shares_table}
+use Rattle.unit_core.specs.inner.Seen.{shares_shown}
+use Rattle.unit_core.proofs.WriterSteps.{stands-with, table-are}
 use Rattle.unit_core.proofs.unit.UnitOver.finish.Goals as goal
 
 never : (s : UnitState) (entries : List Entry) (actor : Actor) (act : Act) (stamp : ℕ) (e : ActRefused) → ends_operation_at s entries actor act ≡ true → max stamp s.image.last_stamp < 2 ^ 64 - 1
@@ -35,6 +38,17 @@ unreachable-requires g c =
     let known = known-of o.config o.unit w t.record_is in
     let limit = unit_of o.config o.unit in
     let own = stands-own o.config o.unit u.history.entries u.folded u.history.spare u.payload (g.B.Blocks.blocks o.tables.blocks) (g.B.Blocks.block_length o.tables.blocks) (g.B.Blocks.holds o.tables.blocks) (rods_of g.B.Pins.number (g.B.Blocks.block_length o.tables.blocks) (g.B.Blocks.shown o.tables.blocks) o.tables.tokens) o.tables.jobs o.last_stamp o.moment w t r in
-    let standing : Stands c.args.self.now w = rw (← c.self.view_is) own in
+    let table = table-are g.B.Pins.number (g.B.Blocks.blocks o.tables.blocks) limit.blocks (g.B.Blocks.pinned o.tables.blocks) (g.B.Blocks.written_by o.tables.blocks) o.tables.tokens.tokens past
+    (rod_shown g.B.Pins.number (g.B.Blocks.block_length o.tables.blocks) (g.B.Blocks.shown o.tables.blocks)) limit c.self.invariant.3 c.self.invariant.4 (g.B.SharedVersions.shares o.tables.blocks)
+    (g.met.B.SharedVersions.told o.tables.blocks c.self.invariant.4.writers c.self.invariant.4.written) t.blocks.count t.tokens.tokens in
+    let state : UnitState = record {
+      config = o.config;
+      unit = o.unit;
+      kept = u.history.entries;
+      folded = u.folded;
+      image = image_shown o.moment o.last_stamp (u.folded + length u.history.entries) (g.B.Blocks.blocks o.tables.blocks) (g.B.Blocks.holds o.tables.blocks) (rods_of g.B.Pins.number (g.B.Blocks.block_length o.tables.blocks) (g.B.Blocks.shown o.tables.blocks) o.tables.tokens).tokens o.tables.jobs;
+      shares = shares_table (g.B.Blocks.blocks o.tables.blocks) (length o.tables.tokens.tokens) (shares_shown g.B.Pins.number (g.B.SharedVersions.shares o.tables.blocks) o.tables.tokens.tokens);
+    } in
+    let standing : Stands c.args.self.now w = rw (← c.self.view_is) (stands-with state w own table) in
     never c.args.self.now w c.args.actor c.args.act c.args.stamp c.in-Err.field-0 (c.requires.runs w standing) c.requires.stamps
     (λ e served. c.in-Err.ensures.serves e w standing served) (λ e. c.in-Err.ensures.ends e w standing)

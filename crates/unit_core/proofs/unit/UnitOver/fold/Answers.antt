@@ -3,7 +3,9 @@ use Rattle.std.specs.Prelude.{is_some, max}
 use Rattle.cm_base.specs.Units.{unit_of}
 use Rattle.cm_history.specs.Folding.{StandsFor}
 use Rattle.cm_history.specs.History.{past_of}
-use Rattle.unit_core.specs.UnitState.{Stands}
+use Rattle.unit_core.specs.UnitState.{UnitState, Stands, answers_as, shared_by}
+use Rattle.unit_core.specs.Versions.{shares_table}
+use Rattle.unit_core.specs.inner.Seen.{shares_shown}
 use Rattle.unit_core.specs.inner.Agreeing.{TablesAgree}
 use Rattle.unit_core.specs.inner.Shown.{image_shown}
 use Rattle.unit_core.proofs.Standing.{stands-own}
@@ -76,14 +78,16 @@ returns-clause-stands g c = λ h s.
     let limit = unit_of o.config o.unit in
     let own = stands-own o.config o.unit u.history.entries u.folded u.history.spare u.payload (g.B.Blocks.blocks o.tables.blocks) (g.B.Blocks.block_length o.tables.blocks) (g.B.Blocks.holds o.tables.blocks) (rods_of g.B.Pins.number (g.B.Blocks.block_length o.tables.blocks) (g.B.Blocks.shown o.tables.blocks) o.tables.tokens) o.tables.jobs o.last_stamp o.moment w t r in
     let shown = image_shown o.moment o.last_stamp (u.folded + length u.history.entries) (g.B.Blocks.blocks o.tables.blocks) (g.B.Blocks.holds o.tables.blocks) (rods_of g.B.Pins.number (g.B.Blocks.block_length o.tables.blocks) (g.B.Blocks.shown o.tables.blocks) o.tables.tokens).tokens o.tables.jobs in
-    let stood : StandsFor o.config o.unit shown u.history.entries u.folded h = rw (← c.self.view_is) at s in
+    let stood : StandsFor o.config o.unit shown u.history.entries u.folded h = rw (← c.self.view_is) at (answers_as c.args.self.now h s) in
     let p = c.standing_law.ensures shown u.history.entries u.folded h w stood own in
     let m = c.record_all-end.ensures.moved in
     let long : length u.history.entries ≡ length m.0 + length c.record_all-end.new.history.entries = ap length (sym m.1) ∙ length-append m.0 c.record_all-end.new.history.entries in
     let gone : c.len-before.result - c.len.result ≡ length m.0 = omega (arith, c.len-before.ensures, c.len.ensures, long) in
     let count : u.folded + length m.0 + length c.record_all-end.new.history.entries ≡ u.folded + length u.history.entries = omega (arith, long) in
     let now = p.folds m.0 c.record_all-end.new.history.entries m.1 in
-    rw (gone, count) now
+    let its : shared_by limit.blocks (past_of o.config o.unit h) ≡ shares_table (g.B.Blocks.blocks o.tables.blocks) (length o.tables.tokens.tokens) (shares_shown g.B.Pins.number (g.B.SharedVersions.shares o.tables.blocks) o.tables.tokens.tokens) =
+    (subst (λ (v : UnitState). Stands v h) (sym c.self.view_is) s).versions in
+    rw (gone, count) (record { own = now.own; asked = now.asked; image = now.image; keeps = now.keeps; few = now.few; versions = its })
 
 pub returns-clause-image : goal.returns-clause-image
 returns-clause-image g c =
@@ -128,7 +132,7 @@ returns-clause-told g c = λ h start s told.
     let limit = unit_of o.config o.unit in
     let own = stands-own o.config o.unit u.history.entries u.folded u.history.spare u.payload (g.B.Blocks.blocks o.tables.blocks) (g.B.Blocks.block_length o.tables.blocks) (g.B.Blocks.holds o.tables.blocks) (rods_of g.B.Pins.number (g.B.Blocks.block_length o.tables.blocks) (g.B.Blocks.shown o.tables.blocks) o.tables.tokens) o.tables.jobs o.last_stamp o.moment w t r in
     let shown = image_shown o.moment o.last_stamp (u.folded + length u.history.entries) (g.B.Blocks.blocks o.tables.blocks) (g.B.Blocks.holds o.tables.blocks) (rods_of g.B.Pins.number (g.B.Blocks.block_length o.tables.blocks) (g.B.Blocks.shown o.tables.blocks) o.tables.tokens).tokens o.tables.jobs in
-    let stood : StandsFor o.config o.unit shown u.history.entries u.folded h = rw (← c.self.view_is) at s in
+    let stood : StandsFor o.config o.unit shown u.history.entries u.folded h = rw (← c.self.view_is) at (answers_as c.args.self.now h s) in
     let p = c.standing_law.ensures shown u.history.entries u.folded h w stood own in
     let m = c.record_all-end.ensures.moved in
     let long : length u.history.entries ≡ length m.0 + length c.record_all-end.new.history.entries = ap length (sym m.1) ∙ length-append m.0 c.record_all-end.new.history.entries in

@@ -3,7 +3,7 @@ use Rattle.std.specs.Prelude.{is_some, max}
 use Rattle.cm_base.specs.Units.{unit_of}
 use Rattle.cm_history.specs.Folding.{StandsFor}
 use Rattle.cm_history.specs.History.{past_of}
-use Rattle.unit_core.specs.UnitState.{Stands}
+use Rattle.unit_core.specs.UnitState.{Stands, answers_as}
 use Rattle.unit_core.specs.inner.Agreeing.{TablesAgree}
 use Rattle.unit_core.specs.inner.Shown.{image_shown}
 use Rattle.unit_core.proofs.Standing.{stands-own}
@@ -23,6 +23,8 @@ use Rattle.unit_core.proofs.Jobs.{IsNexus, busy-is}
 use Rattle.unit_core.proofs.Pumping.{pump-idle}
 use Rattle.unit_core.proofs.Planned.{IsKnown, own-of}
 use Rattle.token_pins.specs.Pinning.{rods_of}
+use Rattle.unit_core.specs.Versions.{shares_table}
+use Rattle.unit_core.specs.inner.Seen.{shares_shown}
 use Rattle.unit_core.proofs.unit.UnitOver.runs.Goals as goal
 
 busy : (config : Configuration) (unit : ℕ) (past : List Deed) (s : UnitState) (h : List Entry) (actor : Actor) (id : ℕ) → IsKnown config unit past → IsNexus actor
@@ -48,9 +50,9 @@ returns-in-Nexus g c = λ h s.
     let limit = unit_of o.config o.unit in
     let own = stands-own o.config o.unit u.history.entries u.folded u.history.spare u.payload (g.B.Blocks.blocks o.tables.blocks) (g.B.Blocks.block_length o.tables.blocks) (g.B.Blocks.holds o.tables.blocks) (rods_of g.B.Pins.number (g.B.Blocks.block_length o.tables.blocks) (g.B.Blocks.shown o.tables.blocks) o.tables.tokens) o.tables.jobs o.last_stamp o.moment w t r in
     let shown = image_shown o.moment o.last_stamp (u.folded + length u.history.entries) (g.B.Blocks.blocks o.tables.blocks) (g.B.Blocks.holds o.tables.blocks) (rods_of g.B.Pins.number (g.B.Blocks.block_length o.tables.blocks) (g.B.Blocks.shown o.tables.blocks) o.tables.tokens).tokens o.tables.jobs in
-    let stood : StandsFor o.config o.unit shown u.history.entries u.folded h = rw (← c.self.view_is) at s in
+    let stood : StandsFor o.config o.unit shown u.history.entries u.folded h = rw (← c.self.view_is) at (answers_as c.args.self.now h s) in
     let p = c.standing_law.ensures shown u.history.entries u.folded h w stood own in
-    let seen : UnitState = record { config = o.config; unit = o.unit; kept = u.history.entries; folded = u.folded; image = shown } in
+    let seen : UnitState = record { config = o.config; unit = o.unit; kept = u.history.entries; folded = u.folded; image = shown; shares = shares_table (g.B.Blocks.blocks o.tables.blocks) (length o.tables.tokens.tokens) (shares_shown g.B.Pins.number (g.B.SharedVersions.shares o.tables.blocks) o.tables.tokens.tokens) } in
     let mine : IsNexus c.args.actor = subst IsNexus (sym c.in-Nexus.is) tt in
     rw (← c.self.view_is)
     (c.runs.ensures.busy ∙ ap (λ (k : Key). jobs.is_busy (record k { copy = c.args.copy }) o.tables.jobs) c.token_key-key.ensures
@@ -69,7 +71,7 @@ returns-in-Pump g c = λ h s.
     let limit = unit_of o.config o.unit in
     let own = stands-own o.config o.unit u.history.entries u.folded u.history.spare u.payload (g.B.Blocks.blocks o.tables.blocks) (g.B.Blocks.block_length o.tables.blocks) (g.B.Blocks.holds o.tables.blocks) (rods_of g.B.Pins.number (g.B.Blocks.block_length o.tables.blocks) (g.B.Blocks.shown o.tables.blocks) o.tables.tokens) o.tables.jobs o.last_stamp o.moment w t r in
     let shown = image_shown o.moment o.last_stamp (u.folded + length u.history.entries) (g.B.Blocks.blocks o.tables.blocks) (g.B.Blocks.holds o.tables.blocks) (rods_of g.B.Pins.number (g.B.Blocks.block_length o.tables.blocks) (g.B.Blocks.shown o.tables.blocks) o.tables.tokens).tokens o.tables.jobs in
-    let stood : StandsFor o.config o.unit shown u.history.entries u.folded h = rw (← c.self.view_is) at s in
+    let stood : StandsFor o.config o.unit shown u.history.entries u.folded h = rw (← c.self.view_is) at (answers_as c.args.self.now h s) in
     let p = c.standing_law.ensures shown u.history.entries u.folded h w stood own in
-    let seen : UnitState = record { config = o.config; unit = o.unit; kept = u.history.entries; folded = u.folded; image = shown } in
+    let seen : UnitState = record { config = o.config; unit = o.unit; kept = u.history.entries; folded = u.folded; image = shown; shares = shares_table (g.B.Blocks.blocks o.tables.blocks) (length o.tables.tokens.tokens) (shares_shown g.B.Pins.number (g.B.SharedVersions.shares o.tables.blocks) o.tables.tokens.tokens) } in
     rw (← c.self.view_is, c.in-Pump.is) (idle o.config o.unit past seen h _ c.args.id known (λ form. p.busy _ form c.args.id) c.args.copy)

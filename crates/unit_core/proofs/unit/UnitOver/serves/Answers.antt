@@ -3,7 +3,7 @@ use Rattle.std.specs.Prelude.{is_some, max}
 use Rattle.cm_base.specs.Units.{unit_of}
 use Rattle.cm_history.specs.Folding.{StandsFor}
 use Rattle.cm_history.specs.History.{past_of}
-use Rattle.unit_core.specs.UnitState.{Stands}
+use Rattle.unit_core.specs.UnitState.{Stands, answers_as}
 use Rattle.unit_core.specs.inner.Agreeing.{TablesAgree}
 use Rattle.unit_core.specs.inner.Shown.{image_shown}
 use Rattle.unit_core.proofs.Standing.{stands-own}
@@ -26,6 +26,6 @@ returns g c = λ h s.
     let limit = unit_of o.config o.unit in
     let own = stands-own o.config o.unit u.history.entries u.folded u.history.spare u.payload (g.B.Blocks.blocks o.tables.blocks) (g.B.Blocks.block_length o.tables.blocks) (g.B.Blocks.holds o.tables.blocks) (rods_of g.B.Pins.number (g.B.Blocks.block_length o.tables.blocks) (g.B.Blocks.shown o.tables.blocks) o.tables.tokens) o.tables.jobs o.last_stamp o.moment w t r in
     let shown = image_shown o.moment o.last_stamp (u.folded + length u.history.entries) (g.B.Blocks.blocks o.tables.blocks) (g.B.Blocks.holds o.tables.blocks) (rods_of g.B.Pins.number (g.B.Blocks.block_length o.tables.blocks) (g.B.Blocks.shown o.tables.blocks) o.tables.tokens).tokens o.tables.jobs in
-    let stood : StandsFor o.config o.unit shown u.history.entries u.folded h = rw (← c.self.view_is) at s in
+    let stood : StandsFor o.config o.unit shown u.history.entries u.folded h = rw (← c.self.view_is) at (answers_as c.args.self.now h s) in
     let p = c.standing_law.ensures shown u.history.entries u.folded h w stood own in
     rw (← c.self.view_is) (c.serves.ensures w t ∙ sym (p.serves c.args.actor c.args.act.now))
