@@ -15,7 +15,7 @@ use Rattle.cmd_program.specs.declared.step.Outcome.{Outcome}
 use Rattle.cmd_program.specs.Running.{Call, outcome_of}
 use Rattle.unit_core.specs.UnitState.{UnitState}
 use Rattle.unit_core.specs.Unfolded.{IsUnfolded, UnfoldedUnit, unfolded, past, is_full_at}
-use Rattle.unit_runs.specs.inner.Keeping.{KeepAll}
+use Rattle.unit_runs.specs.Keeping.{KeepAll}
 use Rattle.unit_runs.specs.Places.{Place, AreUnitsOf, IsFirst, with_entry, after_act, Leads, Led, StandsFor}
 
 -- one more call

@@ -22,7 +22,7 @@ impl Model for UnitRuns {
     ghost use Rattle.std.specs.Prelude.{◌≤◌, map};
     ghost use Rattle.unit_core.specs.Unfolded.{unfolded};
     ghost use Rattle.unit_runs.specs.Places.{Place, AreUnitsOf};
-    ghost use Rattle.unit_runs.specs.inner.Keeping.{KeepAll};
+    ghost use Rattle.unit_runs.specs.Keeping.{KeepAll};
 
     ghost Value = { Place };
 

@@ -11,7 +11,7 @@ use Rattle.unit_core.specs.Acting as acting
 use Rattle.unit_core.specs.Unfolded.{IsUnfolded, unfolded}
 use Rattle.unit_core.proofs.PublicLaws.{unfolded-after, unfolded-entry, unfolded-full, unfolded-grown}
 use Rattle.unit_runs.specs.Places.{Place, AreUnitsOf, StandsFor}
-use Rattle.unit_runs.specs.inner.Keeping.{KeepAll}
+use Rattle.unit_runs.specs.Keeping.{KeepAll}
 use Rattle.unit_runs.proofs.Leading.{unit-at, shown-at, shown-set, stamp-left, next-fits, keep-with, units-with, leads-answered, leads-refused, after-is, same-units, stands-more}
 use Rattle.unit_runs.proofs.runs.UnitRunsRuns.run.Goals as goal
 
