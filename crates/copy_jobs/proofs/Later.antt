@@ -8,6 +8,8 @@ use Rattle.copy_jobs.specs.declared.key.Key.{Key}
 use Rattle.copy_jobs.specs.declared.job.Job.{Job}
 use Rattle.copy_jobs.specs.Jobs.{has_key, has_ended, is_running, running, runs_as}
 use Rattle.copy_jobs.specs.Keys.{same_kind, same_key}
+use Rattle.copy_jobs.specs.Pieces.{is_background}
+use Rattle.copy_jobs.specs.Unended.{is_unended}
 use Rattle.copy_jobs.specs.Keeping.{is_other, without_first}
 use Rattle.copy_jobs.specs.Tables.{KeysApart}
 use Rattle.copy_jobs.proofs.Lists.{or_first, or_later}
@@ -53,6 +55,9 @@ place-later test (x ∷ xs) (suc n) of low none =
 
 pub runs-running : (key : Key) → OfRunning (runs_as key)
 runs-running key job e = and_first (is_running job) (has_key key job) e
+
+pub unended-runs : OfRunning is_unended
+unended-runs job e = and_first (is_running job) (not (is_background job.work)) e
 
 -- where none runs, there is none before the end
 pub none-run : (jobs : List Job) (n : ℕ) → length (running jobs) ≡ 0 → list_any is_running (take n jobs) ≡ false

@@ -10,6 +10,7 @@ ghost use Rattle.copy_jobs.specs.Keeping.{keep};
 ghost use Rattle.copy_jobs.specs.Changes.{change, with_work, moved_by, stopped_by, terminated, closed_by};
 ghost use Rattle.copy_jobs.specs.Pieces.{is_next, runs_in_background, next_length, IsNextPiece};
 ghost use Rattle.copy_jobs.specs.Reports.{report_of, result_of};
+ghost use Rattle.copy_jobs.specs.Unended.{unended};
 ghost use Rattle.copy_jobs.specs.inner.Steps.{stepped, MayStep};
 ghost use Rattle.copy_jobs.specs.Tables.{KeysApart};
 ghost use Rattle.copy_jobs.specs.inner.Tables.{IsJob};
@@ -100,6 +101,16 @@ impl JobTable {
         self.jobs
             .range(self.first_to_run()..)
             .any(|job| job.is_next(key))
+    }
+
+    /// The key of the operation that was kept first of those that run and that no pump writes: token operations in the
+    /// foreground, and copies. `None` where none runs so. It takes no memory.
+    pub fn unended(&self) -> Option<Key>
+        ensures { result ≡ unended self.now }
+    {
+        let mut later = self.jobs.range(self.first_to_run()..);
+        let job = later.find(|job| job.is_unended())?;
+        Some(job.key)
     }
 
     /// How many operations run, at most 64. It takes no memory.

@@ -270,3 +270,52 @@ fn room(rt: HostRuntime) -> Result<(), Fail> {
     assert!(rt; table.report(token(255)).is_some());
     Ok(())
 }
+
+/// Of a write in the background, a copy and a write in the foreground the copy is the first that its initiator has to
+/// end, and after it the write.
+#[test]
+fn unended(rt: HostRuntime) -> Result<(), Fail> {
+    let mut table = JobTable::new(rt.alloc());
+    assert!(rt; table.unended().is_none());
+    start(rt.alloc(), &mut table, token(1), true, 0, 3)?;
+    assert!(rt; table.unended().is_none());
+    assert!(rt; open(&mut table, copy(2))?);
+    start(rt.alloc(), &mut table, token(3), false, 10, 5)?;
+    assert!(rt;
+        matches!(
+            table.unended(),
+            Some(Key {
+                actor: 7,
+                copy: true,
+                id: 2
+            })
+        )
+    );
+    let key = copy(2);
+    if table.runs(key) {
+        table.close(
+            key,
+            CopyEnd {
+                state: CopyState::Terminated,
+                segments: 0,
+                bytes: 0,
+            },
+        );
+    }
+    assert!(rt;
+        matches!(
+            table.unended(),
+            Some(Key {
+                actor: 7,
+                copy: false,
+                id: 3
+            })
+        )
+    );
+    let key = token(3);
+    if table.runs(key) {
+        table.terminate(key);
+    }
+    assert!(rt; table.unended().is_none());
+    Ok(())
+}
