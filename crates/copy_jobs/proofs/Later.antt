@@ -1,5 +1,5 @@
 -- Where one that runs is looked for, and the newest job
-use Rattle.std.proofs.Common.{◌≡◌, ℕ, zero, suc, ◌+◌, ◌-◌, ◌<◌, ◌≤◌, List, [], ◌∷◌, length, take, drop, get_or, refl, ap, sym, ◌∙◌, arith, one-add, zero-add, true, false, Bool}
+use Rattle.std.proofs.Common.{◌≡◌, ℕ, zero, suc, ◌+◌, ◌-◌, ◌<◌, ◌≤◌, List, [], ◌∷◌, length, take, drop, get_or, refl, ap, sym, ◌∙◌, arith, zero-add, true, false, Bool}
 use Rattle.std.specs.Option.{option_map}
 use Rattle.std.specs.Prelude.{slice_range, Option, None, IsSome, OnSome, IfSome, IfNone, ◌&&◌, ◌==◌, ◌||◌, not, Some, find, filter, cond, if◌then◌else◌}
 use Rattle.std.specs.List.{list_any, position_or_len}
@@ -14,7 +14,7 @@ use Rattle.copy_jobs.specs.Keeping.{is_other, without_first}
 use Rattle.copy_jobs.specs.Tables.{KeysApart}
 use Rattle.copy_jobs.proofs.Lists.{or_first, or_later}
 use Rattle.copy_jobs.proofs.Counts.{one_if, running-more}
-use Rattle.copy_jobs.proofs.SameKeys.{same_key-sym, same_copy}
+use Rattle.copy_jobs.proofs.SameKeys.{same_copy}
 use Rattle.copy_jobs.proofs.Next.{other-key}
 use Rattle.cm_history.proofs.PublicLaws.{and_first, and_second}
 

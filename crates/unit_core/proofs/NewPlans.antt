@@ -25,7 +25,8 @@ use Rattle.unit_core.specs.declared.job_change.JobChange.{JobChange}
 use Rattle.token_pins.specs.declared.token_change.TokenChange.{TokenChange}
 use Rattle.unit_core.specs.inner.JobChanges.{MayJob}
 use Rattle.copy_jobs.specs.Jobs as jobs
-use Rattle.unit_core.specs.inner.Tables.{key_of, jobs_of}
+use Rattle.unit_core.specs.Keys.{key_of}
+use Rattle.unit_core.specs.inner.Tables.{jobs_of}
 use Rattle.unit_core.specs.inner.Planning.{quiet, IsPlan}
 use Rattle.unit_core.proofs.Jobs.{IsNexus, busy-is, crowded-is}
 use Rattle.unit_core.proofs.Planned.{IsKnown, own-of, refused-plan, populate-plan, start-plan, open-plan}

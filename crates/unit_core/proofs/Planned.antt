@@ -35,7 +35,8 @@ use Rattle.cm_history.specs.Asked.{AllAsked}
 use Rattle.unit_core.specs.inner.BlockChanges.{writings_of, MayChange}
 use Rattle.unit_core.specs.inner.JobChanges.{MayJob}
 use Rattle.unit_core.specs.inner.Seen.{ranges_made}
-use Rattle.unit_core.specs.inner.Tables.{key_of, kept_of, tokens_of, job_of, jobs_of}
+use Rattle.unit_core.specs.Keys.{key_of}
+use Rattle.unit_core.specs.inner.Tables.{kept_of, tokens_of, job_of, jobs_of}
 use Rattle.unit_core.specs.inner.Planning.{quiet, IsDeed, IsPlan}
 use Rattle.unit_core.proofs.Jobs.{IsNexus, IsOwn, all-own}
 use Rattle.unit_core.proofs.Keeping.{same-jobs, made-jobs}

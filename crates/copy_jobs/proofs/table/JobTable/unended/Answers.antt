@@ -1,6 +1,5 @@
-use Rattle.std.proofs.Common.{◌≡◌, List, ap, sym, ◌∙◌, arith, drop, rules, tests, refl}
+use Rattle.std.proofs.Common.{◌≡◌, List, sym, ◌∙◌, arith, drop, rules, tests, refl}
 use Rattle.std.specs.Prelude.{Some, None, find}
-use Rattle.std.specs.Option.{option_map}
 use Rattle.std.proofs.lemmas.Iterator.Search.{find_from_yields_List}
 use Rattle.std.proofs.lemmas.Iterator.Consumers.{YieldsList-from_deque}
 use Rattle.copy_jobs.specs.declared.job.Job.{Job}
