@@ -1,4 +1,4 @@
-ghost use Rattle.std.specs.Prelude.{◌≡◌, ◌≤◌, true, false};
+ghost use Rattle.std.specs.Prelude.{◌≡◌, ◌≤◌, ◌<◌, ◌^◌, true, false};
 
 use super::*;
 use cm_history::{CopyEnd, CopyState, OpReport, OpState};
@@ -20,7 +20,8 @@ fn token(id: u32) -> Key
 
 /// A copy of initiator 7.
 fn copy(id: u32) -> Key
-    ensures { result.copy ≡ true }
+    ensures copy { result.copy ≡ true }
+    ensures id { result.id ≡ id }
 {
     Key {
         actor: 7,
@@ -69,7 +70,8 @@ fn make(table: &mut JobTable, key: Key, serial: u64, blocks: u32) -> Result<bool
 
 /// Opens a copy. Whether there was room, and none of the key ran.
 fn open(table: &mut JobTable, key: Key) -> Result<bool, Fail>
-    requires { key.copy ≡ true }
+    requires copy { key.copy ≡ true }
+    requires byte { key.id < 2 ^ 8 }
 {
     if table.runs(key) || table.is_crowded() {
         return Ok(false);

@@ -1,5 +1,5 @@
 // The ends of operations, which take no memory, and what a unit shows of its tables.
-ghost use Rattle.std.specs.Prelude.{List, ◌≡◌, ◌<◌, ◌+◌, ◌-◌, ◌^◌, ◌++◌, ◌∷◌, ℕ, [], length, max, true};
+ghost use Rattle.std.specs.Prelude.{List, ◌≡◌, ◌<◌, ◌+◌, ◌-◌, ◌^◌, ◌++◌, ◌∷◌, ℕ, [], length, max, IfSome, true};
 ghost use Rattle.cm_history.specs.declared.act.Act.{Act};
 ghost use Rattle.cm_history.specs.declared.act.Actor.{Actor};
 ghost use Rattle.cm_history.specs.declared.act.Entry.{Entry};
@@ -111,7 +111,9 @@ where
     /// The key of the running operation that was made earliest of those that their initiator has still to end: token
     /// operations in the foreground, and copies. `None` where no such operation runs. It takes no memory.
     pub fn unended(&self) -> Option<Key>
-        ensures { (h : List Entry) → Stands self.now h → result ≡ unended_at self.now h }
+        ensures unended { (h : List Entry) → Stands self.now h → result ≡ unended_at self.now h }
+        // a copy has an identifier of one byte
+        ensures byte { IfSome result (λ key. key.copy ≡ true → key.id < 2 ^ 8) }
     {
         self.core.tables.jobs.unended()
     }

@@ -12,8 +12,8 @@ use Rattle.unit_core.proofs.Standing.{stands-own}
 use Rattle.unit_core.proofs.Unended.{unended-alike}
 use Rattle.unit_core.proofs.unit.UnitOver.unended.Goals as goal
 
-pub returns : goal.returns
-returns g c = λ h s.
+pub returns-clause-unended : goal.returns-clause-unended
+returns-clause-unended g c = λ h s.
     let u = c.self.inside in
     let o = u.core in
     let w = c.self.invariant.0 in
@@ -24,5 +24,5 @@ returns g c = λ h s.
     let stood : StandsFor o.config o.unit shown u.history.entries u.folded h = rw (← c.self.view_is) at (answers_as c.args.self.now h s) in
     let past = past_of o.config o.unit w in
     let other = past_of o.config o.unit h in
-    rw (← c.self.view_is) (c.unended.ensures ∙ ap unended t.jobs
+    rw (← c.self.view_is) (c.unended.ensures.unended ∙ ap unended t.jobs
     ∙ unended-alike o.config o.unit past other (past-is o.config o.unit w) (past-is o.config o.unit h) (ap (λ (i : Image). i.kept) (own.image ∙ sym stood.image)))
