@@ -5,7 +5,7 @@ use Rattle.std.specs.Option.{option_map}
 use Rattle.cm_base.specs.Configuration.{Configuration}
 use Rattle.cm_history.specs.Deeds.{Deed}
 use Rattle.cm_history.specs.Image.{OperationImage, operation_image}
-use Rattle.cm_history.specs.Operations.{Operation, Form, OfToken, OfCopy, form_of, is_background, is_running, is_running_as, is_running_copy, is_running_state, kept}
+use Rattle.cm_history.specs.Operations.{Operation, Form, OfToken, OfCopy, form_of, is_running, is_running_as, is_running_copy, is_running_state, kept}
 use Rattle.cm_history.proofs.PublicLaws.{IsPast, running_kept, find-filter, find-map, find-same}
 use Rattle.copy_jobs.specs.declared.key.Key.{Key}
 use Rattle.copy_jobs.specs.declared.job.Job.{Job}

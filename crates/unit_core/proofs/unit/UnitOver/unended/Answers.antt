@@ -1,4 +1,4 @@
-use Rattle.std.proofs.Common.{◌≡◌, ◌∙◌, ◌+◌, List, length, ap, sym}
+use Rattle.std.proofs.Common.{◌∙◌, ◌+◌, length, ap, sym}
 use Rattle.cm_history.specs.Folding.{StandsFor}
 use Rattle.cm_history.specs.History.{past_of}
 use Rattle.cm_history.specs.Image.{Image}
