@@ -3,5 +3,7 @@ pub mod Sharing
 pub mod VersionUnits
 pub mod UnitState
 pub mod Acting
+pub mod Keys
+pub mod Unended
 pub mod Unfolded
 pub mod inner

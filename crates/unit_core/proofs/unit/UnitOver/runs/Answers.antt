@@ -18,7 +18,8 @@ use Rattle.copy_jobs.specs.declared.key.Key.{Key}
 use Rattle.copy_jobs.specs.Jobs as jobs
 use Rattle.unit_core.specs.UnitState.{UnitState}
 use Rattle.unit_core.specs.Acting.{is_busy_at}
-use Rattle.unit_core.specs.inner.Tables.{key_of, jobs_of}
+use Rattle.unit_core.specs.Keys.{key_of}
+use Rattle.unit_core.specs.inner.Tables.{jobs_of}
 use Rattle.unit_core.proofs.Jobs.{IsNexus, busy-is}
 use Rattle.unit_core.proofs.Pumping.{pump-idle}
 use Rattle.unit_core.proofs.Planned.{IsKnown, own-of}
