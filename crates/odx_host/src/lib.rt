@@ -15,3 +15,6 @@ pub use fault::{Copied, CopyFault};
 pub use link_port::LinkPort;
 pub use port::{Port, PortFault};
 pub use stream_port::{StreamFault, copy_over};
+
+#[cfg(test)]
+mod tests;
