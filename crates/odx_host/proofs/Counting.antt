@@ -16,7 +16,7 @@ use Rattle.odx_host.specs.Parts.{Part, parts}
 use Rattle.odx_host.specs.Rule.{HostProgram, Asks, Ends, if_good, if_ok, token_by, token_of, is_done, polling, next_step, one_token, one_write, writing, copying, port_fault, moved, rule}
 use Rattle.odx_host.specs.Ruled.{AreAsked, after, EndsSo}
 use Rattle.odx_host.specs.Linked.{LinkState, IsCounted, Spoke}
-use Rattle.odx_host.specs.CopiedOver.{outcome_of, IsCopied, IsUnread, IsNoJob, IsReadCounted, HasCopied, AreCounted}
+use Rattle.odx_host.specs.CopiedOver.{outcome_of, IsCopied, IsUnread, IsNoJob, IsReadCounted, CopiedOver, AreCounted}
 
 -- ---- the rule ends by no fault of a port but one that it is answered
 
@@ -166,7 +166,7 @@ unread-counted (StreamFault.BadData step) front behind r r' w w' none c same = (
 unread-counted (StreamFault.Failed step) front behind r r' w w' none c same = (c, same)
 unread-counted (StreamFault.Polls step) front behind r r' w w' none c same = (c, same)
 
-pub copied-counted : (before last : LinkState) (result : Result Copied StreamFault) → HasCopied before last result
+pub copied-counted : (before last : LinkState) (result : Result Copied StreamFault) → CopiedOver before last result
     → AreCounted result before.read_faults last.read_faults before.write_faults last.write_faults
 copied-counted before last result h = go h.ended
   where

@@ -11,9 +11,10 @@ use Rattle.copy_plan.specs.declared.fault.JobFault.{JobFault}
 use Rattle.odx_host.specs.declared.stream_port.StreamFault.{StreamFault}
 use Rattle.odx_host.specs.declared.fault.Copied.{Copied}
 use Rattle.odx_host.specs.Linked.{LinkState}
-use Rattle.odx_host.specs.CopiedOver.{HasTalked, IsNoJob, IsReadCounted, HasCopied}
+use Rattle.odx_host.specs.CopiedOver.{HasTalked, IsNoJob, IsReadCounted, CopiedOver}
 use Rattle.odx_host.specs.inner.FrontJob.{IsFront}
 use Rattle.odx_host.proofs.Linking.{HasPulled, is-below, is-not-below}
+use Rattle.odx_host.proofs.Pushing.{talked-pushed}
 
 -- ---- a job that is not whole yet is no longer than a job can be
 
@@ -50,7 +51,7 @@ front-there answer left now before input rest p is = (p.0, p.1, subst (λ b. IsF
 
 -- there was no job
 pub unread-by : (before last : LinkState) (front : List ℕ) (fault : StreamFault) → Consumes before.left last.left front → IsNoJob fault front last.left
-    → IsReadCounted fault before.read_faults last.read_faults → last.taken ≡ before.taken → last.write_faults ≡ before.write_faults → HasCopied before last (Err fault)
+    → IsReadCounted fault before.read_faults last.read_faults → last.taken ≡ before.taken → last.write_faults ≡ before.write_faults → CopiedOver before last (Err fault)
 unread-by before last front fault pulled none reads taken writes = record {
   front = front;
   behind = last.left;
@@ -68,16 +69,23 @@ unread-by before last front fault pulled none reads taken writes = record {
 pub copied-by : (before last : LinkState) (behind : Option (List ℕ)) (front input : List ℕ) (job : CopyJob) (result : Result Copied StreamFault) (reads : ℕ)
     → Consumes before.left behind front → ((used : ℕ) × (read_job front ≡ Whole job used) × (input ≡ drop used front)) → reads ≡ before.read_faults
     → HasTalked job (record { left = behind; input = input; taken = before.taken; read_faults = reads; write_faults = before.write_faults }) last result
-    → HasCopied before last result
-copied-by before last behind front input job result reads pulled there same talked = record {
-  front = front;
-  behind = behind;
-  pulled = pulled;
-  ended = inr (record {
-    job = job;
-    used = there.0;
-    read = there.1;
-    talked = subst (λ x. HasTalked job (record { left = behind; input = x; taken = before.taken; read_faults = before.read_faults; write_faults = before.write_faults }) last result) there.2
-        (subst (λ r. HasTalked job (record { left = behind; input = input; taken = before.taken; read_faults = r; write_faults = before.write_faults }) last result) same talked);
-  });
-}
+    → CopiedOver before last result
+copied-by before last behind front input job result reads pulled there same talked =
+    let here : HasTalked job (record { left = behind; input = drop there.0 front; taken = before.taken; read_faults = before.read_faults; write_faults = before.write_faults }) last result =
+    subst (λ x. HasTalked job (record { left = behind; input = x; taken = before.taken; read_faults = before.read_faults; write_faults = before.write_faults }) last result) there.2
+    (subst (λ r. HasTalked job (record { left = behind; input = input; taken = before.taken; read_faults = r; write_faults = before.write_faults }) last result) same talked) in
+    let gave = talked-pushed job _ last result here in
+    record {
+      front = front;
+      behind = behind;
+      pulled = pulled;
+      ended = inr (record {
+        job = job;
+        used = there.0;
+        read = there.1;
+        talked = here;
+        pushed = gave.0;
+        given = gave.1;
+        frames = gave.2;
+      });
+    }

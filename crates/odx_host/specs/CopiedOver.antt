@@ -1,8 +1,9 @@
 -- A copy whose job and replies come from a source, and whose requests go to a sink
-use Rattle.std.specs.Prelude.{◌≡◌, ◌⊎◌, ℕ, List, drop, Option, Result, Ok, Err}
-use Rattle.std.specs.Io.KnownBytes.{Consumes, IsAtEnd}
-use Rattle.cm_base.specs.Outside.{Faulted}
+use Rattle.std.specs.Prelude.{◌≡◌, ◌⊎◌, ℕ, List, [], ◌∷◌, ◌++◌, drop, Option, Result, Ok, Err}
+use Rattle.std.specs.Io.KnownBytes.{Consumes, Appends, IsAtEnd}
+use Rattle.cm_base.specs.Outside.{Faulted, IsBeginning}
 use Rattle.cm_base.specs.declared.parsed.Parsed.TheVariants.{Whole, Short, Bad}
+use Rattle.cm_frame.specs.Grammar.{request_bytes}
 use Rattle.copy_plan.specs.Jobs.{CopyJob}
 use Rattle.copy_plan.specs.Reading.{read_job}
 use Rattle.odx_host.specs.declared.port.PortFault.{PortFault}
@@ -50,12 +51,26 @@ pub record HasTalked (job : CopyJob) (before after : LinkState) (result : Result
 abbrev pub waiting : Option (List ℕ) → List ℕ → LinkState → LinkState
 waiting left input before = record before { left = left; input = input }
 
+-- the frames of the requests
+abbrev pub frames_of : List Talked → List ℕ
+frames_of [] = []
+frames_of (t ∷ talk) = request_bytes t.request ++ frames_of talk
+
+-- all of the frames were pushed; where the sink failed or memory was wanted, a beginning of them
+abbrev pub ArePushed : Result Copied StreamFault → List ℕ → List ℕ → Type 0
+ArePushed (Err WriteFault) frames pushed = IsBeginning pushed frames
+ArePushed (Err OutOfMemory) frames pushed = IsBeginning pushed frames
+ArePushed result frames pushed = pushed ≡ frames
+
 -- a job stands at the front of the bytes, and behind it its copy was asked and answered
 pub record IsCopied (behind : Option (List ℕ)) (front : List ℕ) (before after : LinkState) (result : Result Copied StreamFault) : Type 0 where
   pub job : CopyJob
   pub used : ℕ
   pub read : read_job front ≡ Whole job used
   pub talked : HasTalked job (waiting behind (drop used front) before) after result
+  pub pushed : List ℕ
+  pub given : Appends before.taken after.taken pushed
+  pub frames : ArePushed result (frames_of talked.talk) pushed
 
 -- nothing was pushed, and no more was pulled
 pub record IsQuiet (behind : Option (List ℕ)) (before after : LinkState) : Type 0 where
@@ -85,7 +100,7 @@ pub record IsUnread (behind : Option (List ℕ)) (front : List ℕ) (before afte
   pub reads : IsReadCounted fault before.read_faults after.read_faults
 
 -- the bytes that were pulled for the job, behind which the source had these left, and what came of them
-pub record HasCopied (before after : LinkState) (result : Result Copied StreamFault) : Type 0 where
+pub record CopiedOver (before after : LinkState) (result : Result Copied StreamFault) : Type 0 where
   pub front : List ℕ
   pub behind : Option (List ℕ)
   pub pulled : Consumes before.left behind front

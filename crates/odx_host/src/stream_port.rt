@@ -1,6 +1,6 @@
 ghost use Rattle.std.specs.Prelude.{◌≡◌, ◌++◌, ℕ, List, []};
 ghost use Rattle.std.specs.Io.KnownBytes.{Consumes};
-ghost use Rattle.odx_host.specs.CopiedOver.{HasTalked, HasCopied, AreCounted};
+ghost use Rattle.odx_host.specs.CopiedOver.{HasTalked, CopiedOver, AreCounted};
 ghost use Rattle.odx_host.specs.inner.FrontJob.{IsFront, IsFrontCounted};
 
 use crate::copying::copy;
@@ -234,7 +234,7 @@ pub fn copy_over<I: Source, O: Sink>(
     source: &mut I,
     sink: &mut O,
 ) -> Result<Copied, StreamFault>
-    ensures copied { (rest : List ℕ) × HasCopied
+    ensures copied { (rest : List ℕ) × CopiedOver
         (record { left = I.left source.old; input = []; taken = O.taken sink.old; read_faults = I.read_faults source.old; write_faults = O.write_faults sink.old })
         (record { left = I.left source.new; input = rest; taken = O.taken sink.new; read_faults = I.read_faults source.new; write_faults = O.write_faults sink.new })
         result }
