@@ -1,13 +1,13 @@
-use Rattle.std.proofs.Common.{◌≡◌, ◌∙◌, ◌+◌, ◌≤◌, ◌<◌, ◌++◌, suc, length, ap, sym, subst, arith, refl}
+use Rattle.std.proofs.Common.{◌∙◌, ◌<◌, ◌++◌, length, ap, sym, subst, arith}
 use Rattle.std.specs.Prelude.{Ok, Err}
 use Rattle.std.proofs.lemmas.Result.{err_from_is_err_and}
 use Rattle.lba_ranges.specs.Denoted.{total}
 use Rattle.odx_host.specs.declared.copying.Host.{Host}
 use Rattle.odx_host.specs.Parts.{part_at, place_behind}
-use Rattle.odx_host.specs.Rule.{next_step, rule}
+use Rattle.odx_host.specs.Rule.{rule}
 use Rattle.odx_host.specs.Ruled.{IsRuled}
 use Rattle.odx_host.specs.inner.Steps.{CopiesOn, parts_to_come, steps_in}
-use Rattle.odx_host.proofs.Steps.{talking-also, talking-on}
+use Rattle.odx_host.proofs.Steps.{talking-on}
 use Rattle.odx_host.proofs.Identifiers.{steps-few}
 use Rattle.odx_host.proofs.Writing.{copies-on, copies-stop, copied-is, steps-next, part-ends}
 use Rattle.odx_host.proofs.copying.copy.Goals as goal
