@@ -1,4 +1,7 @@
 pub mod Steps
+pub mod UnitsOn
+pub mod UnitsDo
+pub mod Running
 pub mod Asking
 pub mod Lengths
 pub mod StatusBack

@@ -6,4 +6,5 @@ pub mod Parts
 pub mod Rule
 pub mod Ruled
 pub mod Linked
+pub mod Units
 pub mod inner

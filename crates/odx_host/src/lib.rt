@@ -7,8 +7,11 @@ mod link_port;
 mod port;
 mod requests;
 mod told;
+mod unit_port;
+mod units;
 
 pub use copying::copy;
 pub use fault::{Copied, CopyFault};
 pub use link_port::LinkPort;
 pub use port::{Port, PortFault};
+pub use unit_port::UnitPort;
