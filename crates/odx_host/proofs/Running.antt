@@ -223,19 +223,19 @@ module _ (config : Configuration) (start : List Entry) (s v : UnitsAt) (request 
     }
 
 -- an act was done, or there was no room for it
-pub come-on : {E : Type 0} (config : Configuration) (start : List Entry) (s v : UnitsAt) (request : Request) (before after : CommandOf AnyPhase) (left unit : ℕ) (act : Act) (outcome : Outcome)
+pub come-on : (E : Type 0) (config : Configuration) (start : List Entry) (s v : UnitsAt) (request : Request) (before after : CommandOf AnyPhase) (left unit : ℕ) (act : Act) (outcome : Outcome)
     → (come : HasCome config start s request before left) → Step.Do unit act ≡ step config host request (outcomes_of come.events)
-    → HasDone {E} config come.here unit act (Ok outcome) v → StandsFor by_any config after host request (outcomes_of come.events ++ outcome ∷ [])
+    → HasDone {E = E} config come.here unit act (Ok outcome) v → StandsFor by_any config after host request (outcomes_of come.events ++ outcome ∷ [])
     → HasCome config start v request after (left - 1)
-come-on {E} config start s v request before after left unit act (Outcome.Answered told) come asks done stands =
+come-on E config start s v request before after left unit act (Outcome.Answered told) come asks done stands =
     going config start s v request before after left unit act come asks (Outcome.Answered told) stands (come.here ++ done.0 ∷ []) done.3
     (grown-push config (come.here ++ done.0 ∷ []) (calls_in come.events) (call unit act (Outcome.Answered told)) start come.here (come.here ++ done.0 ∷ [])
     (grown-more config come.here (done.0 ∷ []) (calls_in come.events) start come.here come.grown)
     ([], done.0, done.1, done.2, ap (λ l. l ++ done.0 ∷ []) (append-nil come.here)))
-come-on {E} config start s v request before after left unit act Outcome.Full come asks done stands =
+come-on E config start s v request before after left unit act Outcome.Full come asks done stands =
     going config start s v request before after left unit act come asks Outcome.Full stands come.here done.1
     (grown-push config come.here (calls_in come.events) (call unit act Outcome.Full) start come.here come.here come.grown (done.0, refl))
-come-on {E} config start s v request before after left unit act Outcome.NoMemory come asks done stands = absurd done
+come-on E config start s v request before after left unit act Outcome.NoMemory come asks done stands = absurd done
 
 -- ---- behind the command
 
@@ -297,3 +297,9 @@ led-one p q t same memory runs = record {
 -- it is in some world
 pub of-stand : (p : UnitsBehind) → Stand p.config p.units → (w : World) × AreOf p w
 of-stand p stand = (world p.config stand.history, record { config = refl; nexus = refl; after = stand.after })
+
+-- from each world it led to another
+pub world-of : (p q : UnitsBehind) (t : Talked) → LedTo p (t ∷ []) q → (w : World) → AreOf p w → (v : World) × AreOf q v × IsAnsweredIn w v t
+world-of p q t led w is =
+    let l = led.leads w is in
+    (l.0, l.1, subst (λ x. IsAnsweredIn w x t) (sym l.2.2) l.2.1)

@@ -35,12 +35,12 @@ fn run(
     alloc: Global,
     config: &Config,
     units: &mut Units,
-    mut command: AnyCommand,
+    command: &mut AnyCommand,
 ) -> Result<Reply, PortFault>
-    requires sound { IsSoundAt IsSoundAny config.now command }
-    requires begun { MayRun config.now units.old command }
+    requires sound { IsSoundAt IsSoundAny config.now command.old }
+    requires begun { MayRun config.now units.old command.old }
     ensures ran { (history : List Entry) (request : Request) → AreAfter config.now history units.old
-        → StandsFor by_any config.now command host request []
+        → StandsFor by_any config.now command.old host request []
         → HasRun config.now history units.new (record { request = request; answer = result }) }
     ensures memory { IfErr result (λ fault. fault ≡ PortFault.OutOfMemory) }
 {
@@ -71,8 +71,8 @@ fn answer(
     ensures memory { IfErr result (λ fault. fault ≡ PortFault.OutOfMemory) }
 {
     let asked = copy_of(request)?;
-    let command = begin_any(alloc, config, NEXUS, asked)?;
-    run(alloc, config, units, command)
+    let mut command = begin_any(alloc, config, NEXUS, asked)?;
+    run(alloc, config, units, &mut command)
 }
 
 /// The units of a configuration as a port, all in one thread and at moment 0 (own profile). The host is their nexus 0.

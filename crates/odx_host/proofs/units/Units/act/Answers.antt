@@ -155,4 +155,3 @@ returns-in-Err-Full-clause-done c = λ config history h.
       full-by config history s items c.args.unit x by c.args.act have refl at own refl (c.in-Err-Full.ensures.full c.in-Err-Full.field-0-is x.kept own.stands),
       after-same config history s _ (ap (λ l. record s { units = l }) (same-list config history s items c.args.unit x by c.args.act have refl at own c.from.result y c.from.ensures c.in-Err-Full.ensures.refused)) have,
     )
-
