@@ -7,6 +7,9 @@ pub mod Lengths
 pub mod StatusBack
 pub mod Coming
 pub mod Linking
+pub mod Pushing
+pub mod FrontJobs
+pub mod Counting
 pub mod Ranges
 pub mod Writing
 pub mod Identifiers

@@ -8,4 +8,5 @@ pub mod Ruled
 pub mod Linked
 pub mod Copies
 pub mod Units
+pub mod CopiedOver
 pub mod inner

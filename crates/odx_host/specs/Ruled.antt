@@ -1,5 +1,5 @@
 -- A copy that follows its rule
-use Rattle.std.specs.Prelude.{◌≡◌, List, [], ◌∷◌, fold, Result, Ok, Err, ◌⊎◌}
+use Rattle.std.specs.Prelude.{◌≡◌, List, [], ◌∷◌, fold, Result, Err, ◌⊎◌}
 use Rattle.odx_host.specs.declared.fault.Copied.{Copied}
 use Rattle.odx_host.specs.declared.fault.CopyFault.{CopyFault}
 use Rattle.odx_host.specs.Talk.{Talked}

@@ -5,7 +5,9 @@ mod copying;
 mod fault;
 mod link_port;
 mod port;
+mod replies;
 mod requests;
+mod stream_port;
 mod told;
 mod unit_port;
 mod units;
@@ -15,3 +17,7 @@ pub use fault::{Copied, CopyFault};
 pub use link_port::LinkPort;
 pub use port::{Port, PortFault};
 pub use unit_port::UnitPort;
+pub use stream_port::{StreamFault, copy_over};
+
+#[cfg(test)]
+mod tests;
