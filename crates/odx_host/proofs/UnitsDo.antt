@@ -152,6 +152,7 @@ module _ (config : Configuration) (h : List Entry) (s : UnitsAt) (items : List U
             let had = after.own i d low mine in
             omega (arith, had);
         counted = after.asked ∙ ap (λ a. seq a h) (sym by);
+        moment = refl;
       })
       there (list ∙ list-of s.asked s.stamp place y is told number kept) by (omega arith) stamp asked pumped
 
@@ -169,6 +170,7 @@ module _ (config : Configuration) (h : List Entry) (s : UnitsAt) (items : List U
         late = omega arith;
         later = pump-later config h s (entry n stamp) after by (omega arith);
         counted = right ∙ ap (λ a. seq a h) (sym by);
+        moment = refl;
       })
       there (list ∙ list-of n stamp place y is told number kept) by same_stamp asked pumped
 

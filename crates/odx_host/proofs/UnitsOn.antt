@@ -17,7 +17,7 @@ use Rattle.cm_history.proofs.PublicLaws.{legal_push, same_actor-is, same_actor-s
 use Rattle.cmd_program.specs.Conversations.{last_stamp_of}
 use Rattle.cmd_program.specs.InHistory.{entries_by, is_by}
 use Rattle.unit_core.specs.Unfolded.{UnfoldedUnit}
-use Rattle.odx_host.specs.Units.{host, UnitsAt, seq, AreAfter}
+use Rattle.odx_host.specs.Units.{host, UnitsAt, seq, IsMadeHere, AreAfter}
 
 -- ---- lists
 
@@ -97,6 +97,7 @@ pub record MayCome (config : Configuration) (h : List Entry) (e : Entry) : Type 
   pub late : last_stamp (past_of config e.unit h) < e.stamp
   pub later : All (λ (x : Entry). same_actor x.actor e.actor ≡ true → x.stamp < e.stamp) h
   pub counted : e.seq ≡ seq e.actor h
+  pub moment : e.moment ≡ 0
 
 module _ (config : Configuration) (h : List Entry) (s v : UnitsAt) (e : Entry) (x : UnfoldedUnit) (after : AreAfter config h s) (may : MayCome config h e)
     (at : slice_get s.units e.unit ≡ Some x) (list : v.units ≡ slice_set s.units e.unit (record x { entries = x.entries ++ e ∷ [] })) where
@@ -161,6 +162,7 @@ module _ (config : Configuration) (h : List Entry) (s v : UnitsAt) (e : Entry) (
     count = count;
     each = each;
     legal = legal;
+    made = All-push IsMadeHere h e after.made (may.moment, inl actor);
     latest = latest;
     own = All-push (λ (y : Entry). same_actor y.actor (Actor.Nexus host) ≡ true → y.stamp ≤ v.stamp) h e
         (λ i d low same. let had = after.own i d low same in omega (arith, had, late, stamp))
@@ -185,6 +187,7 @@ module _ (config : Configuration) (h : List Entry) (s v : UnitsAt) (e : Entry) (
     count = count;
     each = each;
     legal = legal;
+    made = All-push IsMadeHere h e after.made (may.moment, inr actor);
     latest = latest;
     own = All-push (λ (y : Entry). same_actor y.actor (Actor.Nexus host) ≡ true → y.stamp ≤ v.stamp) h e
         (λ i d low same. let had = after.own i d low same in omega (arith, had, stamp))

@@ -1,5 +1,5 @@
 -- Units of which one nexus and the units' own pumps have acts done, one after the other
-use Rattle.std.specs.Prelude.{◌≡◌, ℕ, ◌<◌, ◌≤◌, List, [], ◌++◌, length, slice_get, slice_index, Some, All, IfErr, true, count_by}
+use Rattle.std.specs.Prelude.{◌≡◌, ◌⊎◌, ℕ, ◌<◌, ◌≤◌, List, [], ◌++◌, length, slice_get, slice_index, Some, All, IfErr, true, count_by}
 use Rattle.std.proofs.Common.{refl, sym, subst, arith}
 use Rattle.std.proofs.lemmas.List.Elements.{All-append}
 use Rattle.cm_base.specs.Configuration.{Configuration}
@@ -33,11 +33,16 @@ pub record UnitsAt : Type 0 where
 abbrev pub seq : Actor → List Entry → ℕ
 seq actor history = count_by (λ (e : Entry). same_actor e.actor actor) history
 
+-- the entry was made at moment 0, by the nexus or by its unit's pump
+abbrev pub IsMadeHere : Entry → Type 0
+IsMadeHere e = (e.moment ≡ 0) × ((e.actor ≡ Actor.Nexus host) ⊎ (e.actor ≡ Actor.Pump e.unit))
+
 -- each unit has done its part of a legal history
 pub record AreAfter (config : Configuration) (history : List Entry) (s : UnitsAt) : Type 0 where
   pub count : length s.units ≡ length config.units
   pub each : (u : ℕ) (x : UnfoldedUnit) → slice_get s.units u ≡ Some x → x ≡ record { config = config; unit = u; entries = on u history }
   pub legal : IsLegal config history
+  pub made : All IsMadeHere history
   -- a unit's latest entry has its greatest stamp, and so has that of the nexus
   pub latest : All (λ (e : Entry). e.stamp ≤ last_stamp (past_of config e.unit history)) history
   pub own : All (λ (e : Entry). same_actor e.actor (Actor.Nexus host) ≡ true → e.stamp ≤ s.stamp) history

@@ -28,6 +28,7 @@ returns c =
       count = length-map c.loop-unit.units.items unfolded ∙ count;
       each = shown-each c.loop-unit.units.items (λ u x. x ≡ record { config = c.args.config.now; unit = u; entries = [] }) (λ u x e. (c.loop-unit.invariant.1 u x e).0);
       legal = search rules;
+      made = search rules;
       latest = search rules;
       own = search rules;
       stamp = refl;
