@@ -9,11 +9,14 @@ mod replies;
 mod requests;
 mod stream_port;
 mod told;
+mod unit_port;
+mod units;
 
 pub use copying::copy;
 pub use fault::{Copied, CopyFault};
 pub use link_port::LinkPort;
 pub use port::{Port, PortFault};
+pub use unit_port::UnitPort;
 pub use stream_port::{StreamFault, copy_over};
 
 #[cfg(test)]
