@@ -17,3 +17,5 @@ pub use Rattle.cm_history.proofs.ImageBlocks.{both, read-same, status-same, writ
 pub use Rattle.cm_history.proofs.ImageOperations.{same_form-self}
 pub use Rattle.cm_history.proofs.ImageRoom.{some-map, sum-filter, sum-map, sum-same, whole-pieces}
 pub use Rattle.cm_history.proofs.TokenLaw.{token_law}
+pub use Rattle.cm_history.proofs.FoldLaw.{writings-image}
+pub use Rattle.cm_history.proofs.Imaging.{writings_by}

@@ -276,8 +276,7 @@ impl Needed {
         self.acts = self.acts.saturating_add(1);
         self.moment = self.moment.max(entry.moment);
         let moment = self.moment;
-        self.tokens
-            .retain(|token| moment <= token.last_use.saturating_add(token.timeout));
+        self.tokens.retain(|token| moment <= token.last_use.saturating_add(token.timeout));
         match answer {
             Answer::Done => self.note_done(alloc, entry),
             Answer::Progress { state, count } => {
@@ -285,8 +284,11 @@ impl Needed {
             }
             Answer::Made { serial } => {
                 if let Act::Populate {
-                    timeout, ranges, ..
-                } = &entry.act {
+                    timeout,
+                    ranges,
+                    ..
+                } = &entry.act
+                {
                     self.freeze(alloc, *serial, *timeout, ranges)?;
                 }
                 Ok(())
