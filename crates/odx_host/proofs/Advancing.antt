@@ -1,5 +1,5 @@
 -- How a copy goes on over units that tell what they do
-use Rattle.std.proofs.Common.{◌≡◌, ℕ, ◌≤◌, List, [], ◌∷◌, ◌++◌, length, length-append, refl, ap, sym, ◌∙◌, subst, arith, append-nil, append_assoc}
+use Rattle.std.proofs.Common.{◌≡◌, ℕ, List, [], ◌∷◌, ◌++◌, refl, ap, sym, ◌∙◌, subst, append-nil, append_assoc}
 use Rattle.std.specs.Prelude.{Result, Ok, Err}
 use Rattle.cm_base.specs.Configuration.{Configuration}
 use Rattle.cm_frame.specs.declared.frame.Request.{Request}
@@ -14,7 +14,7 @@ use Rattle.odx_host.specs.declared.port.PortFault.{PortFault}
 use Rattle.odx_host.specs.declared.fault.Copied.{Copied}
 use Rattle.odx_host.specs.declared.fault.CopyFault.{CopyFault}
 use Rattle.odx_host.specs.Talk.{Talked}
-use Rattle.odx_host.specs.Worlds.{World, GrowsBy, Grows, IsReplied, IsAnsweredIn, Passed}
+use Rattle.odx_host.specs.Worlds.{World, GrowsBy, Grows, IsReplied, Passed}
 use Rattle.odx_host.specs.Rule.{HostProgram, Asks, Ends, moved, if_good, port_fault}
 use Rattle.odx_host.specs.Ruled.{AreAsked, after}
 use Rattle.odx_host.specs.Copies.{Copies}

@@ -1,22 +1,19 @@
 -- A write of a token that was done
-use Rattle.std.proofs.Common.{◌≡◌, ℕ, ◌+◌, ◌-◌, ◌<◌, ◌≤◌, ◌^◌, List, [], ◌∷◌, ◌++◌, length, length-append, length-drop, take, drop, refl, ap, sym, ◌∙◌, subst, arith, true, false, Bool, append_assoc, min}
-use Rattle.std.specs.Prelude.{Result, Ok, Err, Some, None, slice_range, map, IsTrue}
-use Rattle.std.proofs.lemmas.List.{length-take, length-map}
+use Rattle.std.proofs.Common.{◌≡◌, ℕ, ◌+◌, ◌-◌, ◌<◌, ◌≤◌, ◌^◌, List, [], ◌∷◌, ◌++◌, length, length-append, length-drop, take, drop, refl, ap, sym, ◌∙◌, subst, arith, true, false, Bool, append_assoc}
+use Rattle.std.specs.Prelude.{Result, slice_range, map, IsTrue}
+use Rattle.std.proofs.lemmas.List.{length-take}
 use Rattle.lba_ranges.specs.declared.ranges.Range.{Range}
 use Rattle.lba_ranges.specs.Denoted.{blocks_of, total}
 use Rattle.lba_ranges.specs.HeldBlocks.{HeldBlocks}
 use Rattle.lba_ranges.specs.Writings.{Held, paired}
-use Rattle.lba_ranges.proofs.PublicLaws.{length-blocks_of}
-use Rattle.cm_base.specs.Units.{unit_of, is_configured}
+use Rattle.cm_base.specs.Units.{is_configured}
 use Rattle.scsi_sense.specs.Codes.{logical_unit_not_supported}
-use Rattle.rod_token.specs.TokenText.{token_text, classify, serial_of}
-use Rattle.cm_history.specs.declared.act.Act.{Act}
+use Rattle.rod_token.specs.TokenText.{classify, serial_of}
 use Rattle.cm_history.specs.declared.act.Entry.{Entry}
-use Rattle.cm_history.specs.Blocks.{held, cut}
+use Rattle.cm_history.specs.Blocks.{held}
 use Rattle.cm_history.specs.History.{on, past_of}
 use Rattle.cm_history.specs.Laws.{place_on}
 use Rattle.cm_history.specs.Legal.{IsLegal}
-use Rattle.cm_history.specs.Operations.{list_of}
 use Rattle.cm_history.proofs.PublicLaws.{length-past}
 use Rattle.cmd_program.specs.Judging.{program}
 use Rattle.cmd_program.specs.TokenWrite.{TokenWrite, rod_part, write_by}
@@ -33,12 +30,11 @@ use Rattle.odx_host.proofs.Ran.{RanIn, never-refused}
 use Rattle.odx_host.proofs.Programs.{MayName, write-program, not-there}
 use Rattle.odx_host.proofs.Telling.{length-text}
 use Rattle.odx_host.proofs.Redeeming.{at-whole, take-whole, text-names, text-serial, rod-shown}
-use Rattle.odx_host.proofs.Starting.{Begun, Started, write-begun}
-use Rattle.odx_host.proofs.Leaving.{Leaves}
+use Rattle.odx_host.proofs.Starting.{write-begun}
 use Rattle.odx_host.proofs.Work.{work}
 use Rattle.odx_host.proofs.Polled.{poll-on}
 use Rattle.odx_host.proofs.Populating.{HasToken}
-use Rattle.odx_host.proofs.Advancing.{Remains, remains-longer, by-outcome, ask-on}
+use Rattle.odx_host.proofs.Advancing.{Remains, remains-longer, ask-on}
 
 -- the nexus began a write, which gave the blocks of these ranges the items from an offset on
 pub record HasWritten (v : World) (n unit : ℕ) (ranges : List Range) (items : List Held) (offset : ℕ) : Type 0 where
@@ -67,7 +63,6 @@ place-is v unit front behind e whole =
 
 module _ (job : CopyJob) (w v : World) (outcome : Result Copied CopyFault) (legal : IsLegal v.config v.history) (n source made_id unit id : ℕ) (parts ranges : List Range)
     (low : id < 2 ^ 32) (named : MayName ranges) (few : total ranges ≤ 1_048_576) (creator : source < 2 ^ 16) where
-
   pub write-on : (token : List ℕ) (offset : ℕ) (delete : Bool) (next : HostProgram) (polls : ℕ) (talk : List Talked) (h : List Entry) → n ≤ length h
       → (t : HasToken v n source made_id parts (length h) token) → offset < 2 ^ 64
       → AreAsked (Asks (write_request unit id token offset delete ranges) (if_good id (λ none. polling unit id (total ranges) next polls))) talk

@@ -1,5 +1,5 @@
 -- The requests of a host are read as what they are
-use Rattle.std.proofs.Common.{◌≡◌, ℕ, ◌<◌, ◌^◌, ap, ◌∙◌, arith, length, Ok}
+use Rattle.std.proofs.Common.{◌≡◌, ℕ, ◌<◌, ◌^◌, ap, ◌∙◌, Ok}
 use Rattle.cm_base.specs.Fields.{field}
 use Rattle.cm_base.proofs.PublicLaws.{number-back}
 use Rattle.scsi_cdb.specs.declared.cdb.Cdb.{Cdb}

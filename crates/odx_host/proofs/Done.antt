@@ -1,10 +1,10 @@
 -- A copy whose operations wrote all blocks
-use Rattle.std.proofs.Common.{◌≡◌, ℕ, zero, suc, ◌+◌, ◌-◌, ◌<◌, ◌≤◌, List, [], ◌∷◌, ◌++◌, length, length-append, take, refl, ap, sym, ◌∙◌, subst, arith, true, false, Bool, append_assoc}
+use Rattle.std.proofs.Common.{◌≡◌, ℕ, zero, suc, ◌-◌, ◌≤◌, List, [], ◌∷◌, ◌++◌, length, length-append, take, refl, ap, sym, ◌∙◌, arith}
 use Rattle.std.specs.Prelude.{Some, map, flat_map, IsTrue, ◌==◌}
 use Rattle.std.proofs.lemmas.List.{length-map, take_all}
 use Rattle.std.proofs.lemmas.List.Elements.{filter-append}
 use Rattle.lba_ranges.specs.Denoted.{blocks_of, total}
-use Rattle.lba_ranges.specs.Writings.{Held, Writing, paired, is_written}
+use Rattle.lba_ranges.specs.Writings.{paired, is_written}
 use Rattle.lba_ranges.proofs.PublicLaws.{length-blocks_of}
 use Rattle.cm_history.specs.declared.act.Entry.{Entry}
 use Rattle.cm_history.specs.Deeds.{Deed}
@@ -13,11 +13,11 @@ use Rattle.cm_history.specs.Blocks.{held}
 use Rattle.cm_history.specs.History.{on, past_of}
 use Rattle.cm_history.specs.Laws.{past_at, place_on, deed_at}
 use Rattle.cm_history.specs.Tokens.{is_populate}
-use Rattle.cm_history.proofs.PublicLaws.{In, Each, Each-in, Each-by, Each-map, Each-all, In-map, In-contains, contains-in, length-past}
+use Rattle.cm_history.proofs.PublicLaws.{Each, Each-in, Each-by, Each-map, Each-all, In-map, In-contains, contains-in, length-past}
 use Rattle.copy_plan.specs.Jobs.{CopyJob, AreExtents}
 use Rattle.odx_host.specs.declared.fault.Copied.{Copied}
 use Rattle.odx_host.specs.Worlds.{World}
-use Rattle.odx_host.specs.Copies.{Placed, IsOwn, is_start, blocks_in, rod_of, written_of, IsAlone, ServesOne, HasCopied}
+use Rattle.odx_host.specs.Copies.{Placed, IsOwn, is_start, blocks_in, rod_of, written_of, IsAlone, HasCopied}
 use Rattle.odx_host.proofs.Redeeming.{at-whole, take-whole}
 use Rattle.odx_host.proofs.Work.{work}
 use Rattle.odx_host.proofs.Holds.{OnlyThese, blocks-hold}

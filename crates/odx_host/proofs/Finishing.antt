@@ -1,6 +1,6 @@
 -- A write that has ended well
-use Rattle.std.proofs.Common.{◌≡◌, ℕ, ◌+◌, ◌<◌, ◌≤◌, List, [], ◌∷◌, ◌++◌, length, length-append, take, refl, ap, sym, ◌∙◌, subst, arith, true, false, Bool, inl, inr, ◌⊎◌, append-nil, append_assoc}
-use Rattle.std.specs.Prelude.{Option, Some, None, ◌==◌, cond, find, IfSome, Result, Ok, Err}
+use Rattle.std.proofs.Common.{◌≡◌, ℕ, List, [], ◌∷◌, ◌++◌, length, length-append, take, refl, ap, sym, ◌∙◌, subst, arith, true, false, Bool, inl, inr, ◌⊎◌, append-nil, append_assoc}
+use Rattle.std.specs.Prelude.{Some, ◌==◌, cond, find}
 use Rattle.std.proofs.lemmas.Bool.{cases_eq, eq-eqb, eqb-true}
 use Rattle.std.proofs.lemmas.List.{take_all}
 use Rattle.lba_ranges.specs.declared.ranges.Range.{Range}
@@ -11,18 +11,13 @@ use Rattle.scsi_sense.specs.Codes.{space_allocation_failed}
 use Rattle.cm_history.specs.declared.act.Act.{Act}
 use Rattle.cm_history.specs.declared.act.Entry.{Entry}
 use Rattle.cm_history.specs.declared.answer.OpState.{OpState}
-use Rattle.cm_history.specs.declared.answer.OpReport.{OpReport}
 use Rattle.cm_history.specs.Deeds.{Deed}
 use Rattle.cm_history.specs.Answers.{deed}
 use Rattle.cm_history.specs.History.{past_of}
 use Rattle.cm_history.specs.Operations.{Operation, operations, operation_after, serves, written, list_of, state_of, was_stopped, was_ended}
-use Rattle.cm_history.proofs.PublicLaws.{In, Each-in, IsBegun, begun, find-in, find-some, find-passes, made-after, past-is, past_of-mine, past_of-other, apart, same_place}
-use Rattle.odx_host.specs.declared.fault.CopyFault.{CopyFault}
-use Rattle.odx_host.specs.StatusRead.{Information, information_read}
-use Rattle.odx_host.specs.Rule.{is_done}
+use Rattle.cm_history.proofs.PublicLaws.{In, Each-in, IsBegun, begun, find-in, find-some, made-after, past-is, past_of-mine, past_of-other, apart, same_place}
 use Rattle.odx_host.proofs.Work.{work, found-step}
 use Rattle.odx_host.specs.Copies.{begins_at, written_if}
-use Rattle.odx_host.proofs.Telling.{information}
 
 -- ---- the operation of a Start, later
 

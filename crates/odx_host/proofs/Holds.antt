@@ -1,5 +1,5 @@
 -- What blocks hold that only the operations of a copy have written
-use Rattle.std.proofs.Common.{◌≡◌, ℕ, ◌+◌, ◌<◌, ◌≤◌, List, [], ◌∷◌, ◌++◌, length, length-append, refl, ap, sym, ◌∙◌, subst, arith, true, false, Bool, inl, inr, ◌⊎◌, append-nil, append_assoc}
+use Rattle.std.proofs.Common.{◌≡◌, ℕ, ◌≤◌, List, [], ◌∷◌, ◌++◌, length, length-append, refl, ap, sym, ◌∙◌, subst, arith, true, false, Bool, inl, inr, ◌⊎◌, append-nil, append_assoc}
 use Rattle.std.specs.Prelude.{Option, Some, None, ◌==◌, ◌||◌, cond, map, flat_map}
 use Rattle.std.proofs.lemmas.Bool.{cases_eq, eq-eqb}
 use Rattle.cm_base.specs.Configuration.{Configuration}
@@ -12,7 +12,7 @@ use Rattle.cm_history.specs.Blocks.{held}
 use Rattle.cm_history.specs.Answers.{deed}
 use Rattle.cm_history.specs.History.{past_of}
 use Rattle.cm_history.proofs.PublicLaws.{In, Each, Each-in, Each-by, past-is, past_of-mine, past_of-other, map-same, In-append, In-append_right}
-use Rattle.odx_host.proofs.Given.{given, own-given, map-given, all-given, paired-written, written-append, written-in}
+use Rattle.odx_host.proofs.Given.{given, own-given, map-given, all-given, paired-written, written-append}
 use Rattle.odx_host.proofs.Work.{work, shared, work-step, work-none, work-more}
 
 In-flat : (f : ℕ → List Writing) (ps : List ℕ) (p : ℕ) (w : Writing) → In p ps → In w (f p) → In w (flat_map f ps)

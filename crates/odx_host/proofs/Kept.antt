@@ -1,6 +1,6 @@
 -- The record that a unit keeps of the latest operation of a key
 use Rattle.std.proofs.Common.{◌≡◌, ℕ, List, [], ◌∷◌, ◌++◌, refl, ap, sym, ◌∙◌, subst, true, false, Bool, inl, inr, ◌⊎◌, append-nil, append_assoc}
-use Rattle.std.specs.Prelude.{Some, ◌&&◌, ◌==◌, not, filter, map, if◌then◌else◌}
+use Rattle.std.specs.Prelude.{◌&&◌, ◌==◌, not, filter, map, if◌then◌else◌}
 use Rattle.std.proofs.lemmas.Bool.{cases_eq}
 use Rattle.cm_base.specs.Configuration.{Configuration}
 use Rattle.cm_history.specs.declared.act.Actor.{Actor}
@@ -9,7 +9,7 @@ use Rattle.cm_history.specs.Deeds.{Deed, same_actor, is_answered}
 use Rattle.cm_history.specs.Answers.{deed}
 use Rattle.cm_history.specs.History.{past_of}
 use Rattle.cm_history.specs.Operations.{Operation, Form, same_form, form_of, id_of, has_key, has_ended, same_key, operation_after, made_operation, makes_operation, is_making, with_room, keep, kept}
-use Rattle.cm_history.proofs.PublicLaws.{In, Each, Each-by, Each-in, Each-append, Each-map, In-filter, IsPast, made-after, keys-apart, same-record, past_of-mine, past_of-other, past-is, with_room_in, and_first, In-append_right}
+use Rattle.cm_history.proofs.PublicLaws.{In, Each, Each-by, Each-in, Each-append, Each-map, In-filter, IsPast, made-after, keys-apart, same-record, past_of-mine, past_of-other, with_room_in, and_first, In-append_right}
 use Rattle.cmd_program.specs.InHistory.{is_by}
 
 -- each record of the key is of this deed

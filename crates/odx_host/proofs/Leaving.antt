@@ -1,20 +1,18 @@
 -- An entry of the nexus that makes an operation, and the quiet ones behind it
-use Rattle.std.proofs.Common.{◌≡◌, ℕ, ◌+◌, ◌<◌, ◌≤◌, List, [], ◌∷◌, ◌++◌, length, refl, ap, sym, ◌∙◌, subst, arith, true, false, Bool, inl, inr, append-nil, append_assoc, length-append}
-use Rattle.std.specs.Prelude.{Some, None, Option, ◌&&◌, ◌==◌, not, filter, cond, find, take}
+use Rattle.std.proofs.Common.{◌≡◌, ℕ, ◌≤◌, List, [], ◌∷◌, ◌++◌, length, refl, ap, sym, ◌∙◌, subst, arith, true, false, Bool, inl, inr, append_assoc, length-append}
+use Rattle.std.specs.Prelude.{Some, None, Option, ◌&&◌, ◌==◌, not, cond, find, take}
 use Rattle.std.proofs.lemmas.Bool.{eq-eqb}
 use Rattle.cm_base.specs.Configuration.{Configuration}
-use Rattle.cm_frame.specs.declared.frame.Reply.{Reply}
 use Rattle.cm_history.specs.declared.act.Act.{Act}
 use Rattle.cm_history.specs.declared.act.Actor.{Actor}
 use Rattle.cm_history.specs.declared.act.Entry.{Entry}
-use Rattle.cm_history.specs.declared.answer.Answer.{Answer}
 use Rattle.cm_history.specs.Deeds.{Deed, is_refusal, is_answered, same_actor}
 use Rattle.cm_history.specs.Answers.{deed, answer_report, report_of}
 use Rattle.cm_history.specs.History.{answer, past_of}
 use Rattle.cm_history.specs.Operations.{Operation, OfToken, same_form, form_of, id_of, has_key, made_operation, makes_operation, is_making, kept, operations}
 use Rattle.cm_history.proofs.PublicLaws.{In, Each, Each-append, Each-in, find-in, find-passes, past_of-mine, past-is, kept_in}
 use Rattle.cmd_program.specs.InHistory.{entries_by, is_by}
-use Rattle.cmd_program.specs.Program.{Program, ask_then, unless_refused}
+use Rattle.cmd_program.specs.Program.{ask_then}
 use Rattle.cmd_program.specs.SingleActs.{act_alone, told_token}
 use Rattle.cmd_program.specs.AnswerBytes.{report_token_bytes}
 use Rattle.cmd_program.specs.Program.{done}

@@ -1,7 +1,7 @@
 -- Blocks and their items, part by part
-use Rattle.std.proofs.Common.{◌≡◌, ℕ, zero, suc, ◌+◌, ◌-◌, ◌<◌, ◌≤◌, List, [], ◌∷◌, ◌++◌, length, take, drop, refl, ap, sym, ◌∙◌, subst, arith, append_assoc, append-nil}
-use Rattle.std.specs.Prelude.{flat_map, map}
-use Rattle.lba_ranges.specs.Writings.{Held, Writing, paired}
+use Rattle.std.proofs.Common.{◌≡◌, ℕ, zero, suc, ◌+◌, ◌≤◌, List, [], ◌∷◌, ◌++◌, length, take, drop, refl, ap, sym, ◌∙◌, arith, append_assoc, append-nil}
+use Rattle.std.specs.Prelude.{flat_map}
+use Rattle.lba_ranges.specs.Writings.{Held, paired}
 
 -- the first blocks, and the next ones
 pub paired-more : (q n : ℕ) (bs : List ℕ) (xs : List Held) → q ≤ length bs → q ≤ length xs

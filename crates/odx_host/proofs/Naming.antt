@@ -1,16 +1,15 @@
 -- The ranges of the parts and of the writes may be named
-use Rattle.std.proofs.Common.{◌≡◌, ℕ, zero, suc, ◌+◌, ◌-◌, ◌<◌, ◌≤◌, ◌^◌, List, [], ◌∷◌, ◌++◌, length, take, drop, refl, ap, sym, ◌∙◌, subst, arith, true, false, Bool, inl, inr, ◌⊎◌, min}
-use Rattle.std.specs.Prelude.{nat_lt, slice_range, All}
+use Rattle.std.proofs.Common.{◌≡◌, ℕ, ◌+◌, ◌-◌, ◌<◌, ◌≤◌, ◌^◌, List, [], ◌∷◌, take, drop, ap, sym, ◌∙◌, subst, arith, true, false, inl, inr, ◌⊎◌, min}
+use Rattle.std.specs.Prelude.{nat_lt, All}
 use Rattle.std.proofs.lemmas.Bool.{cases_lt}
 use Rattle.std.proofs.lemmas.Bool.Decides.{nat_tests}
 use Rattle.std.proofs.lemmas.List.Elements.{All-head, All-tail}
 use Rattle.std.proofs.lemmas.List.Sums.{sum_by-cons}
 use Rattle.lba_ranges.specs.declared.ranges.Range.{Range}
 use Rattle.lba_ranges.specs.Denoted.{blocks_of, total}
-use Rattle.lba_ranges.proofs.PublicLaws.{length-blocks_of}
 use Rattle.cm_history.proofs.PublicLaws.{Each, Each-all, Each-append}
 use Rattle.copy_plan.specs.Jobs.{IsExtent, AreExtents}
-use Rattle.copy_plan.specs.Plans.{range_between, ranges_between, longest_run, IsLongestRun}
+use Rattle.copy_plan.specs.Plans.{range_between, ranges_between, longest_run}
 use Rattle.copy_plan.proofs.PublicLaws.{run-between, run-few, run-longest, blocks-between}
 use Rattle.odx_host.proofs.Ranges.{slice-apart, legal-ranges}
 use Rattle.odx_host.proofs.Programs.{MayName}

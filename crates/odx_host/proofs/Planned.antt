@@ -1,6 +1,6 @@
 -- A copy makes as many tokens as its plan has parts
-use Rattle.std.proofs.Common.{◌≡◌, ℕ, zero, suc, ◌+◌, ◌-◌, ◌<◌, ◌≤◌, List, [], ◌∷◌, ◌++◌, length, refl, ap, sym, ◌∙◌, subst, arith, true, false, Bool, inl, inr}
-use Rattle.std.specs.Prelude.{Result, Ok, Err, Option, Some, None, nat_lt, cond}
+use Rattle.std.proofs.Common.{◌≡◌, ℕ, zero, suc, ◌+◌, ◌-◌, ◌≤◌, List, [], ◌∷◌, length, refl, ap, sym, ◌∙◌, subst, arith, true, false, Bool, inl, inr}
+use Rattle.std.specs.Prelude.{Result, Ok, Err, nat_lt, cond}
 use Rattle.std.proofs.lemmas.Bool.{ltb-true, ltb-false}
 use Rattle.lba_ranges.specs.declared.ranges.Range.{Range}
 use Rattle.lba_ranges.specs.Denoted.{total}
@@ -13,10 +13,10 @@ use Rattle.odx_host.specs.declared.port.PortFault.{PortFault}
 use Rattle.odx_host.specs.declared.fault.Copied.{Copied}
 use Rattle.odx_host.specs.declared.fault.CopyFault.{CopyFault}
 use Rattle.odx_host.specs.Talk.{Talked}
-use Rattle.odx_host.specs.StatusRead.{Information, information_read}
-use Rattle.odx_host.specs.Parts.{Part, HasPlanned, parts, parts_from, part_at, ranges_at, place_behind}
+use Rattle.odx_host.specs.StatusRead.{information_read}
+use Rattle.odx_host.specs.Parts.{Part, HasPlanned, parts, parts_from, ranges_at, place_behind}
 use Rattle.odx_host.specs.Requests.{populate_request, status_request, write_request}
-use Rattle.odx_host.specs.Rule.{HostProgram, Asks, Ends, moved, if_good, if_ok, ask_status, token_of, populating, is_done, polling, writing, copying, next_step, one_token, one_write, is_last, rule}
+use Rattle.odx_host.specs.Rule.{HostProgram, Asks, Ends, moved, if_good, if_ok, ask_status, token_of, is_done, polling, writing, copying, next_step, one_token, one_write, is_last, rule}
 use Rattle.odx_host.specs.Ruled.{AreAsked, after, EndsSo, IsRuled}
 use Rattle.odx_host.proofs.Coming.{run-some}
 

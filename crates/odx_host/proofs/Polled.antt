@@ -1,14 +1,13 @@
 -- A write that is polled
-use Rattle.std.proofs.Common.{◌≡◌, ℕ, zero, suc, ◌+◌, ◌<◌, ◌≤◌, ◌^◌, List, [], ◌∷◌, ◌++◌, length, length-append, refl, ap, sym, ◌∙◌, subst, arith, true, false, Bool, append_assoc}
-use Rattle.std.specs.Prelude.{Result, Ok, Err, Some, None, Option, IfSome, cond, take, ◌==◌}
+use Rattle.std.proofs.Common.{◌≡◌, ℕ, zero, suc, ◌<◌, ◌≤◌, ◌^◌, List, ◌∷◌, ◌++◌, length, length-append, refl, ap, sym, ◌∙◌, subst, arith, true, false, Bool, append_assoc}
+use Rattle.std.specs.Prelude.{Result, Ok, Err, Some, None, cond, take, ◌==◌}
 use Rattle.std.proofs.lemmas.Bool.{eq-eqb}
 use Rattle.lba_ranges.specs.declared.ranges.Range.{Range}
 use Rattle.lba_ranges.specs.Denoted.{blocks_of, total}
 use Rattle.lba_ranges.specs.HeldBlocks.{HeldBlocks}
 use Rattle.lba_ranges.proofs.PublicLaws.{length-blocks_of}
 use Rattle.cm_base.specs.Units.{unit_of, is_configured}
-use Rattle.scsi_sense.specs.Codes.{space_allocation_failed, logical_unit_not_supported}
-use Rattle.cm_frame.specs.declared.frame.Request.{Request}
+use Rattle.scsi_sense.specs.Codes.{logical_unit_not_supported}
 use Rattle.cm_history.specs.declared.act.Act.{Act}
 use Rattle.cm_history.specs.declared.act.Entry.{Entry}
 use Rattle.cm_history.specs.declared.answer.OpState.{OpState}
@@ -16,7 +15,7 @@ use Rattle.cm_history.specs.declared.answer.OpReport.{OpReport}
 use Rattle.cm_history.specs.Answers.{deed, answer_after, report_of}
 use Rattle.cm_history.specs.Deeds.{Deed}
 use Rattle.cm_history.specs.History.{past_of}
-use Rattle.cm_history.specs.Operations.{Operation, OfToken, operations, written, list_of, state_of}
+use Rattle.cm_history.specs.Operations.{Operation, operations, written, list_of, state_of}
 use Rattle.cm_history.proofs.PublicLaws.{In, Each-in, IsBegun, begun, few-written, length-paired, past-is}
 use Rattle.cmd_program.specs.Judging.{program}
 use Rattle.cmd_program.specs.Program.{ask_then}
@@ -27,9 +26,9 @@ use Rattle.odx_host.specs.declared.fault.Copied.{Copied}
 use Rattle.odx_host.specs.declared.fault.CopyFault.{CopyFault}
 use Rattle.odx_host.specs.Talk.{Talked}
 use Rattle.odx_host.specs.Worlds.{World}
-use Rattle.odx_host.specs.StatusRead.{Information, information_read}
+use Rattle.odx_host.specs.StatusRead.{information_read}
 use Rattle.odx_host.specs.Requests.{status_request, status_limit}
-use Rattle.odx_host.specs.Rule.{HostProgram, Asks, Ends as EndsSo, if_good, if_ok, ask_status, polling, is_done}
+use Rattle.odx_host.specs.Rule.{HostProgram, Ends as EndsSo, if_ok, polling, is_done}
 use Rattle.odx_host.specs.Ruled.{AreAsked, after}
 use Rattle.odx_host.specs.Copies.{Copies}
 use Rattle.odx_host.proofs.Ran.{RanIn, never-refused}
@@ -37,7 +36,7 @@ use Rattle.odx_host.proofs.Programs.{status-program, not-there}
 use Rattle.odx_host.proofs.Leaving.{Leaves, Reported, reported}
 use Rattle.odx_host.proofs.Telling.{IsPlain, information, report-read, start-report}
 use Rattle.odx_host.proofs.Work.{work}
-use Rattle.odx_host.proofs.Finishing.{IsState, Runs, IsDone, WasStopped, WasEnded, state-is, finished}
+use Rattle.odx_host.proofs.Finishing.{IsState, IsDone, WasStopped, state-is, finished}
 use Rattle.odx_host.proofs.Advancing.{Remains, remains-longer, by-outcome, ask-on}
 
 -- a RECEIVE ROD TOKEN INFORMATION that is answered GOOD, of a unit that is there

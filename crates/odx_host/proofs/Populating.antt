@@ -1,6 +1,6 @@
 -- A token that is made
-use Rattle.std.proofs.Common.{◌≡◌, ℕ, ◌+◌, ◌<◌, ◌≤◌, ◌^◌, List, [], ◌∷◌, ◌++◌, length, length-append, refl, ap, sym, ◌∙◌, subst, arith, true, false, Bool, append_assoc}
-use Rattle.std.specs.Prelude.{Result, Ok, Err, Some, None, ◌==◌, ◌&&◌, cond, take}
+use Rattle.std.proofs.Common.{◌≡◌, ℕ, ◌<◌, ◌≤◌, ◌^◌, List, ◌∷◌, ◌++◌, length, length-append, refl, ap, sym, ◌∙◌, subst, arith, true, false, Bool, append_assoc}
+use Rattle.std.specs.Prelude.{Result, Ok, Err, Some, ◌==◌, cond, take}
 use Rattle.std.proofs.lemmas.Bool.{eq-eqb}
 use Rattle.lba_ranges.specs.declared.ranges.Range.{Range}
 use Rattle.lba_ranges.specs.Denoted.{total}
@@ -13,7 +13,7 @@ use Rattle.cm_history.specs.declared.act.Entry.{Entry}
 use Rattle.cm_history.specs.declared.answer.Answer.{Answer}
 use Rattle.cm_history.specs.declared.answer.OpState.{OpState}
 use Rattle.cm_history.specs.declared.answer.OpReport.{OpReport}
-use Rattle.cm_history.specs.Answers.{deed, answer_after, answer_populate, report_of}
+use Rattle.cm_history.specs.Answers.{answer_after, answer_populate, report_of}
 use Rattle.cm_history.specs.Deeds.{Deed, is_refusal}
 use Rattle.cm_history.specs.History.{answer, past_of}
 use Rattle.cm_history.specs.Tokens.{tokens}
@@ -25,17 +25,17 @@ use Rattle.odx_host.specs.declared.fault.Copied.{Copied}
 use Rattle.odx_host.specs.declared.fault.CopyFault.{CopyFault}
 use Rattle.odx_host.specs.Talk.{Talked}
 use Rattle.odx_host.specs.Worlds.{World}
-use Rattle.odx_host.specs.StatusRead.{Information, information_read}
+use Rattle.odx_host.specs.StatusRead.{information_read}
 use Rattle.odx_host.specs.Requests.{populate_request, status_request, status_limit, token_timeout}
-use Rattle.odx_host.specs.Rule.{HostProgram, Ends, if_good, if_ok, ask_status, populating, token_of}
+use Rattle.odx_host.specs.Rule.{HostProgram, Ends, if_ok, ask_status, populating, token_of}
 use Rattle.odx_host.specs.Ruled.{AreAsked, after}
 use Rattle.odx_host.specs.Copies.{Copies}
 use Rattle.odx_host.proofs.Ran.{RanIn, never-refused}
 use Rattle.odx_host.proofs.Programs.{MayName, populate-program, not-there}
 use Rattle.odx_host.proofs.Leaving.{Leaves, Reported, left-by, reported}
-use Rattle.odx_host.proofs.Telling.{IsPlain, information, report-read, populate-answer, populate-report}
+use Rattle.odx_host.proofs.Telling.{IsPlain, report-read, populate-answer, populate-report}
 use Rattle.odx_host.proofs.Polled.{status-ran}
-use Rattle.odx_host.proofs.Advancing.{Remains, remains-longer, by-outcome, ask-on}
+use Rattle.odx_host.proofs.Advancing.{Remains, remains-longer, ask-on}
 
 -- the nexus made the token, of these ranges, before the history came to `h` entries
 pub record HasToken (v : World) (n unit id : ℕ) (ranges : List Range) (h : ℕ) (token : List ℕ) : Type 0 where

@@ -1,28 +1,24 @@
 -- The programs of a host's requests
-use Rattle.std.proofs.Common.{◌≡◌, ℕ, ◌+◌, ◌*◌, ◌<◌, ◌≤◌, ◌^◌, List, [], ◌∷◌, ◌++◌, length, refl, ap, sym, ◌∙◌, subst, arith, true, false, Bool, Ok, length-append}
-use Rattle.std.specs.Prelude.{None, All, ◌==◌, if◌then◌else◌, nat_lt}
+use Rattle.std.proofs.Common.{◌≡◌, ℕ, ◌<◌, ◌≤◌, ◌^◌, List, length, refl, ap, ◌∙◌, arith, true, false, Bool, Ok}
+use Rattle.std.specs.Prelude.{None, All, ◌==◌, if◌then◌else◌}
 use Rattle.std.proofs.lemmas.Bool.{eq-eqb}
 use Rattle.lba_ranges.specs.declared.ranges.Range.{Range}
-use Rattle.lba_ranges.specs.Denoted.{total}
 use Rattle.cm_base.specs.Configuration.{Configuration}
 use Rattle.cm_base.specs.Units.{unit_of, is_configured}
 use Rattle.scsi_cdb.specs.declared.cdb.Cdb.{Cdb}
 use Rattle.scsi_cdb.specs.Decoded.{decoded}
-use Rattle.scsi_cdb.specs.Encoded.{encoded}
 use Rattle.scsi_sense.specs.Codes.{logical_unit_not_supported}
 use Rattle.block_params.specs.RangesRead.{range_fault}
-use Rattle.block_params.specs.ListsRead.{populate_read, write_token_read}
 use Rattle.block_params.specs.ListsWritten.{populate_written, write_token_written}
 use Rattle.block_params.proofs.PublicLaws.{populate_back, write_token_back, length-descriptors, length_behind}
-use Rattle.cm_base.specs.Fields.{zeros}
 use Rattle.block_params.specs.ListsWritten.{measured}
 use Rattle.cm_frame.specs.declared.frame.Request.{Request}
 use Rattle.cm_history.specs.declared.act.Act.{Act}
-use Rattle.cmd_program.specs.Program.{Program, refused, ask_then}
+use Rattle.cmd_program.specs.Program.{refused, ask_then}
 use Rattle.cmd_program.specs.SingleActs.{act_alone, told_token, populate}
 use Rattle.cmd_program.specs.TokenWrite.{write_by, write_using_token}
 use Rattle.rod_token.specs.TokenText.{classify}
-use Rattle.cmd_program.specs.Judging.{program, program_of, judged_cdb, judged_out, out_fault, length_is}
+use Rattle.cmd_program.specs.Judging.{program, program_of, judged_cdb, judged_out, out_fault}
 use Rattle.odx_host.specs.Requests.{populate_list, populate_request, status_request, status_limit, token_timeout, write_list, write_request}
 use Rattle.odx_host.proofs.Decoding.{populate-decoded, write-decoded, status-decoded}
 

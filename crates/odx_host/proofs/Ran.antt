@@ -1,13 +1,11 @@
 -- The entries of a command that ended GOOD
-use Rattle.std.proofs.Common.{◌≡◌, ℕ, List, [], ◌∷◌, ◌++◌, refl, ap, sym, ◌∙◌, subst, true, false, Bool}
+use Rattle.std.proofs.Common.{◌≡◌, ℕ, List, [], ◌∷◌, ◌++◌, refl, subst, false}
 use Rattle.cm_base.specs.Configuration.{Configuration}
 use Rattle.scsi_sense.specs.SenseCode.{SenseCode}
 use Rattle.cm_frame.specs.declared.frame.Reply.{Reply}
-use Rattle.cm_history.specs.declared.act.Act.{Act}
 use Rattle.cm_history.specs.declared.act.Entry.{Entry}
 use Rattle.cm_history.specs.declared.answer.Answer.{Answer}
 use Rattle.cm_history.specs.Deeds.{is_refusal}
-use Rattle.cmd_program.specs.declared.step.Outcome.{Outcome}
 use Rattle.cmd_program.specs.Running.{Call}
 use Rattle.cmd_program.specs.Program.{Program, Ends, Asks, GivesUp, unless_refused}
 use Rattle.cmd_program.specs.InHistory.{entries_by, IsNext}

@@ -1,6 +1,6 @@
 -- What a token is redeemed for
-use Rattle.std.proofs.Common.{◌≡◌, ℕ, zero, suc, ◌+◌, ◌*◌, ◌<◌, ◌≤◌, ◌^◌, List, [], ◌∷◌, ◌++◌, length, take, refl, ap, sym, ◌∙◌, subst, arith}
-use Rattle.std.specs.Prelude.{Some, Option, slice_get}
+use Rattle.std.proofs.Common.{◌≡◌, ℕ, ◌<◌, ◌^◌, List, [], ◌∷◌, ◌++◌, length, take, refl, ap, sym, ◌∙◌, subst}
+use Rattle.std.specs.Prelude.{Some, slice_get}
 use Rattle.std.proofs.Math.Seq.{take-append_seam}
 use Rattle.lba_ranges.specs.declared.ranges.Range.{Range}
 use Rattle.lba_ranges.specs.Denoted.{blocks_of}
@@ -15,7 +15,7 @@ use Rattle.cm_history.specs.declared.act.Entry.{Entry}
 use Rattle.cm_history.specs.declared.answer.Answer.{Answer}
 use Rattle.cm_history.specs.Blocks.{held, cut}
 use Rattle.cm_history.specs.History.{answer, past_of}
-use Rattle.cm_history.specs.Laws.{MadeToken, IsRedeemed, TokenPromise, answer_at}
+use Rattle.cm_history.specs.Laws.{MadeToken}
 use Rattle.cm_history.specs.Legal.{IsLegal}
 use Rattle.cm_history.proofs.PublicLaws.{token_law}
 

@@ -1,6 +1,6 @@
 -- A command that is run over a port's units
-use Rattle.std.proofs.Common.{◌≡◌, ℕ, suc, ◌+◌, ◌-◌, ◌≤◌, List, [], ◌∷◌, ◌++◌, length, refl, ap, sym, ◌∙◌, subst, arith, append-nil, append_assoc}
-use Rattle.std.specs.Prelude.{Result, Ok, Err, ◌==◌, All, IfErr}
+use Rattle.std.proofs.Common.{◌≡◌, ℕ, ◌-◌, ◌≤◌, List, [], ◌∷◌, ◌++◌, refl, ap, sym, ◌∙◌, subst, arith, append-nil, append_assoc}
+use Rattle.std.specs.Prelude.{Result, Ok, Err, ◌==◌}
 use Rattle.std.proofs.lemmas.List.Elements.{All-push, filter-append}
 use Rattle.std.proofs.lemmas.List.Sums.{fold-append}
 use Rattle.cm_base.specs.Configuration.{Configuration}
@@ -27,7 +27,7 @@ use Rattle.odx_host.specs.declared.port.PortFault.{PortFault}
 use Rattle.odx_host.specs.Talk.{Talked}
 use Rattle.odx_host.specs.Worlds.{World, MayFold, GrowsBy, Grows, IsAnsweredIn}
 use Rattle.odx_host.specs.Units.{host, UnitsAt, UnitsBehind, AreAfter, AreOf, WantsMemoryAlone, LedTo}
-use Rattle.odx_host.specs.inner.Acting.{Stand, call, world, HasDone, HasGoneOn, MayRun, HasRun}
+use Rattle.odx_host.specs.inner.Acting.{Stand, call, world, HasDone, HasGoneOn, HasRun}
 
 -- ---- events, and one more
 

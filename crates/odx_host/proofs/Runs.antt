@@ -1,20 +1,17 @@
 -- Commands that end GOOD, and their entries
-use Rattle.std.proofs.Common.{◌≡◌, ℕ, List, [], ◌∷◌, ◌++◌, refl, ap, sym, ◌∙◌, subst, true, false, Bool}
+use Rattle.std.proofs.Common.{◌≡◌, ℕ, List, [], ◌∷◌, ◌++◌, refl, subst}
 use Rattle.std.specs.Prelude.{Option, Some, None, fold}
 use Rattle.std.proofs.lemmas.List.Sums.{fold-append}
 use Rattle.cm_base.specs.Configuration.{Configuration}
 use Rattle.cm_frame.specs.declared.frame.Request.{Request}
 use Rattle.cm_frame.specs.declared.frame.Reply.{Reply}
-use Rattle.cm_history.specs.declared.act.Entry.{Entry}
 use Rattle.cm_history.specs.declared.answer.Answer.{Answer}
-use Rattle.cm_history.specs.Deeds.{is_refusal}
 use Rattle.cmd_program.specs.declared.step.Outcome.{Outcome}
 use Rattle.cmd_program.specs.declared.step.Step.{Step}
 use Rattle.cmd_program.specs.Running.{Call}
-use Rattle.cmd_program.specs.Program.{Program, Ask, Ends, Asks, GivesUp, next, moved, unless_refused}
+use Rattle.cmd_program.specs.Program.{Program, Ask, Ends, Asks, GivesUp, next, moved}
 use Rattle.cmd_program.specs.Judging.{step, program, program_after}
-use Rattle.cmd_program.specs.Exchanges.{Event, Asked, Wanted, outcome_of, outcomes_of, calls_in, AreCaused}
-use Rattle.cmd_program.specs.InHistory.{entries_by, IsNext}
+use Rattle.cmd_program.specs.Exchanges.{Event, Asked, Wanted, outcomes_of, calls_in, AreCaused}
 
 -- ---- a program that ends GOOD
 

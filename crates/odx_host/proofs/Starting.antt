@@ -1,27 +1,22 @@
 -- A write of a token that was begun
-use Rattle.std.proofs.Common.{◌≡◌, ℕ, ◌+◌, ◌<◌, ◌≤◌, ◌^◌, List, [], ◌∷◌, ◌++◌, length, refl, ap, sym, ◌∙◌, subst, arith, true, false, Bool, inr, append_assoc, length-append}
-use Rattle.std.specs.Prelude.{nat_lt, cond, slice_range, map}
+use Rattle.std.proofs.Common.{◌≡◌, ℕ, ◌+◌, ◌≤◌, List, [], ◌∷◌, ◌++◌, length, refl, ap, sym, ◌∙◌, subst, arith, true, false, Bool, inr, append_assoc, length-append}
+use Rattle.std.specs.Prelude.{nat_lt, cond}
 use Rattle.std.proofs.lemmas.Bool.{ltb-false}
-use Rattle.lba_ranges.specs.declared.ranges.Range.{Range}
-use Rattle.lba_ranges.specs.Denoted.{blocks_of, total}
 use Rattle.lba_ranges.specs.HeldBlocks.{HeldBlocks}
-use Rattle.lba_ranges.specs.Writings.{Held}
 use Rattle.cm_base.specs.Configuration.{Configuration}
-use Rattle.cm_base.specs.Units.{unit_of, is_configured}
+use Rattle.cm_base.specs.Units.{is_configured}
 use Rattle.scsi_sense.specs.Codes.{invalid_field_in_parameter_list, token_unknown}
 use Rattle.rod_token.specs.declared.kind.TokenKind.{TokenKind}
-use Rattle.rod_token.specs.TokenText.{classify, serial_of}
+use Rattle.rod_token.specs.TokenText.{classify}
 use Rattle.cm_history.specs.declared.act.Act.{Act}
 use Rattle.cm_history.specs.declared.act.Actor.{Actor}
 use Rattle.cm_history.specs.declared.act.Entry.{Entry}
 use Rattle.cm_history.specs.declared.answer.Answer.{Answer}
 use Rattle.cm_history.specs.Deeds.{is_refusal}
-use Rattle.cm_history.specs.Blocks.{held, cut}
-use Rattle.cm_history.specs.History.{answer, past_of}
+use Rattle.cm_history.specs.History.{answer}
 use Rattle.cm_history.specs.Operations.{is_making}
 use Rattle.cm_history.proofs.PublicLaws.{Each, Each-append}
-use Rattle.cmd_program.specs.InHistory.{entries_by, IsNext}
-use Rattle.cmd_program.specs.Program.{Program, done, refused, ask_then, unless_refused}
+use Rattle.cmd_program.specs.Program.{done, refused, ask_then, unless_refused}
 use Rattle.cmd_program.specs.TokenWrite.{TokenWrite, wanted, delete_by, deleting, started, starting, rod_part, redeemed, write_by}
 use Rattle.odx_host.proofs.Kept.{IsQuiet}
 use Rattle.odx_host.proofs.Ran.{RanIn, not-refused, never-refused, never-busy}

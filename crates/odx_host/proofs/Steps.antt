@@ -3,7 +3,7 @@ use Rattle.std.proofs.Common.{◌≡◌, ◌∙◌, List, [], ◌∷◌, ◌++�
 use Rattle.std.specs.Prelude.{Result, Ok, Err}
 use Rattle.odx_host.specs.declared.fault.CopyFault.{CopyFault}
 use Rattle.odx_host.specs.Talk.{Talked}
-use Rattle.odx_host.specs.Worlds.{World, Passed, passed-append}
+use Rattle.odx_host.specs.Worlds.{World, passed-append}
 use Rattle.odx_host.specs.Rule.{HostProgram, Asks, Ends, moved, if_ok}
 use Rattle.odx_host.specs.Ruled.{AreAsked, after}
 use Rattle.odx_host.specs.inner.Steps.{Leads, Talking, StopsSo, Follows}

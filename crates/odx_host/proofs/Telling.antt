@@ -1,19 +1,19 @@
 -- What a host reads of a report
-use Rattle.std.proofs.Common.{◌≡◌, ℕ, zero, suc, ◌+◌, ◌*◌, ◌<◌, ◌≤◌, ◌^◌, List, [], ◌∷◌, ◌++◌, length, refl, ap, sym, ◌∙◌, subst, arith, true, false, Bool, length-append}
-use Rattle.std.specs.Prelude.{Some, None, Option, IfSome, is_some, take, Result, Ok, ◌==◌, ◌&&◌, nat_le, not, cond}
+use Rattle.std.proofs.Common.{◌≡◌, ℕ, zero, suc, ◌*◌, ◌<◌, ◌≤◌, ◌^◌, List, length, refl, ap, sym, ◌∙◌, arith, true, false, Bool}
+use Rattle.std.specs.Prelude.{Some, None, Option, IfSome, is_some, take, ◌==◌, nat_le, not, cond}
 use Rattle.std.specs.Option.{option_map}
 use Rattle.std.proofs.lemmas.List.{take_all}
-use Rattle.std.proofs.lemmas.Bool.{eq-eqb, leb-false}
+use Rattle.std.proofs.lemmas.Bool.{leb-false}
 use Rattle.lba_ranges.specs.declared.ranges.Range.{Range}
 use Rattle.lba_ranges.specs.Denoted.{total, is_within}
 use Rattle.lba_ranges.specs.HeldBlocks.{HeldBlocks}
 use Rattle.cm_base.specs.Configuration.{Configuration}
 use Rattle.cm_base.specs.declared.config.UnitConfig.{UnitConfig}
 use Rattle.scsi_sense.specs.SenseCode.{SenseCode}
-use Rattle.scsi_sense.specs.Codes.{space_allocation_failed, operation_in_progress, lba_out_of_range, insufficient_resources}
+use Rattle.scsi_sense.specs.Codes.{operation_in_progress, lba_out_of_range, insufficient_resources}
 use Rattle.copy_status.specs.declared.operation.OperationStatus.{OperationStatus}
 use Rattle.copy_status.specs.CopyStatus.{CopyStatus, IsStatus, told}
-use Rattle.copy_status.specs.StatusBytes.{information_bytes, IsToken, IsTokenOf}
+use Rattle.copy_status.specs.StatusBytes.{information_bytes, IsTokenOf}
 use Rattle.rod_token.specs.TokenText.{words, token_text}
 use Rattle.rand_chacha.specs.ChaCha.{key_of}
 use Rattle.cm_history.specs.declared.act.Act.{Act}

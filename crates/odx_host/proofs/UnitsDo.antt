@@ -1,6 +1,6 @@
 -- One more act of a port's units
-use Rattle.std.proofs.Common.{◌≡◌, ℕ, ◌+◌, ◌-◌, ◌^◌, ◌<◌, ◌≤◌, List, [], ◌∷◌, ◌++◌, length, refl, ap, sym, ◌∙◌, subst, arith, true, false, Bool, append-nil, append_assoc, slice_set, slice_get}
-use Rattle.std.specs.Prelude.{cond, ◌==◌, Some, map, filter, max, All, slice_index_or}
+use Rattle.std.proofs.Common.{◌≡◌, ℕ, ◌+◌, ◌<◌, List, [], ◌∷◌, ◌++◌, length, refl, ap, sym, ◌∙◌, subst, arith, true, false, Bool, append-nil, append_assoc, slice_set, slice_get}
+use Rattle.std.specs.Prelude.{cond, ◌==◌, Some, map, filter, max, slice_index_or}
 use Rattle.std.proofs.lemmas.List.{length-map, get_or_read}
 use Rattle.std.proofs.lemmas.List.Elements.{filter-append}
 use Rattle.std.proofs.lemmas.Option.{slice_get_read}
@@ -17,12 +17,12 @@ use Rattle.cm_history.specs.History.{on, past_of, answer}
 use Rattle.cm_history.specs.Legal.{may_ask}
 use Rattle.cm_history.specs.Limits.{within_limits}
 use Rattle.cm_history.specs.Room.{is_full}
-use Rattle.cm_history.proofs.PublicLaws.{past_of-on, same_actor-self}
+use Rattle.cm_history.proofs.PublicLaws.{past_of-on}
 use Rattle.cmd_program.specs.declared.step.Outcome.{Outcome}
 use Rattle.cmd_program.specs.Conversations.{IsFullBy, last_stamp_of}
 use Rattle.cmd_program.specs.InHistory.{entries_by, is_by, IsNext}
 use Rattle.cmd_program.specs.Meaning.{IsAskedOf}
-use Rattle.unit_core.specs.UnitState.{UnitState, Stands}
+use Rattle.unit_core.specs.UnitState.{UnitState}
 use Rattle.unit_core.specs.Acting as whole
 use Rattle.unit_core.specs.Unfolded.{IsUnfolded, UnfoldedUnit, unfolded, past, is_full_at}
 use Rattle.unit_core.proofs.PublicLaws.{unfolded-entry, unfolded-full, unfolded-grown}

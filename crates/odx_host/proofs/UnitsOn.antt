@@ -1,6 +1,6 @@
 -- One more entry of a port's units
-use Rattle.std.proofs.Common.{◌≡◌, ℕ, zero, suc, ◌+◌, ◌<◌, ◌≤◌, List, [], ◌∷◌, ◌++◌, length, refl, ap, sym, ◌∙◌, subst, arith, true, false, Bool, inl, inr, append-nil, append_assoc, slice_set, slice_get}
-use Rattle.std.specs.Prelude.{cond, ◌==◌, ◌⊎◌, Some, None, Option, All, count_by, fold, filter, max, IsTrue, slice_index, slice_index_or}
+use Rattle.std.proofs.Common.{◌≡◌, ℕ, zero, suc, ◌+◌, ◌<◌, ◌≤◌, List, [], ◌∷◌, ◌++◌, length, refl, ap, sym, ◌∙◌, subst, arith, true, false, Bool, inl, inr, append-nil, slice_set, slice_get}
+use Rattle.std.specs.Prelude.{cond, ◌==◌, ◌⊎◌, Some, None, Option, All, fold, slice_index, slice_index_or}
 use Rattle.std.proofs.lemmas.Bool.{cases_eq, eq-eqb, eqb-true}
 use Rattle.std.proofs.lemmas.List.{length-set, get_or-set_same, get_or-set_other}
 use Rattle.std.proofs.lemmas.List.Elements.{All-push, filter-append}
@@ -13,7 +13,7 @@ use Rattle.cm_history.specs.Deeds.{last_stamp, same_actor}
 use Rattle.cm_history.specs.History.{on, one_more, past_of}
 use Rattle.cm_history.specs.Legal.{IsLegal, may_ask}
 use Rattle.cm_history.specs.Limits.{within_limits}
-use Rattle.cm_history.proofs.PublicLaws.{legal_push, same_actor-is, same_actor-self}
+use Rattle.cm_history.proofs.PublicLaws.{legal_push, same_actor-is}
 use Rattle.cmd_program.specs.Conversations.{last_stamp_of}
 use Rattle.cmd_program.specs.InHistory.{entries_by, is_by}
 use Rattle.unit_core.specs.Unfolded.{UnfoldedUnit}

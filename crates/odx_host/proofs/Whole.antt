@@ -1,6 +1,6 @@
 -- A copy over units that tell what they do
-use Rattle.std.proofs.Common.{◌≡◌, ℕ, zero, suc, ◌+◌, ◌-◌, ◌<◌, ◌≤◌, ◌^◌, List, [], ◌∷◌, ◌++◌, length, length-append, take, drop, refl, ap, sym, ◌∙◌, subst, arith, true, false, Bool, inl, inr, ◌⊎◌, append-nil, append_assoc}
-use Rattle.std.specs.Prelude.{Result, Ok, Err, map, flat_map, nat_lt, cond, IsTrue}
+use Rattle.std.proofs.Common.{◌≡◌, ℕ, zero, suc, ◌+◌, ◌-◌, ◌<◌, ◌≤◌, ◌^◌, List, [], ◌∷◌, ◌++◌, length, length-append, take, drop, refl, ap, sym, ◌∙◌, subst, arith, true, false, Bool, inl, inr, ◌⊎◌}
+use Rattle.std.specs.Prelude.{Result, Ok, map, flat_map, nat_lt, cond}
 use Rattle.std.proofs.lemmas.Bool.{cases_lt, ltb-true, ltb-false}
 use Rattle.std.proofs.lemmas.List.{length-map, length-take, length-take-le}
 use Rattle.lba_ranges.specs.declared.ranges.Range.{Range}
@@ -21,11 +21,10 @@ use Rattle.odx_host.specs.declared.fault.Copied.{Copied}
 use Rattle.odx_host.specs.declared.fault.CopyFault.{CopyFault}
 use Rattle.odx_host.specs.Talk.{Talked}
 use Rattle.odx_host.specs.Worlds.{World, Passed}
-use Rattle.odx_host.specs.Parts.{Part, writes_from, parts, parts_from, part_at, ranges_at, place_behind}
-use Rattle.odx_host.specs.Requests.{token_timeout}
-use Rattle.odx_host.specs.Rule.{HostProgram, Asks, Ends, writing, copying, populating, next_step, rule, one_token, one_write, is_last}
+use Rattle.odx_host.specs.Parts.{writes_from, parts, parts_from, part_at, ranges_at, place_behind}
+use Rattle.odx_host.specs.Rule.{HostProgram, Ends, writing, copying, next_step, rule, one_token, one_write, is_last}
 use Rattle.odx_host.specs.Ruled.{AreAsked, after, EndsSo, IsRuled}
-use Rattle.odx_host.specs.Copies.{Copies, Placed, IsOwn, is_start, ranges_of, blocks_in, rod_of, written_of}
+use Rattle.odx_host.specs.Copies.{Copies, Placed, ranges_of, blocks_in, rod_of, written_of}
 use Rattle.odx_host.specs.inner.Steps.{steps_in}
 use Rattle.odx_host.proofs.Coming.{run-some}
 use Rattle.odx_host.proofs.Naming.{may-name, run-blocks}

@@ -1,5 +1,5 @@
 -- What the operation that began at a place of its unit has written, as the history goes on
-use Rattle.std.proofs.Common.{◌≡◌, ℕ, ◌+◌, ◌<◌, ◌≤◌, List, [], ◌∷◌, ◌++◌, length, refl, ap, sym, ◌∙◌, subst, arith, true, false, Bool, inl, inr, ◌⊎◌, append-nil, append_assoc}
+use Rattle.std.proofs.Common.{◌≡◌, ℕ, ◌≤◌, List, [], ◌∷◌, ◌++◌, length, refl, ap, sym, ◌∙◌, subst, arith, true, false, Bool, inl, inr, ◌⊎◌, append-nil, append_assoc}
 use Rattle.std.specs.Prelude.{Option, Some, None, ◌==◌, cond, find, map}
 use Rattle.std.specs.Option.{option_map}
 use Rattle.std.proofs.lemmas.Bool.{cases_eq, eqb-true, eq-eqb}
@@ -10,7 +10,7 @@ use Rattle.cm_history.specs.Deeds.{Deed}
 use Rattle.cm_history.specs.Answers.{deed}
 use Rattle.cm_history.specs.History.{past_of}
 use Rattle.cm_history.specs.Operations.{Operation, operations, operation_after, made_operation, makes_operation, serves, written, would_serve, running, is_running, fits}
-use Rattle.cm_history.proofs.PublicLaws.{In, Each, Each-in, In-filter, IsPast, find-in, find-map, find-same, find-passes, find-some, made-after, past-is, past_of-mine, past_of-other, earlier}
+use Rattle.cm_history.proofs.PublicLaws.{In, Each-in, In-filter, IsPast, find-in, find-map, find-same, find-passes, find-some, made-after, past-is, past_of-mine, past_of-other, earlier}
 use Rattle.odx_host.specs.Copies.{begins_at, written_if}
 
 abbrev pub work : List Deed → ℕ → List Writing
@@ -21,14 +21,14 @@ abbrev pub shared : Option ℕ → ℕ → List Writing → List Writing
 shared None place ws = []
 shared (Some p) place ws = cond (place == p) ws []
 
-find-append : (p : Operation → Bool) (xs ys : List Operation) (found : Option Operation) → find p xs ≡ found → find p (xs ++ ys) ≡ (elim found [ | None ↦ find p ys | Some o ↦ Some o ])
+find-append : (p : Operation → Bool) (xs ys : List Operation) (found : Option Operation) → find p xs ≡ found → find p (xs ++ ys) ≡ (elim found [ None ↦ find p ys | Some o ↦ Some o ])
 find-append p [] ys None e = refl
 find-append p [] ys (Some o) e = cc
 find-append p (x ∷ xs) ys found e = go (p x) e (λ k. find-append p xs ys found k)
   where
-    go : (t : Bool) → cond t (Some x) (find p xs) ≡ found → (find p xs ≡ found → find p (xs ++ ys) ≡ (elim found [ | None ↦ find p ys | Some o ↦ Some o ]))
-        → cond t (Some x) (find p (xs ++ ys)) ≡ (elim found [ | None ↦ find p ys | Some o ↦ Some o ])
-    go true is later = subst (λ f. Some x ≡ (elim f [ | None ↦ find p ys | Some o ↦ Some o ])) is refl
+    go : (t : Bool) → cond t (Some x) (find p xs) ≡ found → (find p xs ≡ found → find p (xs ++ ys) ≡ (elim found [ None ↦ find p ys | Some o ↦ Some o ]))
+        → cond t (Some x) (find p (xs ++ ys)) ≡ (elim found [ None ↦ find p ys | Some o ↦ Some o ])
+    go true is later = subst (λ f. Some x ≡ (elim f [ None ↦ find p ys | Some o ↦ Some o ])) is refl
     go false is later = later is
 
 module _ (config : Configuration) (unit : ℕ) (d : Deed) (past : List Deed) (is : IsPast config unit past) (made : d ≡ deed config unit past d.entry) (place : ℕ) where

@@ -16,8 +16,8 @@ pub use copying::copy;
 pub use fault::{Copied, CopyFault};
 pub use link_port::LinkPort;
 pub use port::{Port, PortFault};
-pub use unit_port::UnitPort;
 pub use stream_port::{StreamFault, copy_over};
+pub use unit_port::UnitPort;
 
 #[cfg(test)]
 mod tests;

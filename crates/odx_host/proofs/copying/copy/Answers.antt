@@ -1,4 +1,4 @@
-use Rattle.std.proofs.Common.{◌≡◌, ◌∙◌, ℕ, ◌+◌, ◌≤◌, ◌<◌, List, ◌++◌, suc, length, ap, sym, subst, arith, refl, inr}
+use Rattle.std.proofs.Common.{◌∙◌, ℕ, ◌≤◌, ◌<◌, List, ◌++◌, length, ap, sym, subst, arith, inr}
 use Rattle.std.specs.Prelude.{Ok, Err, IfOk}
 use Rattle.std.proofs.lemmas.Result.{err_from_is_err_and}
 use Rattle.lba_ranges.specs.Denoted.{total}
@@ -7,10 +7,10 @@ use Rattle.odx_host.specs.Talk.{Talked}
 use Rattle.odx_host.specs.declared.fault.Copied.{Copied}
 use Rattle.odx_host.specs.declared.copying.Host.{Host}
 use Rattle.odx_host.specs.Parts.{HasPlanned, part_at, place_behind}
-use Rattle.odx_host.specs.Rule.{copying, next_step, rule}
+use Rattle.odx_host.specs.Rule.{copying, rule}
 use Rattle.odx_host.specs.Ruled.{IsRuled}
 use Rattle.odx_host.specs.inner.Steps.{CopiesOn, parts_to_come, steps_in}
-use Rattle.odx_host.proofs.Steps.{talking-also, talking-on}
+use Rattle.odx_host.proofs.Steps.{talking-on}
 use Rattle.odx_host.proofs.Coming.{parts-end}
 use Rattle.odx_host.proofs.Identifiers.{steps-few}
 use Rattle.odx_host.proofs.Planned.{has-planned}
@@ -78,9 +78,13 @@ returns-in_err-copy_part g c =
         t.talks,
         λ w was.
             let l = t.leads w was in
-            let same = sym c.blocks-blocks.ensures.to ∙ c.blocks-blocks.ensures.from in
-            (l.0, l.1, l.2, copies-there job w l.0 c.from_residual.result t.talk (g.met.P.Port.legal c.copy_part.new.port l.0 l.1) c.new-host.ensures.sources c.new-host.ensures.targets same
-            (omega (arith, c.blocks-blocks.ensures.few, c.blocks-blocks.ensures.from)) c.new-host.ensures.unit ruled l.2),
+            let same = sym c.blocks-blocks.ensures.to ∙ c.blocks-blocks.ensures.from in (
+              l.0,
+              l.1,
+              l.2,
+              copies-there job w l.0 c.from_residual.result t.talk (g.met.P.Port.legal c.copy_part.new.port l.0 l.1) c.new-host.ensures.sources c.new-host.ensures.targets same
+                  (omega (arith, c.blocks-blocks.ensures.few, c.blocks-blocks.ensures.from)) c.new-host.ensures.unit ruled l.2,
+            ),
       );
       planned = subst (λ r. IfOk r (λ copied. HasPlanned job copied.populates)) (sym is) tt;
     }
@@ -101,9 +105,13 @@ returns-clause-ruled g c =
       t.talks,
       λ w was.
           let l = t.leads w was in
-          let same = sym c.blocks-blocks.ensures.to ∙ c.blocks-blocks.ensures.from in
-          (l.0, l.1, l.2, copies-there job w l.0 (Ok so_far) t.talk (g.met.P.Port.legal c.parts.port l.0 l.1) c.new-host.ensures.sources c.new-host.ensures.targets same
-          (omega (arith, c.blocks-blocks.ensures.few, c.blocks-blocks.ensures.from)) c.new-host.ensures.unit ruled l.2),
+          let same = sym c.blocks-blocks.ensures.to ∙ c.blocks-blocks.ensures.from in (
+            l.0,
+            l.1,
+            l.2,
+            copies-there job w l.0 (Ok so_far) t.talk (g.met.P.Port.legal c.parts.port l.0 l.1) c.new-host.ensures.sources c.new-host.ensures.targets same
+                (omega (arith, c.blocks-blocks.ensures.few, c.blocks-blocks.ensures.from)) c.new-host.ensures.unit ruled l.2,
+          ),
     )
 
 pub returns-clause-planned : goal.returns-clause-planned

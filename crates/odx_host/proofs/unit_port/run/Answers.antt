@@ -1,14 +1,8 @@
-use Rattle.std.proofs.Common.{◌≡◌, ◌∷◌, [], ◌++◌, ap, sym, ◌∙◌, subst, arith}
+use Rattle.std.proofs.Common.{sym, ◌∙◌, subst, arith}
 use Rattle.std.proofs.lemmas.Result.{err_from_is_err_and}
-use Rattle.std.specs.Prelude.{Ok, IfOk}
-use Rattle.cm_base.specs.Configuration.{Configuration}
-use Rattle.cmd_program.specs.declared.step.Step.{Step}
-use Rattle.cmd_program.specs.Meaning.{IsAskable, IsOutcomeOf, MayFollow}
-use Rattle.cmd_program.specs.Judging.{step}
+use Rattle.cmd_program.specs.Meaning.{IsAskable, MayFollow}
 use Rattle.cmd_program.specs.Exchanges.{outcomes_of}
-use Rattle.odx_host.specs.Units.{host, AreAfter}
-use Rattle.odx_host.specs.inner.Acting.{HasDone, HasRun}
-use Rattle.odx_host.specs.Talk.{Talked}
+use Rattle.odx_host.specs.Units.{host}
 use Rattle.odx_host.proofs.Running.{come-first, ran-short, ran-done, some-left, come-on}
 use Rattle.odx_host.proofs.unit_port.run.Goals as goal
 

@@ -1,9 +1,6 @@
-use Rattle.std.proofs.Common.{◌≡◌, ◌<◌, ◌+◌, ◌-◌, ◌^◌, ℕ, ◌++◌, [], ◌∷◌, length, true, refl, ap, sym, ◌∙◌, subst, arith, slice_set}
+use Rattle.std.proofs.Common.{◌<◌, ◌+◌, ◌^◌, refl, ap, sym, ◌∙◌, subst, arith, slice_set}
 use Rattle.std.specs.Prelude.{map, max}
-use Rattle.cm_base.specs.Configuration.{Configuration}
 use Rattle.cm_history.specs.declared.act.Actor.{Actor}
-use Rattle.cm_history.specs.Deeds.{last_stamp}
-use Rattle.cm_history.specs.History.{past_of}
 use Rattle.cmd_program.specs.Meaning.{IsAskedOf}
 use Rattle.unit_core.specs.Unfolded.{IsUnfolded, unfolded}
 use Rattle.unit_core.proofs.PublicLaws.{unfolded-after}

@@ -1,7 +1,6 @@
-use Rattle.std.proofs.Common.{◌≡◌, ◌<◌, ◌+◌, ◌-◌, ◌^◌, ℕ, ◌++◌, [], ◌∷◌, length, true, refl, ap, sym, ◌∙◌, subst, arith, slice_set}
-use Rattle.std.specs.Prelude.{map, slice_index, slice_index_or}
+use Rattle.std.proofs.Common.{◌<◌, ◌+◌, ◌^◌, length, refl, ap, sym, subst, arith, slice_set}
+use Rattle.std.specs.Prelude.{map}
 use Rattle.std.proofs.lemmas.Bool.{eq-eqb}
-use Rattle.std.proofs.lemmas.List.{get_or_read}
 use Rattle.cm_history.specs.declared.act.Act.{Act}
 use Rattle.cm_history.specs.declared.act.Actor.{Actor}
 use Rattle.unit_core.specs.Unfolded.{IsUnfolded, unfolded}
@@ -9,8 +8,7 @@ use Rattle.unit_core.proofs.PublicLaws.{unfolded-after}
 use Rattle.unit_core.specs.Acting as acting
 use Rattle.unit_runs.specs.Keeping.{KeepAll}
 use Rattle.unit_runs.proofs.PublicLaws.{keep-with, next-fits, stamp-left}
-use Rattle.odx_host.specs.Units.{UnitsAt, seq, AreAfter}
-use Rattle.odx_host.specs.inner.Acting.{HasGoneOn}
+use Rattle.odx_host.specs.Units.{UnitsAt, AreAfter}
 use Rattle.odx_host.proofs.UnitsOn.{one-config, after-same}
 use Rattle.odx_host.proofs.UnitsDo.{unit-found, asked-of, did-pump, same-list, left-of, gone-none, gone-pump, pump-found, last-of}
 use Rattle.odx_host.proofs.units.Units.pump.Goals as goal

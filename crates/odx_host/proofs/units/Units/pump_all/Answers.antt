@@ -1,4 +1,4 @@
-use Rattle.std.proofs.Common.{refl, arith}
+use Rattle.std.proofs.Common.{arith}
 use Rattle.odx_host.proofs.UnitsDo.{gone-none, gone-on, stand-on}
 use Rattle.odx_host.proofs.units.Units.pump_all.Goals as goal
 

@@ -1,4 +1,3 @@
-use Rattle.std.proofs.Common.{refl}
 use Rattle.odx_host.proofs.UnitsDo.{gone-none, gone-on, stand-on}
 use Rattle.odx_host.proofs.units.Units.pump_unit.Goals as goal
 
