@@ -231,6 +231,15 @@ fn folded_histories(alloc: Global, config: &Config, style: Style) -> Result<bool
     Ok(was_full)
 }
 
+/// Blocks that are overwritten while tokens show them.
+#[test]
+fn histories_of_shown_blocks(rt: HostRuntime) -> Result<(), Fail> {
+    let alloc = rt.alloc();
+    let config = machine(alloc, 40, 25, 16, 1_048_576)?;
+    assert!(rt; folded_histories(alloc, &config, Style::Shown)?);
+    Ok(())
+}
+
 /// A record that is full by its entries.
 #[test]
 fn histories_whose_entries_are_folded(rt: HostRuntime) -> Result<(), Fail> {
