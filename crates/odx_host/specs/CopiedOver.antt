@@ -18,6 +18,7 @@ use Rattle.odx_host.specs.Linked.{LinkState, Spoke}
 
 -- ---- how a copy over streams ends, by how the copy does
 
+-- a fault of the port
 abbrev pub port_ended : PortFault → StreamFault
 port_ended PortFault.OutOfMemory = OutOfMemory
 port_ended PortFault.ReadFault = ReadFault
@@ -25,6 +26,7 @@ port_ended PortFault.WriteFault = WriteFault
 port_ended PortFault.Ended = Ended
 port_ended PortFault.BadReply = BadReply
 
+-- a fault of the copy, without what owns memory
 abbrev pub copy_ended : CopyFault → StreamFault
 copy_ended CopyFault.OutOfMemory = OutOfMemory
 copy_ended (CopyFault.Port fault) = port_ended fault
@@ -33,6 +35,7 @@ copy_ended (CopyFault.BadData step) = BadData step
 copy_ended (CopyFault.Failed step status) = Failed step
 copy_ended (CopyFault.Polls step) = Polls step
 
+-- the whole outcome
 abbrev pub outcome_of : Result Copied CopyFault → Result Copied StreamFault
 outcome_of (Ok copied) = Ok copied
 outcome_of (Err fault) = Err (copy_ended fault)
