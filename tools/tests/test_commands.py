@@ -17,7 +17,7 @@ TOOLS = [
     "tools/fail-allocations", "tools/check-repository", "tools/random-sessions", "tools/plain-serve",
     "tools/serving-load", "tools/fuzz", "tools/iscsi-clients", "clients/iscsi/iscsi-target", "bench/run",
     "bench/run-sessions", "bench/generate.py", "bench/run-serving", "bench/floor.py", "tools/served-history",
-    "bench/run-kept",
+    "bench/run-kept", "bench/run-commands", "bench/run-tokens",
 ]
 
 
