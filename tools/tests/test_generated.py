@@ -58,5 +58,5 @@ class Generated(unittest.TestCase):
         for words in MISSPELT:
             with self.subTest(words):
                 done = subprocess.run([support.PROGRAM, *words], capture_output=True, check=False)
-                said = b"copymgr: use replay, check, gen N, or serve ADDRESS SESSIONS [FOLDER]\n"
+                said = b"copymgr: use replay, check, copy [ADDRESS], gen N, or serve ADDRESS SESSIONS [FOLDER]\n"
                 self.assertEqual((done.stdout, done.stderr, done.returncode), (b"", said, 6))

@@ -2,6 +2,7 @@
 use Rattle.std.specs.Prelude.{◌≡◌, ◌⊎◌, ℕ, List, [], ◌∷◌, ◌++◌, drop, Option, Result, Ok, Err}
 use Rattle.std.specs.Io.KnownBytes.{Consumes, Appends, IsAtEnd}
 use Rattle.cm_base.specs.Outside.{Faulted, IsBeginning}
+use Rattle.cm_base.specs.declared.input_buffer.FillFailed.{FillFailed}
 use Rattle.cm_base.specs.declared.parsed.Parsed.TheVariants.{Whole, Short, Bad}
 use Rattle.cm_frame.specs.Grammar.{request_bytes}
 use Rattle.copy_plan.specs.Jobs.{CopyJob}
@@ -25,6 +26,11 @@ port_ended PortFault.ReadFault = ReadFault
 port_ended PortFault.WriteFault = WriteFault
 port_ended PortFault.Ended = Ended
 port_ended PortFault.BadReply = BadReply
+
+-- what a source failed for that was pulled for the job
+abbrev pub fill_ended : FillFailed → StreamFault
+fill_ended FillFailed.Read = ReadFault
+fill_ended FillFailed.OutOfMemory = OutOfMemory
 
 -- a fault of the copy, without what owns memory
 abbrev pub copy_ended : CopyFault → StreamFault

@@ -53,7 +53,7 @@ impl From<OutOfMemory> for StreamFault {
 
 impl From<FillFailed> for StreamFault {
     ghost use Rattle.std.specs.Prelude.{◌≡◌};
-    ghost use Rattle.odx_host.specs.inner.FrontJob.{fill_ended};
+    ghost use Rattle.odx_host.specs.CopiedOver.{fill_ended};
 
     ghost from_gives = { λ failed fault. fault ≡ fill_ended failed };
 

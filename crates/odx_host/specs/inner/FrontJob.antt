@@ -1,6 +1,5 @@
 -- The job at the front of what was pulled
 use Rattle.std.specs.Prelude.{◌≡◌, ℕ, List, drop, Option, Result, Ok, Err}
-use Rattle.cm_base.specs.declared.input_buffer.FillFailed.{FillFailed}
 use Rattle.cm_base.specs.declared.parsed.Parsed.TheVariants.{Whole}
 use Rattle.copy_plan.specs.Jobs.{CopyJob}
 use Rattle.copy_plan.specs.Reading.{read_job}
@@ -15,7 +14,3 @@ IsFront (Err fault) left bytes rest = IsNoJob fault bytes left
 abbrev pub IsFrontCounted : Result CopyJob StreamFault → ℕ → ℕ → Type 0
 IsFrontCounted (Ok job) reads reads_after = reads_after ≡ reads
 IsFrontCounted (Err fault) reads reads_after = IsReadCounted fault reads reads_after
-
-abbrev pub fill_ended : FillFailed → StreamFault
-fill_ended FillFailed.Read = StreamFault.ReadFault
-fill_ended FillFailed.OutOfMemory = StreamFault.OutOfMemory
