@@ -40,9 +40,9 @@ struct Running {
 }
 
 /// Adds the blocks of a range.
-fn push_row(blocks: &mut Vec<u64>, lba: u64, count: u32) -> Result<(), OutOfMemory> {
+fn push_row(blocks: &mut Vec<u64>, lba: u64, count: u64) -> Result<(), OutOfMemory> {
     for index in 0..count {
-        blocks.push(lba.saturating_add(u64::from(index)))?;
+        blocks.push(lba.saturating_add(index))?;
     }
     Ok(())
 }
@@ -52,7 +52,7 @@ fn blocks_of(alloc: Global, ranges: &RangeList) -> Result<Vec<u64>, OutOfMemory>
     let mut blocks = Vec::new(alloc);
     for index in 0..ranges.len() {
         let range = ranges.at(index);
-        push_row(&mut blocks, range.lba, range.count)?;
+        push_row(&mut blocks, range.lba, u64::from(range.count))?;
     }
     Ok(blocks)
 }
@@ -113,7 +113,7 @@ impl Needed {
     /// The blocks from an address on are written.
     fn write(&mut self, alloc: Global, lba: u64, list: &BlockList) -> Result<(), OutOfMemory> {
         let mut blocks = Vec::new(alloc);
-        push_row(&mut blocks, lba, list.blocks() as u32)?;
+        push_row(&mut blocks, lba, list.blocks())?;
         self.put(&targets_of(alloc, &blocks, list)?);
         Ok(())
     }
@@ -260,7 +260,7 @@ impl Needed {
             return Ok(());
         };
         self.advance(alloc, place, count)?;
-        if !runs {
+        if !runs && place < self.running.len() {
             self.running.remove(place);
         }
         Ok(())
