@@ -39,6 +39,7 @@ impl From<WriteFailed> for RecordRefused {
 
 /// Where the first entries of a record go.
 pub trait Recorder {
+    ghost use Rattle.std.specs.Prelude.{None};
     ghost use Rattle.cm_history.specs.declared.act.Entry.{Entry};
 
     /// Entries are recorded as soon as they are made, and not only where the record is full.
@@ -52,6 +53,9 @@ pub trait Recorder {
 
     // There is none: no entry is ever recorded.
     ghost absent: { Self → Bool };
+
+    // The bytes that stand before the entries where they go, where that is told.
+    ghost front: { Self → Option (List ℕ) } = { λ _. None };
 
     // The entry may be the next one.
     ghost fits: { Self → Entry → Type 0 };
@@ -71,5 +75,6 @@ pub trait Recorder {
         ensures never { absent self.old ≡ true → IfErr result (λ e. e ≡ RecordRefused.Absent) }
         ensures failed { IfErr result (λ e. e ≡ RecordRefused.Failed → Rose (record_faults self.old) (record_faults self.new)) }
         ensures counts { record_faults self.old ≤ record_faults self.new }
-        ensures same { absent self.new ≡ absent self.old };
+        ensures same { absent self.new ≡ absent self.old }
+        ensures front { front self.new ≡ front self.old };
 }

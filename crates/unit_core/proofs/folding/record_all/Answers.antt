@@ -29,4 +29,5 @@ loop-history-preserved g c =
       omega (arith, before.6, c.record.ensures.counts),
       (λ gone. let no = sym c.in-Ok.ensures.present ∙ before.5 ∙ gone in cc),
       rw c.drop_first.ensures.dropped (omega (arith, f.bytes, before.8)),
+      c.record.ensures.front ∙ before.9,
     )

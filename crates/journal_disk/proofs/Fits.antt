@@ -1,0 +1,62 @@
+-- A journal of which is known what a recorder tells: its front, its entries, and which entry may be the next
+use Rattle.std.proofs.Common.{◌≡◌, ◌⊎◌, ℕ, ◌+◌, List, [], ◌∷◌, ◌++◌, length, take, drop, inl, inr, refl, sym, ◌∙◌, ap, subst, append_assoc, length-append, arith, Option, Some, None, true}
+use Rattle.std.proofs.lemmas.List.{take_at, drop_at}
+use Rattle.byteorder.specs.Endian.{big_bytes}
+use Rattle.byteorder.specs.Numbers.{length-bytes_high_first}
+use Rattle.cm_base.specs.Configuration.{Configuration}
+use Rattle.cm_history.specs.declared.act.Act.{Act}
+use Rattle.cm_history.specs.declared.act.Actor.{Actor}
+use Rattle.cm_history.specs.declared.act.Entry.{Entry}
+use Rattle.recorder.specs.Text.{entry_bytes}
+use Rattle.journal_disk.specs.Opened.{front_bytes, entry_in, may_follow}
+use Rattle.journal_disk.specs.Log.{framed, records, Behind, HasNext, IsKept}
+use Rattle.journal_disk.specs.Journal.{last_stamp, MayFollow, AreInOrder, AreSpelled, BegunSpells, IsJournal}
+use Rattle.journal_disk.specs.Recording.{if_spelled, entries_of, recorded_in, front_in, IsTextOf, AreTexts, IsReady, IsFit}
+use Rattle.journal_disk.specs.declared.log.Log.{Log}
+use Rattle.journal_disk.proofs.Entries.{journal-of}
+use Rattle.journal_disk.proofs.Told.{kept-recorded, kept-front}
+
+some-same : {A : Type 0} (a b : A) → Some a ≡ Some b → a ≡ b
+some-same a b is = cc
+
+module _ (config : Configuration) (unit : ℕ) where
+  -- records that spell entries, each of which may follow the one before
+  texts-spell : (last : ℕ) (ps : List (List ℕ)) (es : List Entry) → AreTexts ps → entries_of ps ≡ es → AreInOrder config unit last es → AreSpelled config unit last ps es
+  texts-spell last [] [] texts are order = tt
+  texts-spell last [] (e ∷ es) texts are order = cc
+  texts-spell last (p ∷ ps) es texts are order =
+      go es (ap (λ (o : Option Entry). if_spelled o (entries_of ps)) (sym texts.0.1.1) ∙ are) order (λ stamp rest. texts-spell stamp ps rest texts.1)
+    where
+      go : (es : List Entry) → texts.0.0 ∷ entries_of ps ≡ es → AreInOrder config unit last es
+          → ((stamp : ℕ) (rest : List Entry) → entries_of ps ≡ rest → AreInOrder config unit stamp rest → AreSpelled config unit stamp ps rest) → AreSpelled config unit last (p ∷ ps) es
+      go [] same order later = cc
+      go (e ∷ es) same order later =
+          let first : texts.0.0 ≡ e = cc in
+          let rest : entries_of ps ≡ es = cc in
+          ((texts.0.1.0, texts.0.1.1 ∙ ap Some first, order.0), later e.stamp es rest order.1)
+
+  module _ {D : Type 0} (reads : D → Option (List ℕ)) (may_leave : D → List ℕ → Type 0) (reads_left : (disk : D) (file : List ℕ) → reads disk ≡ Some file → may_leave disk file)
+      (log : Log D) (es : List Entry) (front : front_in log.start (reads log.disk) ≡ Some (front_bytes config unit)) (told : recorded_in log.start log.gate (reads log.disk) ≡ Some es) (order : AreInOrder config unit 0 es) where
+    ready-of : (e : Entry) → IsFit reads may_leave log e → IsReady reads may_leave log e
+    ready-of e (inl none) = let no : None ≡ Some (front_bytes config unit) = sym (ap (front_in log.start) none) ∙ front in cc
+    ready-of e (inr ready) = ready
+
+    of-ready : (e : Entry) (ready : IsReady reads may_leave log e) (tried : Option Entry) → BegunSpells config unit (last_stamp 0 es) ready.last tried → IsJournal reads may_leave config unit es tried log
+    of-ready e ready tried tries =
+        let same : ready.front ≡ front_bytes config unit =
+        some-same ready.front (front_bytes config unit) (sym (kept-front reads may_leave reads_left ready.front ready.ps ready.last log ready.kept ready.start) ∙ front) in
+        let are : entries_of ready.ps ≡ es =
+        some-same (entries_of ready.ps) es (sym (kept-recorded reads may_leave reads_left ready.front ready.ps ready.last log ready.kept ready.start ready.texts) ∙ told) in
+        journal-of config unit reads may_leave ready.ps es ready.last tried log
+        (subst (λ f. IsKept reads may_leave f ready.ps ready.last log) same ready.kept) (ready.start ∙ ap length same)
+        (texts-spell 0 ready.ps es ready.texts are order) tries
+
+    -- it is the journal of these entries, and was perhaps told to record the one that may be the next
+    pub fit-journal : (e : Entry) → IsFit reads may_leave log e → MayFollow config unit es e → (tried : Option Entry) × ((tried ≡ None) ⊎ (tried ≡ Some e)) × IsJournal reads may_leave config unit es tried log
+    fit-journal e fit may = go (ready-of e fit)
+      where
+        go : IsReady reads may_leave log e → (tried : Option Entry) × ((tried ≡ None) ⊎ (tried ≡ Some e)) × IsJournal reads may_leave config unit es tried log
+        go ready = elim ready.same [
+          | inl none ↦ (None, inl refl, of-ready e ready None (subst (λ (l : Option (List ℕ)). BegunSpells config unit (last_stamp 0 es) l None) (sym none) tt))
+          | inr this ↦ (Some e, inr refl, of-ready e ready (Some e) (subst (λ (l : Option (List ℕ)). BegunSpells config unit (last_stamp 0 es) l (Some e)) (sym this.0) (this.1.0, this.1.1, may)))
+        ]
