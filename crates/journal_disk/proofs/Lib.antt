@@ -12,5 +12,5 @@ mod Scans
 mod Shapes
 mod Openings
 pub mod Good
-mod Fits
+pub mod Fits
 pub mod PublicLaws
