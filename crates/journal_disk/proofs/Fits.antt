@@ -24,10 +24,12 @@ some-same a b is = cc
 next-text : (done text file : List ℕ) → HasNext done text file → (rest : List ℕ) × (drop 8 (drop 1 (drop (length done) file)) ≡ text ++ rest)
 next-text done text file next =
     let rest = 0 ∷ next.rest in
-    let all : drop (length done) file ≡ next.gate ∷ (framed text ++ rest) = ap (λ (l : List ℕ). drop (length done) l) next.is ∙ drop_at done (next.gate ∷ (framed text ++ rest)) (length done) refl in
-    (rest, ap (λ (l : List ℕ). drop 8 (drop 1 l)) all
-    ∙ ap (λ (l : List ℕ). drop 8 l) (append_assoc (big_bytes 8 (length text)) text rest)
-    ∙ drop_at (big_bytes 8 (length text)) (text ++ rest) 8 (length-bytes_high_first 8 (length text)))
+    let all : drop (length done) file ≡ next.gate ∷ (framed text ++ rest) = ap (λ (l : List ℕ). drop (length done) l) next.is ∙ drop_at done (next.gate ∷ (framed text ++ rest)) (length done) refl in (
+      rest,
+      ap (λ (l : List ℕ). drop 8 (drop 1 l)) all
+          ∙ ap (λ (l : List ℕ). drop 8 l) (append_assoc (big_bytes 8 (length text)) text rest)
+          ∙ drop_at (big_bytes 8 (length text)) (text ++ rest) 8 (length-bytes_high_first 8 (length text)),
+    )
 
 stamp-first : (e : Entry) (rest : List ℕ) → take 8 (entry_bytes e ++ rest) ≡ big_bytes 8 e.stamp
 stamp-first e rest =
