@@ -79,6 +79,17 @@ module _ (config : Configuration) (unit : ℕ) where
           let rest : entries_of ps ≡ es = cc in
           ((texts.0.1.0, texts.0.1.1 ∙ ap Some first, order.0), later e.stamp es rest order.1)
 
+  -- records that spell entries spell them in their order
+  spelled-order : (last : ℕ) (ps : List (List ℕ)) (es : List Entry) → AreSpelled config unit last ps es → AreInOrder config unit last es
+  spelled-order last [] [] spelled = tt
+  spelled-order last [] (e ∷ es) spelled = absurd spelled
+  spelled-order last (p ∷ ps) [] spelled = absurd spelled
+  spelled-order last (p ∷ ps) (e ∷ es) spelled = (spelled.0.2, spelled-order e.stamp ps es spelled.1)
+
+  -- the entries of a journal may stand behind one another
+  pub journal-order : {D : Type 0} (reads : D → Option (List ℕ)) (may_leave : D → List ℕ → Type 0) (es : List Entry) (tried : Option Entry) (log : Log D) → IsJournal reads may_leave config unit es tried log → AreInOrder config unit 0 es
+  journal-order reads may_leave es tried log journal = spelled-order 0 journal.payloads es journal.spelled
+
   module _ {D : Type 0} (reads : D → Option (List ℕ)) (may_leave : D → List ℕ → Type 0) (reads_left : (disk : D) (file : List ℕ) → reads disk ≡ Some file → may_leave disk file)
       (log : Log D) (es : List Entry) (front : front_in log.start (reads log.disk) ≡ Some (front_bytes config unit)) (told : recorded_in log.start log.gate (reads log.disk) ≡ Some es) (order : AreInOrder config unit 0 es) where
     ready-of : (e : Entry) → IsFit reads may_leave log e → IsReady reads may_leave log e

@@ -121,10 +121,12 @@ impl<D: Disk + Drop> Journal<D> {
 }
 
 impl<D: Disk + Drop> Recorder for Journal<D> {
-    ghost use Rattle.std.specs.Prelude.{false};
+    ghost use Rattle.std.specs.Prelude.{true, false};
     ghost use Rattle.journal_disk.specs.Recording.{recorded_in, front_in, IsFit};
 
     const EAGER: bool = true;
+
+    ghost EAGER = { true };
 
     ghost recorded = { λ j. recorded_in j.start j.gate (D.reads j.disk) };
 
