@@ -3,6 +3,7 @@ pub mod Members
 pub mod Splitting
 pub mod Taking
 pub mod Making
+pub mod Opened
 pub mod Joined
 pub mod Last
 pub mod Turning

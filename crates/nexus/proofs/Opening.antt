@@ -17,7 +17,7 @@ use Rattle.nexus.specs.Worlds.{UnitGate}
 use Rattle.nexus.specs.inner.Gates.{IsGateOf, config_of, config_in}
 use Rattle.nexus.specs.Opening.{kins_from, IsBegun}
 use Rattle.nexus.specs.inner.Building.{marks_in, begun, BuiltSoFar}
-use Rattle.nexus.specs.inner.Keeping.{AreGates, KeepsWorld, KeepsRoot, gates_of, kepts, seens, entries_joined, root_view}
+use Rattle.nexus.specs.inner.Keeping.{AreGates, IsOpened, KeepsWorld, KeepsRoot, gates_of, kepts, openings, seens, entries_joined, root_view}
 
 map-push : {X Y : Type 0} (f : X → Y) (xs : List X) (x : X) → map f (xs ++ x ∷ []) ≡ map f xs ++ f x ∷ []
 map-push f [] x = refl
@@ -31,12 +31,12 @@ map-self : (gates : List UnitGate) → map (λ (g : UnitGate). (begun g).gate) g
 map-self [] = refl
 map-self (g ∷ gs) = ap (λ l. g ∷ l) (map-self gs)
 
-kins-push : (config : Configuration) (unit : ℕ) (rs : List RecorderFacts) (r : RecorderFacts) → kins_from config unit (rs ++ r ∷ []) ≡ kins_from config unit rs ++ Some (record { config = config; unit = unit + length rs; opening = r }) ∷ []
-kins-push config unit [] r = let e : unit ≡ unit + 0 = omega arith in ap (λ u. Some (record { config = config; unit = u; opening = r }) ∷ []) e
+kins-push : (config : Configuration) (unit : ℕ) (rs : List RecorderFacts) (r : RecorderFacts) → kins_from config unit (rs ++ r ∷ []) ≡ kins_from config unit rs ++ Some (record { config = config; unit = unit + length rs; opening = r; folded = 0 }) ∷ []
+kins-push config unit [] r = let e : unit ≡ unit + 0 = omega arith in ap (λ u. Some (record { config = config; unit = u; opening = r; folded = 0 }) ∷ []) e
 kins-push config unit (x ∷ xs) r =
     let shift : suc unit + length xs ≡ unit + suc (length xs) = omega arith in
-    ap (λ l. Some (record { config = config; unit = unit; opening = x }) ∷ l)
-    (kins-push config (suc unit) xs r ∙ ap (λ u. kins_from config (suc unit) xs ++ Some (record { config = config; unit = u; opening = r }) ∷ []) shift)
+    ap (λ l. Some (record { config = config; unit = unit; opening = x; folded = 0 }) ∷ l)
+    (kins-push config (suc unit) xs r ∙ ap (λ u. kins_from config (suc unit) xs ++ Some (record { config = config; unit = u; opening = r; folded = 0 }) ∷ []) shift)
 
 each-next : {X : Type 0} (P : X → Type 0) (gone more : List X) (r : X) → Each P (gone ++ r ∷ more) → P r
 each-next P [] more r all = all.0
@@ -58,7 +58,7 @@ module _ {R : Type 0} (facts : R → RecorderFacts) (config : Configuration) (al
   built-none = record { gone = []; whole = refl; count = refl; kins = refl; seats_are = refl; seqs_are = refl }
 
   pub built-more : (rest more : List R) (gates : List UnitGate) (seats : List UnitSeat) (seqs : List ℕ) (n : ℕ) (r : R) (g : UnitGate) (s : UnitSeat) → BuiltSoFar facts config all rest gates seats seqs n → rest ≡ r ∷ more
-      → g.kin ≡ Some (record { config = config; unit = n; opening = facts r }) → s ≡ first_seat g [] ((facts r).faults ∷ 0 ∷ []) → BuiltSoFar facts config all more (gates ++ g ∷ []) (seats ++ s ∷ []) (seqs ++ 0 ∷ []) (suc n)
+      → g.kin ≡ Some (record { config = config; unit = n; opening = facts r; folded = 0 }) → s ≡ first_seat g [] ((facts r).faults ∷ 0 ∷ 0 ∷ []) → BuiltSoFar facts config all more (gates ++ g ∷ []) (seats ++ s ∷ []) (seqs ++ 0 ∷ []) (suc n)
   built-more rest more gates seats seqs n r g s so next kin seat = record {
     gone = so.gone ++ r ∷ [];
     whole = append_assoc so.gone (r ∷ []) more ∙ ap (λ l. so.gone ++ l) (sym next) ∙ so.whole;
@@ -67,7 +67,7 @@ module _ {R : Type 0} (facts : R → RecorderFacts) (config : Configuration) (al
         let count : 0 + length (map facts so.gone) ≡ n = (let a = length-map so.gone facts in let b = so.count in omega (arith, a, b)) in
         map-push (λ (x : UnitGate). x.kin) gates g
         ∙ ap (λ l. l ++ g.kin ∷ []) so.kins
-        ∙ ap (λ k. kins_from config 0 (map facts so.gone) ++ k ∷ []) (kin ∙ ap (λ u. Some (record { config = config; unit = u; opening = facts r })) (sym count))
+        ∙ ap (λ k. kins_from config 0 (map facts so.gone) ++ k ∷ []) (kin ∙ ap (λ u. Some (record { config = config; unit = u; opening = facts r; folded = 0 })) (sym count))
         ∙ sym (kins-push config 0 (map facts so.gone) (facts r))
         ∙ ap (kins_from config 0) (sym (map-push facts so.gone r));
     seats_are =
@@ -90,9 +90,9 @@ kins-gates config from rs [] is i g at = cc
 kins-gates config from [] (h ∷ hs) is i g at = cc
 kins-gates config from (r ∷ rs) (h ∷ hs) is zero g at =
     let same : h ≡ g = cc in
-    let kin : h.kin ≡ Some (record { config = config; unit = from; opening = r }) = cc in
+    let kin : h.kin ≡ Some (record { config = config; unit = from; opening = r; folded = 0 }) = cc in
     let first : from ≡ from + 0 = omega arith in
-    record { kin = record { config = config; unit = from; opening = r }; has = ap (λ (x : UnitGate). x.kin) (sym same) ∙ kin; config_is = refl; unit_is = first }
+    record { kin = record { config = config; unit = from; opening = r; folded = 0 }; has = ap (λ (x : UnitGate). x.kin) (sym same) ∙ kin; config_is = refl; unit_is = first }
 kins-gates config from (r ∷ rs) (h ∷ hs) is (suc i) g at =
     let rest : map (λ (x : UnitGate). x.kin) hs ≡ kins_from config (suc from) rs = cc in
     let next : suc from + i ≡ from + suc i = omega arith in
@@ -102,7 +102,7 @@ config-is : (config : Configuration) (rs : List RecorderFacts) (gates : List Uni
 config-is config [] gates is some = absurd (omega (arith, some))
 config-is config (r ∷ rs) [] is some = cc
 config-is config (r ∷ rs) (g ∷ gs) is some =
-    let kin : g.kin ≡ Some (record { config = config; unit = 0; opening = r }) = cc in
+    let kin : g.kin ≡ Some (record { config = config; unit = 0; opening = r; folded = 0 }) = cc in
     ap config_in kin
 
 each-begun : (P : UnitSeat → Type 0) → ((g : UnitGate) → P (begun g)) → (gates : List UnitGate) → Each P (map begun gates)
@@ -126,14 +126,14 @@ seen-none (g ∷ gs) [] long = absurd (omega (arith, long))
 seen-none (g ∷ gs) (r ∷ rs) long = ap (λ l. [] ∷ l) (seen-none gs rs (omega (arith, long)))
 
 marks-from : (config : Configuration) (unit : ℕ) (rs : List RecorderFacts) (gates : List UnitGate) → map (λ (g : UnitGate). g.kin) gates ≡ kins_from config unit rs
-    → map (λ (g : UnitGate). marks_in g.kin) gates ≡ map (λ (r : RecorderFacts). r.faults ∷ 0 ∷ []) rs
+    → map (λ (g : UnitGate). marks_in g.kin) gates ≡ map (λ (r : RecorderFacts). r.faults ∷ 0 ∷ 0 ∷ []) rs
 marks-from config unit [] [] is = refl
 marks-from config unit [] (g ∷ gs) is = cc
 marks-from config unit (r ∷ rs) [] is = cc
 marks-from config unit (r ∷ rs) (g ∷ gs) is =
-    let kin : g.kin ≡ Some (record { config = config; unit = unit; opening = r }) = cc in
+    let kin : g.kin ≡ Some (record { config = config; unit = unit; opening = r; folded = 0 }) = cc in
     let rest : map (λ (x : UnitGate). x.kin) gs ≡ kins_from config (suc unit) rs = cc in
-    ap (λ k. marks_in k ∷ map (λ (x : UnitGate). marks_in x.kin) gs) kin ∙ ap (λ l. (r.faults ∷ 0 ∷ []) ∷ l) (marks-from config (suc unit) rs gs rest)
+    ap (λ k. marks_in k ∷ map (λ (x : UnitGate). marks_in x.kin) gs) kin ∙ ap (λ l. (r.faults ∷ 0 ∷ 0 ∷ []) ∷ l) (marks-from config (suc unit) rs gs rest)
 
 module _ {R : Type 0} (facts : R → RecorderFacts) (config : Configuration) (all rest : List R) (gates : List UnitGate) (seats : List UnitSeat) (seqs : List ℕ) (n : ℕ)
     (so : BuiltSoFar facts config all rest gates seats seqs n) (one_each : length all ≡ length config.units) (some : 1 ≤ length config.units) (last : n ≡ length config.units) (register : TableId) where
@@ -169,14 +169,14 @@ module _ {R : Type 0} (facts : R → RecorderFacts) (config : Configuration) (al
 
   root-keeps-here : KeepsRoot config 0 seqs slip (map begun gates)
   root-keeps-here = record {
-    is = root-new config (seens (map begun gates)) (kepts (map begun gates)) (kept-none gates);
+    is = root-new config 0 (seens (map begun gates)) (kepts (map begun gates)) (kept-none gates);
     gates_are = subst (AreGates config) (sym (map-twice (λ (s : UnitSeat). s.gate) begun gates ∙ map-self gates)) are;
     units = length-map gates begun ∙ gates-long;
     free = each-begun (λ (s : UnitSeat). s.holds ≡ false) (λ g. refl) gates;
     firsts = each-begun (λ (s : UnitSeat). s.first ≡ true) (λ g. refl) gates;
     outs = each-begun (λ (s : UnitSeat). s.out ≡ 0) (λ g. refl) gates;
     nothing = each-begun (λ (s : UnitSeat). s.own ≡ []) (λ g. refl) gates;
-    openings = each-begun (λ (s : UnitSeat). s.opening ≡ 0) (λ g. refl) gates;
+    openings = each-begun (IsOpened config) (λ g. record { low = omega arith; asked = tt }) gates;
     seqs_are = record {
       long = ap length so.seqs_are ∙ length-map gates (λ (g : UnitGate). 0) ∙ sym (length-map gates begun);
       are = λ unit low. ap (λ l. slice_index l unit) so.seqs_are ∙ seq-none gates unit;
@@ -189,5 +189,6 @@ module _ {R : Type 0} (facts : R → RecorderFacts) (config : Configuration) (al
   pub is-begun : IsBegun config (map facts all) (record { config = config_of gates; gates = gates; register = register }) (root_view (config_of (gates_of seats)) 0 slip seats)
   is-begun =
       let seen = ap seens so.seats_are ∙ map-twice (λ (s : UnitSeat). s.seen) begun gates ∙ seen-none gates (map facts all) (gates-long ∙ sym count) in
+      let opened = ap openings so.seats_are ∙ map-twice (λ (s : UnitSeat). s.opening) begun gates ∙ map-same (λ (g : UnitGate). (begun g).opening) 0 (λ g. refl) gates (map facts all) (gates-long ∙ sym count) in
       let marks = ap (map (λ (s : UnitSeat). s.marks)) so.seats_are ∙ map-twice (λ (s : UnitSeat). s.marks) begun gates ∙ marks-from config 0 (map facts all) gates kins in
-      record { config_is = config-here; gates = kins; root_is = rw (gates-same, seen, marks) refl }
+      record { config_is = config-here; gates = kins; root_is = rw (gates-same, opened, seen, marks) refl }

@@ -10,7 +10,7 @@ use Rattle.nexus.specs.Roots.{RootView}
 abbrev pub kins_from : Configuration → ℕ → List RecorderFacts → List (Option UnitKin)
 kins_from config unit [] = []
 kins_from config unit (r ∷ rs) =
-    Some (record { config = config; unit = unit; opening = r }) ∷ kins_from config (suc unit) rs
+    Some (record { config = config; unit = unit; opening = r; folded = 0 }) ∷ kins_from config (suc unit) rs
 
 -- the world and its root: nothing was asked of a unit yet, and no pass was made
 pub record IsBegun (config : Configuration) (recorders : List RecorderFacts) (world : WorldView) (root : RootView) : Type 0 where
@@ -23,10 +23,11 @@ pub record IsBegun (config : Configuration) (recorders : List RecorderFacts) (wo
     made = 0;
     out = [];
     joined = [];
+    openings = map (λ (r : RecorderFacts). 0) recorders;
     seen = map (λ (r : RecorderFacts). []) recorders;
-    marks = map (λ (r : RecorderFacts). r.faults ∷ 0 ∷ []) recorders;
+    marks = map (λ (r : RecorderFacts). r.faults ∷ 0 ∷ 0 ∷ []) recorders;
   }
 
 -- what contracts see of no recorder
 abbrev pub no_recorder : RecorderFacts
-no_recorder = record { recorded = None; faults = 0; absent = true }
+no_recorder = record { recorded = None; faults = 0; absent = true; front = None }

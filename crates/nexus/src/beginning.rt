@@ -29,9 +29,10 @@ fn gate_of<R: Recorder + Drop>(
         ≡ Some (record {
           config = config.now;
           unit = unit;
-          opening = facts R.recorded R.record_faults R.absent recorder;
+          opening = facts R.recorded R.record_faults R.absent R.front recorder;
+          folded = 0;
         })) }
-    ensures seat { IfOk result (λ r. r.1 ≡ first_seat r.0 [] (R.record_faults recorder ∷ 0 ∷ [])) }
+    ensures seat { IfOk result (λ r. r.1 ≡ first_seat r.0 [] (R.record_faults recorder ∷ 0 ∷ 0 ∷ [])) }
 {
     match RecordedUnit::new(alloc, config, unit, recorder) {
         Ok(value) => match Gate::new(alloc, value) {
@@ -53,7 +54,7 @@ impl<R: Recorder + Drop> World<R> {
         requires one_each { length recorders.items ≡ length config.now.units }
         requires fits { Each (λ r. (e : Entry) → R.fits r e) recorders.items }
         ensures { IfOk result (λ w. IsBegun config.now
-            (map (facts R.recorded R.record_faults R.absent) recorders.items) w.0 w.1) }
+            (map (facts R.recorded R.record_faults R.absent R.front) recorders.items) w.0 w.1) }
     {
         let (register, slip) = Register::new(alloc)?;
         let mut gates = Vec::new(alloc);

@@ -13,7 +13,7 @@ ghost use Rattle.cm_history.specs.Forms.{HasForm};
 ghost use Rattle.cm_history.specs.Tokens.{Token, rod};
 ghost use Rattle.unit_core.specs.UnitState.{UnitState, Stands};
 ghost use Rattle.unit_core.specs.Versions.{needed};
-ghost use Rattle.unit_core.specs.Acting.{past, is_full_at, entry_at, serves_operation, ends_operation_at, MayRedeem};
+ghost use Rattle.unit_core.specs.Acting.{past, moment_at, is_full_at, entry_at, serves_operation, ends_operation_at, MayRedeem};
 
 use crate::inner::Core;
 use crate::room::bytes_in;
@@ -177,6 +177,14 @@ where
         ensures told { (h : List Entry) → Stands self.now h → result ≡ last_stamp (past self.now h) }
     {
         self.core.last_stamp
+    }
+
+    /// The greatest moment of the entries so far, in seconds, and 0 where there is none. It takes no memory.
+    pub fn moment(&self) -> u64
+        ensures shown { result ≡ self.now.image.moment }
+        ensures told { (h : List Entry) → Stands self.now h → result ≡ moment_at self.now h }
+    {
+        self.core.moment
     }
 
     /// How many entries the record has. It takes no memory.

@@ -1,6 +1,6 @@
 -- An act of a unit with its recorder
-use Rattle.std.proofs.Common.{◌<◌, ◌≤◌, ◌≡◌, ℕ, ◌+◌, List, [], ◌∷◌, ◌++◌, length, refl, ap, sym, ◌∙◌, subst, arith}
-use Rattle.std.specs.Prelude.{max, None, Some}
+use Rattle.std.proofs.Common.{◌≡◌, ℕ, List, [], ◌∷◌, ◌++◌, refl, ap, sym, ◌∙◌, subst, arith}
+use Rattle.std.specs.Prelude.{None, Some}
 use Rattle.std.specs.List.{last_or}
 use Rattle.cm_history.specs.declared.act.Entry.{Entry}
 use Rattle.cm_history.specs.Deeds.{last_stamp}
@@ -40,6 +40,7 @@ module _ (s : RecordedState) (new : UnitState) (asked : AskedAct)
   keeps-acted fits keeps = record {
     first = subst (FirstFits fits) (sym kept) (first-pushed fits s.unit.kept (made s.unit asked) keeps.first);
     absent = keeps.absent;
+    front = keeps.front;
     unfolded = λ none. folded ∙ keeps.unfolded none;
     history = keeps.history ++ entry_of (kin_of s) keeps.history asked ∷ [];
     stands = stands-acted keeps.history keeps.stands;

@@ -1,20 +1,47 @@
 -- The lists of entries for which a unit with its recorder stands
-use Rattle.std.proofs.Common.{◌<◌, ◌≤◌, ◌≡◌, ℕ, ◌+◌, List, [], ◌∷◌, ◌++◌, length, take, refl, ap, sym, ◌∙◌, subst, arith}
-use Rattle.std.specs.Prelude.{max, Option}
+use Rattle.std.proofs.Common.{◌<◌, ◌≤◌, ◌≡◌, ℕ, ◌+◌, ◌-◌, List, [], ◌∷◌, ◌++◌, length, take, refl, ap, sym, ◌∙◌, arith, take_all}
+use Rattle.std.specs.Prelude.{max, Option, Some, None, option_map, IfSome}
 use Rattle.cm_history.specs.declared.act.Entry.{Entry}
 use Rattle.cm_history.specs.Deeds.{last_stamp}
 use Rattle.cm_history.specs.History.{past_of}
 use Rattle.cm_history.specs.Image.{Image}
+use Rattle.cm_history.proofs.PublicLaws.{length-take-short}
 use Rattle.merged_history.specs.PassRules.{IsHistory}
 use Rattle.recorder.specs.Recording.{with_more}
-use Rattle.unit_core.specs.UnitState.{UnitState, Stands}
+use Rattle.unit_core.specs.UnitState.{Stands}
 use Rattle.unit_core.specs.Acting as unit
 use Rattle.unit_gate.specs.declared.asked.AskedAct.{AskedAct}
 use Rattle.unit_gate.specs.declared.kin.RecorderFacts.{RecorderFacts}
-use Rattle.unit_gate.specs.Recorded.{RecordedState, StandsFor, kin_of}
+use Rattle.unit_gate.specs.Recorded.{RecordedState, StandsFor, HasRecorded, kin_of, without_last}
 use Rattle.unit_gate.specs.Asking.{entry_of}
 use Rattle.unit_gate.proofs.Lists.{take-front, length-parts, more-none}
 use Rattle.unit_gate.proofs.Stamps.{rises-push, history-long, all-own}
+
+-- ---- a unit and its recorder come together
+
+all-left : (told : Option (List Entry)) → option_map (λ es. take (length es - 0) es) told ≡ told
+all-left None = refl
+all-left (Some es) = ap Some (take_all (length es - 0) es (omega arith))
+
+-- a recorder of which nothing is left out
+pub without-none : (r : RecorderFacts) → without_last 0 r ≡ r
+without-none r = ap (λ (told : Option (List Entry)). record r { recorded = told }) (all-left r.recorded)
+
+told-over : (told : Option (List Entry)) (n : ℕ) (h : List Entry) → IfSome told (λ es. es ≡ take n h) → told ≡ with_more (option_map (λ es. take (length es - n) es) told) (take n h)
+told-over None n h first = refl
+told-over (Some es) n h first =
+    let long = ap length first in
+    let short = length-take-short n h in
+    let none : length es - n ≡ 0 = omega (arith, long, short) in
+    ap Some (first ∙ ap (λ k. take k es ++ take n h) (sym none))
+
+-- the recorder has recorded the entries that the unit has dropped
+pub stands-over : (s : RecordedState) (h : List Entry) → HasRecorded s.unit s.recorder.recorded h → s.opening ≡ without_last s.unit.folded s.recorder → StandsFor s h
+stands-over s h is opening = record {
+  unit = is.unit_is;
+  rising = is.rising;
+  recorded = told-over s.recorder.recorded s.unit.folded h is.first ∙ ap (λ (r : RecorderFacts). with_more r.recorded (take s.unit.folded h)) (sym opening);
+}
 
 -- a unit that nothing was asked of yet
 pub stands-first : (s : RecordedState) → Stands s.unit [] → s.recorder ≡ s.opening → s.unit.folded ≡ 0 → StandsFor s []
@@ -23,6 +50,8 @@ stands-first s stands same folded = record {
   rising = tt;
   recorded = ap (λ (r : RecorderFacts). r.recorded) same ∙ sym (more-none s.opening.recorded) ∙ ap (λ n. with_more s.opening.recorded (take n [])) (sym folded);
 }
+
+-- ---- one entry more, and more that are recorded
 
 -- the entry of an act is the same by the unit's image
 pub entry-is : (s : RecordedState) (h : List Entry) (asked : AskedAct) → StandsFor s h

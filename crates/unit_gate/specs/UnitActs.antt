@@ -23,6 +23,10 @@ pub record DidAct (kin : UnitKin) (after : RecordedState) (h : List Entry) (aske
 abbrev pub WasFolded : RecordedState → RecordedState → Type 0
 WasFolded old new = (new.unit.kept ≡ []) ⊎ (old.opening.absent ≡ true) ⊎ Rose old.recorder.faults new.recorder.faults
 
+-- no entry is kept, or the recorder failed since, or wanted memory since
+abbrev pub WasSaved : RecordedState → RecordedState → Type 0
+WasSaved old new = (new.unit.kept ≡ []) ⊎ Rose old.recorder.faults new.recorder.faults ⊎ Rose old.late new.late
+
 -- nothing came to the history. At Full there is no room, after the entries were recorded as far as that went
 pub record NotDone (s after : RecordedState) (h : List Entry) (asked : AskedAct) (refused : ActRefused) : Type 0 where
   pub stands : StandsFor after h

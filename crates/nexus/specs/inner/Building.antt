@@ -12,7 +12,7 @@ use Rattle.nexus.specs.Opening.{kins_from}
 -- what the root knows of a unit's recorder at first
 abbrev pub marks_in : Option UnitKin → List ℕ
 marks_in None = []
-marks_in (Some kin) = kin.opening.faults ∷ 0 ∷ []
+marks_in (Some kin) = kin.opening.faults ∷ kin.folded ∷ 0 ∷ []
 
 -- the first seat at a gate
 abbrev pub begun : UnitGate → UnitSeat
