@@ -1,6 +1,5 @@
 pub mod Versions
 pub mod Sharing
-pub mod VersionUnits
 pub mod UnitState
 pub mod Acting
 pub mod Keys
