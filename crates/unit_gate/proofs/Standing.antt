@@ -1,11 +1,16 @@
 -- The lists of entries for which a unit with its recorder stands
-use Rattle.std.proofs.Common.{◌<◌, ◌≤◌, ◌≡◌, ℕ, ◌+◌, ◌-◌, List, [], ◌∷◌, ◌++◌, length, take, refl, ap, sym, ◌∙◌, arith, take_all}
-use Rattle.std.specs.Prelude.{max, Option, Some, None, option_map, IfSome}
+use Rattle.std.proofs.Common.{◌<◌, ◌≤◌, ◌≡◌, ℕ, ◌+◌, ◌-◌, List, [], ◌∷◌, ◌++◌, length, take, refl, ap, sym, ◌∙◌, subst, arith, take_all, true}
+use Rattle.std.specs.Prelude.{max, fold, Option, Some, None, option_map, IfSome}
+use Rattle.cm_base.specs.Configuration.{Configuration}
 use Rattle.cm_history.specs.declared.act.Entry.{Entry}
-use Rattle.cm_history.specs.Deeds.{last_stamp}
-use Rattle.cm_history.specs.History.{past_of}
+use Rattle.cm_history.specs.Asked.{AllAsked}
+use Rattle.cm_history.specs.Deeds.{Deed, last_stamp}
+use Rattle.cm_history.specs.History.{one_more, past_of}
 use Rattle.cm_history.specs.Image.{Image}
-use Rattle.cm_history.proofs.PublicLaws.{length-take-short}
+use Rattle.cm_history.specs.Legal.{may_ask}
+use Rattle.cm_history.specs.Limits.{within_limits}
+use Rattle.cm_history.proofs.PublicLaws.{Each, Each-by, Each-in, length-take-short}
+use Rattle.merged_history.specs.Own.{IsAsked}
 use Rattle.merged_history.specs.PassRules.{IsHistory}
 use Rattle.recorder.specs.Recording.{with_more}
 use Rattle.unit_core.specs.UnitState.{Stands}
@@ -96,3 +101,25 @@ all-folded s h is none = let long = stands-long s h is in let short = ap length 
 -- it is a history of the unit
 pub stands-history : (s : RecordedState) (h : List Entry) → StandsFor s h → IsHistory s.unit.unit h
 stands-history s h is = record { own = all-own s.unit.unit h is.unit.own; rising = is.rising }
+
+-- ---- each of its entries might be asked
+
+asked-folded : (config : Configuration) (n : ℕ) (xs : List Entry) (acc : List Deed) → AllAsked config n (fold (one_more config n) acc xs)
+    → AllAsked config n acc × Each (λ (e : Entry). (within_limits config n e.act ≡ true) × (may_ask n e.actor e.act ≡ true)) xs
+asked-folded config n [] acc all = (all, tt)
+asked-folded config n (x ∷ xs) acc all = let rest = asked-folded config n xs (one_more config n acc x) all in (rest.0.1, ((rest.0.0.limits, rest.0.0.asked), rest.1))
+
+pub stands-asked : (s : RecordedState) (h : List Entry) → StandsFor s h → s.unit.unit < length s.unit.config.units → Each (IsAsked s.unit.config) h
+stands-asked s h is low =
+    let config = s.unit.config in
+    let n = s.unit.unit in
+    let all = asked-folded config n h [] (subst (λ l. AllAsked config n (fold (one_more config n) [] l)) is.unit.own is.unit.asked) in
+    let own = all-own n h is.unit.own in
+    Each-by (IsAsked config) h (λ e i.
+    let here : e.unit ≡ n = Each-in (λ (x : Entry). x.unit ≡ n) h e own i in
+    let both = Each-in (λ (x : Entry). (within_limits config n x.act ≡ true) × (may_ask n x.actor x.act ≡ true)) h e all.1 i in
+    record {
+      configured = omega (arith, here, low);
+      limits = ap (λ u. within_limits config u e.act) here ∙ both.0;
+      asked = ap (λ u. may_ask u e.actor e.act) here ∙ both.1;
+    })
