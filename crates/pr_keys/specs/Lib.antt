@@ -1,3 +1,3 @@
-pub mod Codes
+pub mod Types
 pub mod Reservations
 pub mod Actions

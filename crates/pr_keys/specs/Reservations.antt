@@ -1,12 +1,12 @@
 -- The persistent reservations of a unit (own profile, after SPC-4), and what they bar
 use Rattle.std.specs.Prelude.{ℕ, List, [], map, find, Option, Some, None, is_some, Bool, true, false, ◌==◌, ◌&&◌, not}
 use Rattle.std.specs.Option.{option_map}
-use Rattle.pr_keys.specs.declared.holder.Holder.{Holder}
+use Rattle.cm_base.specs.declared.reservations.Holder.{Holder}
 use Rattle.pr_keys.specs.declared.registrants.Registrant.{Registrant}
 use Rattle.pr_keys.specs.declared.state.Reservation.{Reservation}
 use Rattle.pr_keys.specs.declared.kind.ReservationType.{ReservationType}
 use Rattle.pr_keys.specs.declared.kind.ReservationType.TheVariants.{WriteExclusive, ExclusiveAccess, WriteExclusiveRegistrantsOnly, ExclusiveAccessRegistrantsOnly}
-use Rattle.pr_keys.specs.Codes.{type_code}
+use Rattle.pr_keys.specs.Types.{type_code}
 
 pub record Reservations : Type 0 where
   -- in the order of registering

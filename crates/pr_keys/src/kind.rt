@@ -1,5 +1,5 @@
 ghost use Rattle.std.specs.Prelude.{◌≡◌, Some};
-ghost use Rattle.pr_keys.specs.Codes.{type_of, type_code};
+ghost use Rattle.pr_keys.specs.Types.{type_of, type_code};
 ghost use Rattle.pr_keys.specs.Reservations.{bars};
 
 /// The type of a persistent reservation (SPC-4): which commands of others it bars.

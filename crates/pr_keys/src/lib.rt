@@ -1,15 +1,11 @@
 // The persistent reservations of a unit: who is registered, who has reserved it, and what that bars others from.
 #![tactic(auto)]
 
-mod action;
-mod holder;
 mod kind;
 mod refused;
 mod registrants;
 mod state;
 
-pub use action::ReservationAction;
-pub use holder::{Holder, KeyList};
 pub use kind::ReservationType;
 pub use refused::PrRefused;
 pub use registrants::Registrant;

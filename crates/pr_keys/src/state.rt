@@ -4,13 +4,11 @@ ghost use Rattle.pr_keys.specs.Actions.{most_registrants, is_known, asked_type, 
 ghost use Rattle.std.specs.List.{list_any};
 ghost use Rattle.pr_keys.specs.declared.registrants.Registrant.{Registrant};
 
-use crate::action::ReservationAction;
-use crate::holder::{Holder, KeyList};
 use crate::kind::ReservationType;
 use crate::refused::PrRefused;
 use crate::registrants;
 use crate::registrants::Registrant;
-use cm_base::OutOfMemory;
+use cm_base::{Holder, KeyList, OutOfMemory, ReservationAction};
 use scsi_sense::Sense;
 use std::alloc::Global;
 use std::marker::Model;

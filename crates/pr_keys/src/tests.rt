@@ -1,6 +1,6 @@
 use crate::rows::{ASKED, ROWS, Row};
-use crate::{Holder, PrRefused, PrState};
-use cm_base::Bytes;
+use crate::{PrRefused, PrState};
+use cm_base::{Bytes, Holder};
 use scsi_sense::Sense;
 use std::alloc::Global;
 use std::test::Fail;

@@ -1,5 +1,19 @@
 ghost use Rattle.std.specs.Prelude.{◌≡◌, Some};
-ghost use Rattle.pr_keys.specs.Codes.{action_of, action_code};
+ghost use Rattle.cm_base.specs.ReservationActions.{action_of, action_code};
+
+use crate::sequence::Sequence;
+
+/// Reservation keys.
+pub type KeyList = Sequence<u64>;
+
+/// A persistent reservation, as READ RESERVATION tells it (SPC-4).
+#[derive(Debug, Drop, Clone, Copy, PartialEq, Eq)]
+pub struct Holder {
+    /// The key under which the reservation holder is registered.
+    pub key: u64,
+    /// The code of the reservation's type.
+    pub kind: u8,
+}
 
 /// What a PERSISTENT RESERVE OUT asks for, its service action (SPC-4).
 #[derive(Debug, Drop, Clone, Copy)]
