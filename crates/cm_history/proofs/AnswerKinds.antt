@@ -1,6 +1,6 @@
 -- Each answer has the kind that its act has
-use Rattle.std.proofs.Common.{ℕ, ◌+◌, ◌-◌, List, length, true, false, Bool}
-use Rattle.std.specs.Prelude.{Option, Some, None, ◌==◌, ◌^◌, not, find, nat_le, nat_lt, if◌then◌else◌}
+use Rattle.std.proofs.Common.{◌≡◌, refl, ℕ, ◌+◌, ◌-◌, List, length, true, false, Bool}
+use Rattle.std.specs.Prelude.{Option, Some, None, Result, Ok, Err, ◌==◌, ◌^◌, not, find, nat_le, nat_lt, if◌then◌else◌}
 use Rattle.std.specs.Str.{bytes_eq}
 use Rattle.lba_ranges.specs.Denoted.{total, is_within}
 use Rattle.cm_base.specs.Configuration.{Configuration}
@@ -20,9 +20,13 @@ use Rattle.cm_history.specs.Blocks.{held, cut, mapped_with}
 use Rattle.scsi_sense.specs.Codes.{remote_token_usage_not_supported, token_corrupt, invalid_field_in_cdb, lba_out_of_range, space_allocation_failed, operation_in_progress, insufficient_resources}
 use Rattle.cm_history.specs.Operations.{Operation, OfToken, OfCopy, has_key, kept, would_serve, next_piece, count}
 use Rattle.cm_history.specs.Tokens.{tokens}
-use Rattle.cm_history.specs.Answers.{answer_after, answer_end, done_if, answer_report, answer_recall, progress, progress_by, is_busy, is_crowded, put_at}
+use Rattle.cm_history.specs.Answers.{answer_after, answer_unbarred, answer_end, done_if, answer_report, answer_recall, progress, progress_by, is_busy, is_crowded, put_at}
+use Rattle.pr_keys.specs.Reservations.{Reservations}
+use Rattle.pr_keys.specs.Actions.{Refusal, Conflict, Refused}
+use Rattle.cm_history.specs.Reserving.{reservations, bars_act, done_out, answer_out}
 use Rattle.cm_history.specs.History.{past_of, answer}
 use Rattle.cm_history.specs.Forms.{HasKind}
+use Rattle.cm_history.proofs.Reserved.{barred-kind}
 
 either : (act : Act) (t : Bool) (a b : Answer) → HasKind act a → HasKind act b → HasKind act (if t then a else b)
 either act true a b x y = x
@@ -73,32 +77,37 @@ recall-kind : (id : ℕ) (w : Option Operation) → HasKind (Act.Recall id) (ans
 recall-kind id None = tt
 recall-kind id (Some o) = tt
 
-pub after-kind : (config : Configuration) (unit : ℕ) (past : List Deed) (actor : Actor) (now : ℕ) (act : Act)
-    → HasKind act (answer_after config unit past actor now act)
-after-kind config unit past actor now (Act.Read lba count) =
+out-kind : (action scope kind key action_key : ℕ) (r : Result Reservations Refusal) → HasKind (Act.PrOut action scope kind key action_key) (answer_out r)
+out-kind action scope kind key action_key (Ok after) = tt
+out-kind action scope kind key action_key (Err Conflict) = tt
+out-kind action scope kind key action_key (Err (Refused sense)) = tt
+
+unbarred-kind : (config : Configuration) (unit : ℕ) (past : List Deed) (actor : Actor) (now : ℕ) (act : Act)
+    → HasKind act (answer_unbarred config unit past actor now act)
+unbarred-kind config unit past actor now (Act.Read lba count) =
     either (Act.Read lba count) (nat_le (lba + count) (unit_of config unit).blocks)
     (Answer.Blocks (cut (unit_of config unit) (held past) (row lba count))) (Answer.Refused lba_out_of_range) tt tt
-after-kind config unit past actor now (Act.Capture lba count) =
+unbarred-kind config unit past actor now (Act.Capture lba count) =
     either (Act.Capture lba count) (nat_le (lba + count) (unit_of config unit).blocks)
     (Answer.Blocks (cut (unit_of config unit) (held past) (row lba count))) (Answer.Refused lba_out_of_range) tt tt
-after-kind config unit past actor now (Act.Write lba list) = go (nat_lt (unit_of config unit).blocks (lba + length list.items)) (nat_lt (unit_of config unit).quota (mapped_with (unit_of config unit) (held past) (put_at lba list.items)))
+unbarred-kind config unit past actor now (Act.Write lba list) = go (nat_lt (unit_of config unit).blocks (lba + length list.items)) (nat_lt (unit_of config unit).quota (mapped_with (unit_of config unit) (held past) (put_at lba list.items)))
   where
     go : (a b : Bool) → HasKind (Act.Write lba list) (if a then Answer.Refused lba_out_of_range else if b then Answer.Refused space_allocation_failed else Answer.Done)
     go true b = tt
     go false true = tt
     go false false = tt
-after-kind config unit past actor now (Act.Put lba list) = go (nat_lt (unit_of config unit).blocks (lba + length list.items)) (nat_lt (unit_of config unit).quota (mapped_with (unit_of config unit) (held past) (put_at lba list.items)))
+unbarred-kind config unit past actor now (Act.Put lba list) = go (nat_lt (unit_of config unit).blocks (lba + length list.items)) (nat_lt (unit_of config unit).quota (mapped_with (unit_of config unit) (held past) (put_at lba list.items)))
   where
     go : (a b : Bool) → HasKind (Act.Put lba list) (if a then Answer.Refused lba_out_of_range else if b then Answer.Refused space_allocation_failed else Answer.Done)
     go true b = tt
     go false true = tt
     go false false = tt
-after-kind config unit past actor now (Act.Unmap ranges) =
+unbarred-kind config unit past actor now (Act.Unmap ranges) =
     either (Act.Unmap ranges) (is_within (unit_of config unit).blocks ranges) Answer.Done (Answer.Refused lba_out_of_range) tt tt
-after-kind config unit past actor now (Act.MapStatus lba) =
+unbarred-kind config unit past actor now (Act.MapStatus lba) =
     either (Act.MapStatus lba) (nat_lt lba (unit_of config unit).blocks)
     (Answer.Status (map_runs (held past) told_runs lba ((unit_of config unit).blocks - lba))) (Answer.Refused lba_out_of_range) tt tt
-after-kind config unit past actor now (Act.Populate id timeout ranges) =
+unbarred-kind config unit past actor now (Act.Populate id timeout ranges) =
     go (is_busy past actor OfToken id) (not (is_within (unit_of config unit).blocks ranges)) (nat_le (2 ^ 48) (length (tokens past)))
   where
     go : (a b c : Bool) → HasKind (Act.Populate id timeout ranges)
@@ -107,9 +116,9 @@ after-kind config unit past actor now (Act.Populate id timeout ranges) =
     go false true c = tt
     go false false true = tt
     go false false false = tt
-after-kind config unit past actor now (Act.Redeem text target) = redeem-kind config unit _ text target (named_token past text)
-after-kind config unit past actor now (Act.Delete serial) = tt
-after-kind config unit past actor now (Act.Start id background ranges rod) =
+unbarred-kind config unit past actor now (Act.Redeem text target) = redeem-kind config unit _ text target (named_token past text)
+unbarred-kind config unit past actor now (Act.Delete serial) = tt
+unbarred-kind config unit past actor now (Act.Start id background ranges rod) =
     go (is_busy past actor OfToken id) (not (is_within (unit_of config unit).blocks ranges)) (is_crowded past)
   where
     go : (a b c : Bool) → HasKind (Act.Start id background ranges rod)
@@ -119,23 +128,34 @@ after-kind config unit past actor now (Act.Start id background ranges rod) =
     go false true c = tt
     go false false true = tt
     go false false false = tt
-after-kind config unit past actor now (Act.Advance id) = advance-kind config unit past id (would_serve past actor (Act.Advance id))
-after-kind config unit past actor now Act.Pump = pump-kind config unit past (would_serve past actor Act.Pump)
-after-kind config unit past actor now (Act.End id) = end-kind id (would_serve past actor (Act.End id))
-after-kind config unit past actor now (Act.Abort id) = abort-kind id (would_serve past actor (Act.Abort id))
-after-kind config unit past actor now (Act.Report id) = report-kind id (find (has_key actor OfToken id) (kept past))
-after-kind config unit past actor now (Act.Open id) = go (is_busy past actor OfCopy id) (is_crowded past)
+unbarred-kind config unit past actor now (Act.Advance id) = advance-kind config unit past id (would_serve past actor (Act.Advance id))
+unbarred-kind config unit past actor now Act.Pump = pump-kind config unit past (would_serve past actor Act.Pump)
+unbarred-kind config unit past actor now (Act.End id) = end-kind id (would_serve past actor (Act.End id))
+unbarred-kind config unit past actor now (Act.Abort id) = abort-kind id (would_serve past actor (Act.Abort id))
+unbarred-kind config unit past actor now (Act.Report id) = report-kind id (find (has_key actor OfToken id) (kept past))
+unbarred-kind config unit past actor now (Act.Open id) = go (is_busy past actor OfCopy id) (is_crowded past)
   where
     go : (a b : Bool) → HasKind (Act.Open id) (if a then Answer.Refused operation_in_progress else if b then Answer.Refused insufficient_resources else Answer.Done)
     go true b = tt
     go false true = tt
     go false false = tt
-after-kind config unit past actor now (Act.Close id result) = close (would_serve past actor (Act.Close id result))
+unbarred-kind config unit past actor now (Act.Close id result) = close (would_serve past actor (Act.Close id result))
   where
     close : (w : Option Operation) → HasKind (Act.Close id result) (done_if w)
     close None = tt
     close (Some o) = tt
-after-kind config unit past actor now (Act.Recall id) = recall-kind id (find (has_key actor OfCopy id) (kept past))
+unbarred-kind config unit past actor now (Act.Recall id) = recall-kind id (find (has_key actor OfCopy id) (kept past))
+unbarred-kind config unit past actor now (Act.PrOut action scope kind key action_key) = out-kind action scope kind key action_key (done_out (reservations past) actor action scope kind key action_key)
+unbarred-kind config unit past actor now Act.PrKeys = tt
+unbarred-kind config unit past actor now Act.PrHolder = tt
+
+pub after-kind : (config : Configuration) (unit : ℕ) (past : List Deed) (actor : Actor) (now : ℕ) (act : Act)
+    → HasKind act (answer_after config unit past actor now act)
+after-kind config unit past actor now act = go (bars_act (reservations past) actor act) refl
+  where
+    go : (t : Bool) → bars_act (reservations past) actor act ≡ t → HasKind act (if t then Answer.Conflict else answer_unbarred config unit past actor now act)
+    go true e = barred-kind (reservations past) actor act e
+    go false e = unbarred-kind config unit past actor now act
 
 pub answer-kind : (config : Configuration) (entries : List Entry) (unit : ℕ) (actor : Actor) (now : ℕ) (act : Act)
     → HasKind act (answer config entries unit actor now act)

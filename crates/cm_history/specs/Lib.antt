@@ -6,6 +6,7 @@ pub mod Tokens
 pub mod Operations
 pub mod Ends
 pub mod Redeeming
+pub mod Reserving
 pub mod Answers
 pub mod History
 pub mod Forms

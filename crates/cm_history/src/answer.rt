@@ -1,4 +1,5 @@
 use crate::act::CopyEnd;
+use cm_base::{Holder, KeyList};
 use lba_ranges::{BlockList, StatusList};
 use scsi_sense::Sense;
 
@@ -33,5 +34,14 @@ pub enum Answer {
     Idle,
     Report(OpReport),
     Copy(CopyEnd),
+    /// The registered keys, at most 64, in the order of registering.
+    Keys { generation: u32, keys: KeyList },
+    /// The reservation, if one stands.
+    Holder {
+        generation: u32,
+        holder: Option<Holder>,
+    },
     Refused(Sense),
+    /// A registration or a reservation stands against the act: RESERVATION CONFLICT.
+    Conflict,
 }
