@@ -3,6 +3,7 @@ pub use Rattle.cm_history.proofs.Lists.{Each, Each-all, Each-append, Each-by, Ea
 pub use Rattle.cm_history.proofs.Counts.{IsBegun, IsPast, begun, made-after}
 pub use Rattle.cm_history.proofs.Records.{and_first, kept_in, making_serves, running_kept, served_none}
 pub use Rattle.cm_history.proofs.Made.{Has, IsMade, all-made, past_of-mine, past_of-other, token-kept}
+pub use Rattle.cm_history.proofs.Reserved.{barred-kind, free-answer, free-answered, out-refused, reservations-sound}
 pub use Rattle.cm_history.proofs.Keys.{KeysApart, and_second, keys-apart, one-key, record-found, same-record, same_actor-is, same_form-is}
 pub use Rattle.cm_history.proofs.CountLaw.{past-is, same_actor-self}
 pub use Rattle.cm_history.proofs.Locality.{past_of-on}

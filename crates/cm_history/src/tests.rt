@@ -2,7 +2,7 @@ ghost use Rattle.std.specs.Prelude.{◌≡◌, ◌≤◌, length, IfOk};
 ghost use Rattle.cm_history.specs.Legal.{IsLegal};
 
 use super::*;
-use cm_base::{Config, OutOfMemory, Payload, UnitConfig, UnitList};
+use cm_base::{Config, KeyList, OutOfMemory, Payload, UnitConfig, UnitList};
 use lba_ranges::{BlockList, Fill, MapRun, Piece, Range, RangeList, StatusList};
 use std::alloc::Global;
 use std::test::Fail;
@@ -104,6 +104,16 @@ fn capture(count: u32) -> Act {
     Act::Capture { lba: 0, count }
 }
 
+fn reserve(action: u8, scope: u8, kind: u8) -> Act {
+    Act::PrOut {
+        action,
+        scope,
+        kind,
+        key: 1,
+        action_key: 2,
+    }
+}
+
 /// The act may be asked of unit 0.
 fn allows(config: &Config, act: Act) -> bool
     requires { 1 ≤ length config.now.units }
@@ -119,6 +129,15 @@ fn numbers_have_limits(rt: HostRuntime) -> Result<(), Fail> {
     assert!(rt; allows(&config, close(CopyState::Done)));
     assert!(rt; !allows(&config, close(CopyState::Running)));
     assert!(rt; allows(&config, Act::Pump));
+    Ok(())
+}
+
+/// A service action that is not known, and fields of four bits.
+#[test]
+fn codes_of_reservations_have_limits(rt: HostRuntime) -> Result<(), Fail> {
+    let config = one_unit(&rt)?;
+    assert!(rt; allows(&config, reserve(0x06, 15, 15)) && !allows(&config, reserve(0x05, 0, 1)));
+    assert!(rt; !allows(&config, reserve(0x01, 16, 1)) && !allows(&config, reserve(0x01, 0, 16)));
     Ok(())
 }
 
@@ -177,6 +196,17 @@ fn runs_are_copied(rt: HostRuntime) -> Result<(), Fail> {
     let runs = Answer::Status(StatusList::copy(rt.alloc(), &[run])?);
     let told = runs.copy(rt.alloc())?;
     assert!(rt; matches!(&told, Answer::Status(runs) if runs.len() == 1));
+    Ok(())
+}
+
+#[test]
+fn keys_are_copied(rt: HostRuntime) -> Result<(), Fail> {
+    let told = Answer::Keys {
+        generation: 3,
+        keys: KeyList::copy(rt.alloc(), &[0xa1, 0xb2])?,
+    };
+    let told = told.copy(rt.alloc())?;
+    assert!(rt; matches!(&told, Answer::Keys { generation: 3, keys } if keys.len() == 2));
     Ok(())
 }
 
@@ -260,6 +290,7 @@ fn laws_can_be_called(rt: HostRuntime) -> Result<(), Fail> {
     locality_law(&config, &history, 0);
     kind_law(&config, &history, 0);
     refused_law(&config, &history, 0);
+    reservation_law(&config, &history, 0);
     write_law(&config, &history, 0);
     fold_law(
         &config,

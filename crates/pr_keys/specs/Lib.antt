@@ -1,3 +1,4 @@
 pub mod Types
 pub mod Reservations
 pub mod Actions
+pub mod Sound

@@ -2,11 +2,13 @@
 #![tactic(auto)]
 
 mod kind;
+mod laws;
 mod refused;
 mod registrants;
 mod state;
 
 pub use kind::ReservationType;
+pub use laws::sound_law;
 pub use refused::PrRefused;
 pub use registrants::Registrant;
 pub use state::{PrState, Reservation};

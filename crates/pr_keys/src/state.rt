@@ -78,6 +78,17 @@ impl PrState {
         }
     }
 
+    /// Equal reservations.
+    pub fn copy(&self) -> Result<PrState, OutOfMemory>
+        ensures { IfOk result (λ copy. copy ≡ self.now) }
+    {
+        Ok(PrState {
+            registrants: self.registrants.clone()?,
+            reservation: self.reservation,
+            generation: self.generation,
+        })
+    }
+
     /// Does what the nexus asks by a PERSISTENT RESERVE OUT, given by the code of its service
     /// action, its scope, the code of its type, its reservation key and its service action
     /// reservation key. A refusal is the first that holds, by the table of the profile; want of

@@ -1,5 +1,5 @@
 use crate::rows::{ASKED, ROWS, Row};
-use crate::{PrRefused, PrState};
+use crate::{PrRefused, PrState, sound_law};
 use cm_base::{Bytes, Holder};
 use scsi_sense::Sense;
 use std::alloc::Global;
@@ -172,5 +172,7 @@ fn holder_preempts_by_its_own_key(rt: HostRuntime) -> Result<(), Fail> {
     unit.apply(7, 0x00, 0, 0, 0xa1, 0xe5)?;
     assert!(rt; unit.holder() == Some(Holder { key: 0xe5, kind: 3 }));
     assert!(rt; unit.keys()?.len() == 1 && unit.generation() == 3);
+    assert!(rt; unit.copy()?.holder() == unit.holder());
+    sound_law();
     Ok(())
 }
