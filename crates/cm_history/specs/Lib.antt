@@ -19,3 +19,4 @@ pub mod Completeness
 pub mod Image
 pub mod Asked
 pub mod Folding
+pub mod inner
