@@ -82,7 +82,7 @@ out-kind action scope kind key action_key (Ok after) = tt
 out-kind action scope kind key action_key (Err Conflict) = tt
 out-kind action scope kind key action_key (Err (Refused sense)) = tt
 
-unbarred-kind : (config : Configuration) (unit : ℕ) (past : List Deed) (actor : Actor) (now : ℕ) (act : Act)
+pub unbarred-kind : (config : Configuration) (unit : ℕ) (past : List Deed) (actor : Actor) (now : ℕ) (act : Act)
     → HasKind act (answer_unbarred config unit past actor now act)
 unbarred-kind config unit past actor now (Act.Read lba count) =
     either (Act.Read lba count) (nat_le (lba + count) (unit_of config unit).blocks)

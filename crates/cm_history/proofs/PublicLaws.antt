@@ -8,7 +8,7 @@ pub use Rattle.cm_history.proofs.Keys.{KeysApart, and_second, keys-apart, one-ke
 pub use Rattle.cm_history.proofs.CountLaw.{past-is, same_actor-self}
 pub use Rattle.cm_history.proofs.Locality.{past_of-on}
 pub use Rattle.cm_history.proofs.LegalPush.{legal_push}
-pub use Rattle.cm_history.proofs.AnswerKinds.{after-kind, answer-kind}
+pub use Rattle.cm_history.proofs.AnswerKinds.{after-kind, answer-kind, unbarred-kind}
 pub use Rattle.cm_history.proofs.WritesOn.{more_of, no-failure}
 pub use Rattle.cm_history.proofs.WritesEnd.{Follows, follows-answer, follows-more, follows-started}
 pub use Rattle.cm_history.proofs.Finding.{all-map, all-same, any-filter, any-found, any-map, any-same, any-some, filter-map, filter-same, find-filter, find-map, find-passes, find-same, map-append, map-map, map-same}

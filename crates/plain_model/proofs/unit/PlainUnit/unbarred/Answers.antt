@@ -2,7 +2,7 @@ use Rattle.std.proofs.Common.{◌≡◌, ◌∙◌, ap}
 use Rattle.std.specs.Option.{option_copied}
 use Rattle.cm_history.specs.declared.act.Act.{Act}
 use Rattle.cm_history.specs.Operations.{would_serve}
-use Rattle.plain_model.proofs.unit.PlainUnit.outcome.Goals as goal
+use Rattle.plain_model.proofs.unit.PlainUnit.unbarred.Goals as goal
 
 pub returns-in-Advance : goal.returns-in-Advance
 returns-in-Advance c =
