@@ -1,4 +1,5 @@
-// Copies BYTES in memory into a fresh buffer, TIMES times, and prints the microseconds of the copies.
+// Copies BYTES in memory, TIMES times, and prints the microseconds of the copies: each into a fresh buffer, or with a
+// third word all into one that was written before.
 #define _GNU_SOURCE
 #include <stdio.h>
 #include <stdlib.h>
@@ -23,20 +24,24 @@ static double now(void)
 
 int main(int words, char **word)
 {
-    if (words != 3)
+    if (words != 3 && words != 4)
         return 1;
     size_t bytes = strtoull(word[1], NULL, 10);
     int times = atoi(word[2]);
     char *from = buffer(bytes);
     memset(from, 1, bytes);
+    char *again = words == 4 ? buffer(bytes) : NULL;
+    if (again)
+        memset(again, 1, bytes);
     double taken = 0;
     for (int i = 0; i < times; i++) {
         double start = now();
-        char *to = buffer(bytes);
+        char *to = again ? again : buffer(bytes);
         memcpy(to, from, bytes);
         __asm__ volatile("" : : "r"(to) : "memory");
         taken += now() - start;
-        munmap(to, bytes);
+        if (!again)
+            munmap(to, bytes);
     }
     printf("%.0f\n", taken);
     return 0;

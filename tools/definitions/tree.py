@@ -135,8 +135,9 @@ class Tree:
     def shared(self):
         """The definitions that the code of one crate names of another, as its views and invariants do."""
         files = [file for file in self.files if file.is_inner or not file.is_specs]
-        paths = [path for file in files for path in file.imports.values() if self.is_specs_path(path) and path[1] != file.crate]
-        return filter(None, map(self.imported_item, paths))
+        paths = [(file, path) for file in files for item in (file, *file.inner) for path in item.imports.values()]
+        others = [path for file, path in paths if self.is_specs_path(path) and path[1] != file.crate]
+        return filter(None, map(self.imported_item, others))
 
     def proved(self):
         """The definitions that proofs name."""

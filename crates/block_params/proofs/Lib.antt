@@ -1,3 +1,4 @@
 pub mod RangeDescriptors
 pub mod Written
 pub mod RoundTrip
+pub mod PublicLaws

@@ -1,11 +1,11 @@
 -- The lemmas of cm_history that other crates may cite
-pub use Rattle.cm_history.proofs.Lists.{Each, Each-all, Each-append, Each-by, Each-in, Each-map, In, In-filter, In-map, filter-passes, find-in, find-none, find-some, get-in, length-take-short}
-pub use Rattle.cm_history.proofs.Counts.{IsBegun, IsPast, begun, made-after}
-pub use Rattle.cm_history.proofs.Records.{and_first, kept_in, making_serves, running_kept, served_none}
+pub use Rattle.cm_history.proofs.Lists.{Each, Each-all, Each-append, Each-by, Each-in, Each-map, In, In-append, In-append_right, In-contains, In-filter, In-map, any-none, contains-in, filter-passes, find-in, find-none, find-some, get-in, length-take-short}
+pub use Rattle.cm_history.proofs.Counts.{IsBegun, IsPast, apart, begun, earlier, made-after, same_place}
+pub use Rattle.cm_history.proofs.Records.{and_first, kept_in, making_serves, running_kept, served_none, with_room_in}
 pub use Rattle.cm_history.proofs.Made.{Has, IsMade, all-made, past_of-mine, past_of-other, token-kept}
 pub use Rattle.cm_history.proofs.Reserved.{barred-kind, free-answer, free-answered, out-refused, reservations-sound}
 pub use Rattle.cm_history.proofs.Keys.{KeysApart, and_second, keys-apart, one-key, record-found, same-record, same_actor-is, same_form-is}
-pub use Rattle.cm_history.proofs.CountLaw.{past-is, same_actor-self}
+pub use Rattle.cm_history.proofs.CountLaw.{length-past, past-is, same_actor-self}
 pub use Rattle.cm_history.proofs.Locality.{past_of-on}
 pub use Rattle.cm_history.proofs.LegalPush.{legal_push}
 pub use Rattle.cm_history.proofs.AnswerKinds.{after-kind, answer-kind, unbarred-kind}
@@ -17,3 +17,6 @@ pub use Rattle.cm_history.proofs.Serving.{Closes, Ends, IsPaced, Moves, Serves, 
 pub use Rattle.cm_history.proofs.ImageBlocks.{both, read-same, status-same, write-same}
 pub use Rattle.cm_history.proofs.ImageOperations.{same_form-self}
 pub use Rattle.cm_history.proofs.ImageRoom.{some-map, sum-filter, sum-map, sum-same, whole-pieces}
+pub use Rattle.cm_history.proofs.TokenLaw.{token_law}
+pub use Rattle.cm_history.proofs.FoldLaw.{writings-image}
+pub use Rattle.cm_history.proofs.Imaging.{writings_by}

@@ -1,5 +1,5 @@
 -- Where one that runs is looked for, and the newest job
-use Rattle.std.proofs.Common.{◌≡◌, ℕ, zero, suc, ◌+◌, ◌-◌, ◌<◌, ◌≤◌, List, [], ◌∷◌, length, take, drop, get_or, refl, ap, sym, ◌∙◌, arith, one-add, zero-add, true, false, Bool}
+use Rattle.std.proofs.Common.{◌≡◌, ℕ, zero, suc, ◌+◌, ◌-◌, ◌<◌, ◌≤◌, List, [], ◌∷◌, length, take, drop, get_or, refl, ap, sym, ◌∙◌, arith, zero-add, true, false, Bool}
 use Rattle.std.specs.Option.{option_map}
 use Rattle.std.specs.Prelude.{slice_range, Option, None, IsSome, OnSome, IfSome, IfNone, ◌&&◌, ◌==◌, ◌||◌, not, Some, find, filter, cond, if◌then◌else◌}
 use Rattle.std.specs.List.{list_any, position_or_len}
@@ -8,11 +8,13 @@ use Rattle.copy_jobs.specs.declared.key.Key.{Key}
 use Rattle.copy_jobs.specs.declared.job.Job.{Job}
 use Rattle.copy_jobs.specs.Jobs.{has_key, has_ended, is_running, running, runs_as}
 use Rattle.copy_jobs.specs.Keys.{same_kind, same_key}
+use Rattle.copy_jobs.specs.Pieces.{is_background}
+use Rattle.copy_jobs.specs.Unended.{is_unended}
 use Rattle.copy_jobs.specs.Keeping.{is_other, without_first}
 use Rattle.copy_jobs.specs.Tables.{KeysApart}
 use Rattle.copy_jobs.proofs.Lists.{or_first, or_later}
 use Rattle.copy_jobs.proofs.Counts.{one_if, running-more}
-use Rattle.copy_jobs.proofs.SameKeys.{same_key-sym, same_copy}
+use Rattle.copy_jobs.proofs.SameKeys.{same_copy}
 use Rattle.copy_jobs.proofs.Next.{other-key}
 use Rattle.cm_history.proofs.PublicLaws.{and_first, and_second}
 
@@ -53,6 +55,9 @@ place-later test (x ∷ xs) (suc n) of low none =
 
 pub runs-running : (key : Key) → OfRunning (runs_as key)
 runs-running key job e = and_first (is_running job) (has_key key job) e
+
+pub unended-runs : OfRunning is_unended
+unended-runs job e = and_first (is_running job) (not (is_background job.work)) e
 
 -- where none runs, there is none before the end
 pub none-run : (jobs : List Job) (n : ℕ) → length (running jobs) ≡ 0 → list_any is_running (take n jobs) ≡ false

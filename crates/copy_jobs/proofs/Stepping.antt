@@ -152,7 +152,7 @@ stepped-table step key jobs own_running own_reserved is s =
     let f : Job → Job = with_work (stepped step) in
     let counted = change-running (runs_as key) f jobs job s.it.is in
     let freed = change-reserved (runs_as key) f jobs job s.it.is in
-    let now : IsJob (f job) = record { kind = s.is.kind ∙ sym s.after.kind; work = s.after.work } in
+    let now : IsJob (f job) = record { kind = s.is.kind ∙ sym s.after.kind; byte = s.is.byte; work = s.after.work } in
     let was : one_if (is_running job) ≡ 1 = rw s.runs refl in
     let either : one_if (is_running (f job)) + one_if (not (is_running (f job))) ≡ 1 = one-of (is_running (f job)) in
     record {

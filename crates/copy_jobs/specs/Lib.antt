@@ -3,6 +3,7 @@ pub mod Jobs
 pub mod Changes
 pub mod Keeping
 pub mod Pieces
+pub mod Unended
 pub mod Reports
 pub mod Tables
 pub mod inner

@@ -6,6 +6,7 @@ ghost use Rattle.copy_jobs.specs.Changes.{moved_write};
 ghost use Rattle.copy_jobs.specs.Pieces.{is_next, runs_in_background, is_foreground, is_background, IsPiece};
 ghost use Rattle.copy_jobs.specs.inner.Pieces.{is_writing, IsPieceOf};
 ghost use Rattle.copy_jobs.specs.Reports.{report_of, result_of};
+ghost use Rattle.copy_jobs.specs.Unended.{is_unended};
 ghost use Rattle.copy_jobs.specs.inner.Steps.{stepped, MayTake};
 ghost use Rattle.copy_jobs.specs.inner.Tables.{IsWriteJob, IsWork};
 
@@ -248,6 +249,13 @@ impl Job {
         ensures { result ≡ runs_in_background key self.now }
     {
         self.runs_as(key) && self.work.is_background()
+    }
+
+    /// It runs, and no pump writes it: it goes on, and comes to its end, only as its initiator asks.
+    pub(crate) fn is_unended(&self) -> bool
+        ensures { result ≡ is_unended self.now }
+    {
+        self.work.is_running() && !self.work.is_background()
     }
 
     /// The next piece, if it writes; `None` of other work.

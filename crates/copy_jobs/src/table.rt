@@ -1,4 +1,4 @@
-ghost use Rattle.std.specs.Prelude.{◌≡◌, ℕ, ◌+◌, ◌^◌, ◌≤◌, [], length, take, find, Some, None, true, false, IfOk, OnOk, OnErr, IfSome};
+ghost use Rattle.std.specs.Prelude.{◌≡◌, ℕ, ◌+◌, ◌^◌, ◌<◌, ◌≤◌, [], length, take, find, Some, None, true, false, IfOk, OnOk, OnErr, IfSome};
 ghost use Rattle.std.specs.Option.{option_map};
 ghost use Rattle.std.specs.List.{list_any};
 ghost use Rattle.lba_ranges.specs.Denoted.{total, is_within, is_overlapping};
@@ -10,6 +10,7 @@ ghost use Rattle.copy_jobs.specs.Keeping.{keep};
 ghost use Rattle.copy_jobs.specs.Changes.{change, with_work, moved_by, stopped_by, terminated, closed_by};
 ghost use Rattle.copy_jobs.specs.Pieces.{is_next, runs_in_background, next_length, IsNextPiece};
 ghost use Rattle.copy_jobs.specs.Reports.{report_of, result_of};
+ghost use Rattle.copy_jobs.specs.Unended.{unended};
 ghost use Rattle.copy_jobs.specs.inner.Steps.{stepped, MayStep};
 ghost use Rattle.copy_jobs.specs.Tables.{KeysApart};
 ghost use Rattle.copy_jobs.specs.inner.Tables.{IsJob};
@@ -100,6 +101,17 @@ impl JobTable {
         self.jobs
             .range(self.first_to_run()..)
             .any(|job| job.is_next(key))
+    }
+
+    /// The key of the operation that was kept first of those that run and that no pump writes: token operations in the
+    /// foreground, and copies. `None` where none runs so. It takes no memory.
+    pub fn unended(&self) -> Option<Key>
+        ensures unended { result ≡ unended self.now }
+        ensures byte { IfSome result (λ key. key.copy ≡ true → key.id < 2 ^ 8) }
+    {
+        let mut later = self.jobs.range(self.first_to_run()..);
+        let job = later.find(|job| job.is_unended())?;
+        Some(job.key)
     }
 
     /// How many operations run, at most 64. It takes no memory.
@@ -195,10 +207,11 @@ impl JobTable {
         self.add(Job { key, work })
     }
 
-    /// Keeps a copy that its nexus is to carry out (SPC-4, EXTENDED COPY). It is tested, and room is made, as for
-    /// `start`. At `OutOfMemory` the table is as before.
+    /// Keeps a copy that its nexus is to carry out (SPC-4, EXTENDED COPY), whose list identifier has one byte. It is
+    /// tested, and room is made, as for `start`. At `OutOfMemory` the table is as before.
     pub fn open(&mut self, key: Key) -> Result<(), OutOfMemory>
         requires copy { key.copy ≡ true }
+        requires byte { key.id < 2 ^ 8 }
         requires idle { is_busy key self.old ≡ false }
         requires room { is_crowded self.old ≡ false }
         ensures kept { OnOk result (self.new ≡ keep self.old (opened key)) }

@@ -1,4 +1,4 @@
-ghost use Rattle.std.specs.Prelude.{◌≡◌, ◌≤◌, true, false};
+ghost use Rattle.std.specs.Prelude.{◌≡◌, ◌≤◌, ◌<◌, ◌^◌, true, false};
 
 use super::*;
 use cm_history::{CopyEnd, CopyState, OpReport, OpState};
@@ -20,7 +20,8 @@ fn token(id: u32) -> Key
 
 /// A copy of initiator 7.
 fn copy(id: u32) -> Key
-    ensures { result.copy ≡ true }
+    ensures copy { result.copy ≡ true }
+    ensures id { result.id ≡ id }
 {
     Key {
         actor: 7,
@@ -69,7 +70,8 @@ fn make(table: &mut JobTable, key: Key, serial: u64, blocks: u32) -> Result<bool
 
 /// Opens a copy. Whether there was room, and none of the key ran.
 fn open(table: &mut JobTable, key: Key) -> Result<bool, Fail>
-    requires { key.copy ≡ true }
+    requires copy { key.copy ≡ true }
+    requires byte { key.id < 2 ^ 8 }
 {
     if table.runs(key) || table.is_crowded() {
         return Ok(false);
@@ -268,5 +270,54 @@ fn room(rt: HostRuntime) -> Result<(), Fail> {
     assert!(rt; table.report(token(0)).is_none());
     assert!(rt; table.report(token(1)).is_some());
     assert!(rt; table.report(token(255)).is_some());
+    Ok(())
+}
+
+/// Of a write in the background, a copy and a write in the foreground the copy is the first that its initiator has to
+/// end, and after it the write.
+#[test]
+fn unended(rt: HostRuntime) -> Result<(), Fail> {
+    let mut table = JobTable::new(rt.alloc());
+    assert!(rt; table.unended().is_none());
+    start(rt.alloc(), &mut table, token(1), true, 0, 3)?;
+    assert!(rt; table.unended().is_none());
+    assert!(rt; open(&mut table, copy(2))?);
+    start(rt.alloc(), &mut table, token(3), false, 10, 5)?;
+    assert!(rt;
+        matches!(
+            table.unended(),
+            Some(Key {
+                actor: 7,
+                copy: true,
+                id: 2
+            })
+        )
+    );
+    let key = copy(2);
+    if table.runs(key) {
+        table.close(
+            key,
+            CopyEnd {
+                state: CopyState::Terminated,
+                segments: 0,
+                bytes: 0,
+            },
+        );
+    }
+    assert!(rt;
+        matches!(
+            table.unended(),
+            Some(Key {
+                actor: 7,
+                copy: false,
+                id: 3
+            })
+        )
+    );
+    let key = token(3);
+    if table.runs(key) {
+        table.terminate(key);
+    }
+    assert!(rt; table.unended().is_none());
     Ok(())
 }

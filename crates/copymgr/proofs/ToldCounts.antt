@@ -98,14 +98,7 @@ tells : (rounds : ℕ) (summary : Summary) (pushed : List ℕ) (status : Status)
 tells rounds summary pushed Status.Done a p = (a.0, a.1, p ∙ ap summary_text a.2)
 tells rounds summary pushed Status.WriteFault a p = (a.0, a.1, subst (λ s. IsBeginning pushed (summary_text s)) a.2 p)
 tells rounds summary pushed Status.OutOfMemory a p = p
-tells rounds summary pushed Status.ReadFault a p = p
-tells rounds summary pushed (Status.Torn place) a p = p
-tells rounds summary pushed (Status.BadHeader place) a p = p
-tells rounds summary pushed Status.Usage a p = p
-tells rounds summary pushed Status.AcceptFault a p = p
-tells rounds summary pushed (Status.BadRecord place) a p = absurd p
-tells rounds summary pushed Status.Records a p = p
-tells rounds summary pushed (Status.Differs place) a p = p
+tells rounds summary pushed _ a p = absurd p
 
 pub told-counts : (rounds : ℕ) (summary : Summary) (taken given : Option (List ℕ)) (writes writes_after : ℕ) (status : Status)
     → IsAnswerOf rounds (Ok summary) → IsPushedSo taken given writes writes_after summary status → HasGenerated rounds taken given writes writes_after status

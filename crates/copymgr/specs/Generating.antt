@@ -42,13 +42,7 @@ IsTold rounds pushed Status.Done = (shortages : List Shortage) × EndedDone roun
 IsTold rounds pushed Status.WriteFault = (shortages : List Shortage) × EndedDone rounds shortages × IsBeginning pushed (summary_text (counts rounds shortages))
 IsTold rounds pushed (Status.BadRecord place) = (shortages : List Shortage) × EndedBad rounds shortages place × (pushed ≡ [])
 IsTold rounds pushed Status.OutOfMemory = pushed ≡ []
-IsTold rounds pushed Status.ReadFault = ⊥
-IsTold rounds pushed (Status.Torn place) = ⊥
-IsTold rounds pushed (Status.BadHeader place) = ⊥
-IsTold rounds pushed Status.Usage = ⊥
-IsTold rounds pushed Status.AcceptFault = ⊥
-IsTold rounds pushed Status.Records = ⊥
-IsTold rounds pushed (Status.Differs place) = ⊥
+IsTold rounds pushed other = ⊥
 
 -- a failed write is answered only where the sink counted one
 abbrev pub IsWriteCounted : ℕ → ℕ → Status → Type 0

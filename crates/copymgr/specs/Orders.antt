@@ -10,6 +10,10 @@ replay_words = codes "replay" ∷ []
 abbrev pub check_words : List (List ℕ)
 check_words = codes "check" ∷ []
 
+-- the one word `copy`
+abbrev pub copy_words : List (List ℕ)
+copy_words = codes "copy" ∷ []
+
 -- the word `gen`, and a number without a sign or a leading zero
 abbrev pub gen_words : ℕ → List (List ℕ)
 gen_words rounds = codes "gen" ∷ decimal rounds ∷ []
@@ -17,6 +21,7 @@ gen_words rounds = codes "gen" ∷ decimal rounds ∷ []
 abbrev pub words_of : Order → List (List ℕ)
 words_of Order.Replay = replay_words
 words_of Order.Check = check_words
+words_of Order.Copy = copy_words
 words_of (Order.Generate rounds) = gen_words rounds
 
 -- rounds that may be asked for
@@ -26,8 +31,9 @@ AreRounds rounds = (1 ≤ rounds) × (rounds ≤ 4096)
 abbrev pub IsOrder : Order → Type 0
 IsOrder Order.Replay = Unit {0}
 IsOrder Order.Check = Unit {0}
+IsOrder Order.Copy = Unit {0}
 IsOrder (Order.Generate rounds) = AreRounds rounds
 
--- neither `replay`, `check` nor `gen` with such a number
+-- neither `replay`, `check`, `copy` nor `gen` with such a number
 abbrev pub AreUnknown : List (List ℕ) → Type 0
-AreUnknown words = (words ≢ replay_words) × (words ≢ check_words) × ((rounds : ℕ) → AreRounds rounds → words ≢ gen_words rounds)
+AreUnknown words = (words ≢ replay_words) × (words ≢ check_words) × (words ≢ copy_words) × ((rounds : ℕ) → AreRounds rounds → words ≢ gen_words rounds)

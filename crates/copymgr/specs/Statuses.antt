@@ -1,9 +1,11 @@
--- How the program ends, by the answer of a replay or of a check
+-- How the program ends, by the answer of a replay, of a check or of a copy
 use Rattle.std.specs.Prelude.{ℕ, Result, Ok, Err}
 use Rattle.trace_replay.specs.declared.summary.Summary.{Summary}
 use Rattle.trace_replay.specs.declared.fault.ReplayFault.{ReplayFault}
 use Rattle.trace_check.specs.declared.checker.CheckEnd.{CheckEnd}
 use Rattle.cm_server.specs.declared.status.Status.{Status as ServeStatus}
+use Rattle.odx_host.specs.declared.fault.Copied.{Copied}
+use Rattle.odx_host.specs.declared.stream_port.StreamFault.{StreamFault}
 use Rattle.copymgr.specs.declared.status.Status.{Status}
 
 -- each fault ends the program in a status of its own
@@ -27,6 +29,21 @@ check_status (Ok CheckEnd.Yes) = Status.Done
 check_status (Ok (CheckEnd.Differs place)) = Status.Differs place
 check_status (Err fault) = fault_status fault
 
+-- after a copy; the places of its job are those of the input
+abbrev pub copy_status : Result Copied StreamFault → Status
+copy_status (Ok copied) = Status.Done
+copy_status (Err StreamFault.OutOfMemory) = Status.OutOfMemory
+copy_status (Err StreamFault.ReadFault) = Status.ReadFault
+copy_status (Err StreamFault.WriteFault) = Status.WriteFault
+copy_status (Err StreamFault.Torn) = Status.Torn 0
+copy_status (Err (StreamFault.BadJob place)) = Status.BadHeader place
+copy_status (Err StreamFault.Ended) = Status.Ended
+copy_status (Err StreamFault.BadReply) = Status.BadReply
+copy_status (Err (StreamFault.Refused step)) = Status.Refused step
+copy_status (Err (StreamFault.BadData step)) = Status.BadData step
+copy_status (Err (StreamFault.Failed step)) = Status.CopyFailed step
+copy_status (Err (StreamFault.Polls step)) = Status.Polls step
+
 -- after serving
 abbrev pub serve_status : ServeStatus → Status
 serve_status ServeStatus.Done = Status.Done
@@ -48,3 +65,9 @@ code_of (Status.BadRecord place) = 7
 code_of Status.Records = 8
 code_of Status.AcceptFault = 9
 code_of (Status.Differs place) = 10
+code_of (Status.Refused step) = 13
+code_of (Status.CopyFailed step) = 14
+code_of (Status.Polls step) = 15
+code_of (Status.BadData step) = 16
+code_of Status.Ended = 17
+code_of Status.BadReply = 18

@@ -1,11 +1,15 @@
 // The program: replays a recorded trace from standard input to standard output, or a generated one, checks the replies
-// that were recorded with a trace, or serves connections.
+// that were recorded with a trace, copies blocks as a host does, or serves connections.
 #![tactic(auto)]
 
+mod chained;
 #[cfg(test)]
 mod checks;
 mod ends;
 mod generating;
+mod hosting;
+#[cfg(test)]
+mod hosting_tests;
 mod order;
 #[cfg(test)]
 mod random;
@@ -24,6 +28,7 @@ mod top;
 mod unit_files;
 
 use cm_base::{OutOfMemory, StandardInput, StandardOutput, Word};
+use hosting::{are_hosting, host_words};
 use ready::{Empty, ReadyMemory, make_ready};
 use rtrb::RingBuffer;
 use serving::{are_serving, serve_words};
@@ -85,6 +90,7 @@ fn run<R: Threads + Wait + Input + Print + Sync>(rt: &R, host: &HostRuntime) -> 
         Err(error) => return unread(error),
     };
     match words(host.alloc(), args) {
+        Ok(words) if are_hosting(&words) => host_words(host, host.alloc(), &words),
         Ok(words) if are_serving(&words) => serve_words(rt, host, host.alloc(), &words),
         Ok(words) => work(rt, host.alloc(), &words).unwrap_or(Status::OutOfMemory),
         Err(OutOfMemory) => Status::OutOfMemory,

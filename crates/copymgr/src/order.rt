@@ -12,6 +12,8 @@ pub enum Order {
     Replay,
     /// `check`: the trace from the input is played, and its replies are compared with those behind it.
     Check,
+    /// `copy`: the blocks of the job from the input are copied, by the replies behind it.
+    Copy,
     /// `gen N`: the generated trace of so many rounds is played, 1 to 4096.
     Generate(u32),
 }
@@ -57,6 +59,7 @@ pub fn order_of(words: &[Word]) -> Option<Order>
     match words {
         [word] if word.as_slice() == b"replay".as_slice() => Some(Order::Replay),
         [word] if word.as_slice() == b"check".as_slice() => Some(Order::Check),
+        [word] if word.as_slice() == b"copy".as_slice() => Some(Order::Copy),
         [word, number] if word.as_slice() == b"gen".as_slice() => {
             Some(Order::Generate(rounds(number.as_slice())?))
         }

@@ -24,7 +24,7 @@ pub fn are_serving(words: &[Word]) -> bool {
 }
 
 /// The text of a word.
-fn text(word: &Word) -> &str {
+pub fn text(word: &Word) -> &str {
     str::from_utf8(word.as_slice()).unwrap_or("")
 }
 

@@ -1,7 +1,8 @@
 ghost use Rattle.std.specs.Prelude.{◌≡◌};
-ghost use Rattle.copymgr.specs.Statuses.{code_of, fault_status, status_of, check_status, serve_status};
+ghost use Rattle.copymgr.specs.Statuses.{code_of, fault_status, status_of, check_status, copy_status, serve_status};
 
 use cm_server::Status as ServeStatus;
+use odx_host::{Copied, StreamFault};
 use std::fmt;
 use trace_check::CheckEnd;
 use trace_replay::{ReplayFault, Summary};
@@ -27,6 +28,18 @@ pub enum Status {
     AcceptFault,
     /// The recorded replies are not those of the trace: the first difference is at this place, from their first byte.
     Differs(u64),
+    /// A request of this step of a copy was refused.
+    Refused(u32),
+    /// The write of this step of a copy failed, or was terminated.
+    CopyFailed(u32),
+    /// The write of this step of a copy still ran when it had been polled as often as the job allows.
+    Polls(u32),
+    /// What was told of this step of a copy is told by no copy manager.
+    BadData(u32),
+    /// The replies of a copy ended before its end.
+    Ended,
+    /// What stands in place of a reply of a copy is none.
+    BadReply,
 }
 
 impl Status {
@@ -46,6 +59,12 @@ impl Status {
             Status::Records => 8,
             Status::AcceptFault => 9,
             Status::Differs(_) => 10,
+            Status::Refused(_) => 13,
+            Status::CopyFailed(_) => 14,
+            Status::Polls(_) => 15,
+            Status::BadData(_) => 16,
+            Status::Ended => 17,
+            Status::BadReply => 18,
         }
     }
 }
@@ -89,6 +108,27 @@ impl From<Result<CheckEnd, ReplayFault>> for Status {
     }
 }
 
+impl From<Result<Copied, StreamFault>> for Status {
+    ghost from_gives = { λ answer status. status ≡ copy_status answer };
+
+    fn from(answer: Result<Copied, StreamFault>) -> Status {
+        match answer {
+            Ok(_) => Status::Done,
+            Err(StreamFault::OutOfMemory) => Status::OutOfMemory,
+            Err(StreamFault::ReadFault) => Status::ReadFault,
+            Err(StreamFault::WriteFault) => Status::WriteFault,
+            Err(StreamFault::Torn) => Status::Torn(0),
+            Err(StreamFault::BadJob { place }) => Status::BadHeader(place),
+            Err(StreamFault::Ended) => Status::Ended,
+            Err(StreamFault::BadReply) => Status::BadReply,
+            Err(StreamFault::Refused { step }) => Status::Refused(step),
+            Err(StreamFault::BadData { step }) => Status::BadData(step),
+            Err(StreamFault::Failed { step }) => Status::CopyFailed(step),
+            Err(StreamFault::Polls { step }) => Status::Polls(step),
+        }
+    }
+}
+
 impl From<ServeStatus> for Status {
     ghost from_gives = { λ served status. status ≡ serve_status served };
 
@@ -116,13 +156,19 @@ impl fmt::Display for Status {
             Status::Usage => {
                 write!(
                     f,
-                    "use replay, check, gen N, or serve ADDRESS SESSIONS [FOLDER]"
+                    "use replay, check, copy [ADDRESS], gen N, or serve ADDRESS SESSIONS [FOLDER]"
                 )
             }
             Status::BadRecord(place) => write!(f, "bad record at byte {place}"),
             Status::Records => write!(f, "too many records"),
             Status::AcceptFault => write!(f, "accept failed"),
             Status::Differs(place) => write!(f, "replies differ at byte {place}"),
+            Status::Refused(step) => write!(f, "refused at step {step}"),
+            Status::CopyFailed(step) => write!(f, "copy failed at step {step}"),
+            Status::Polls(step) => write!(f, "still running at step {step}"),
+            Status::BadData(step) => write!(f, "bad data at step {step}"),
+            Status::Ended => write!(f, "replies ended"),
+            Status::BadReply => write!(f, "bad reply"),
         }
     }
 }

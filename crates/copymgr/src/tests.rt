@@ -461,12 +461,18 @@ fn statuses(rt: HostRuntime) -> Result<(), Fail> {
         (
             Status::Usage,
             6,
-            "use replay, check, gen N, or serve ADDRESS SESSIONS [FOLDER]",
+            "use replay, check, copy [ADDRESS], gen N, or serve ADDRESS SESSIONS [FOLDER]",
         ),
         (Status::AcceptFault, 9, "accept failed"),
         (Status::BadRecord(109), 7, "bad record at byte 109"),
         (Status::Records, 8, "too many records"),
         (Status::Differs(1555), 10, "replies differ at byte 1555"),
+        (Status::Refused(2), 13, "refused at step 2"),
+        (Status::CopyFailed(2), 14, "copy failed at step 2"),
+        (Status::Polls(2), 15, "still running at step 2"),
+        (Status::BadData(1), 16, "bad data at step 1"),
+        (Status::Ended, 17, "replies ended"),
+        (Status::BadReply, 18, "bad reply"),
     ];
     for (status, code, line) in all {
         assert!(rt; status.code() == code);

@@ -11,3 +11,5 @@ mod FileReads
 mod Scans
 mod Shapes
 mod Openings
+pub mod Good
+pub mod PublicLaws

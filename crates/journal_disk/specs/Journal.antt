@@ -57,6 +57,22 @@ pub record IsJournal {D : Type 0} (reads : D → Option (List ℕ)) (may_leave :
   pub spelled : AreSpelled config unit 0 payloads es
   pub tries : BegunSpells config unit (last_stamp 0 es) begun tried
 
+-- ---- no file that is bad
+
+-- it is opened as some entries, and so is not bad
+abbrev pub IsOpened : Configuration → ℕ → List ℕ → Type 0
+IsOpened config unit c = (es : List Entry) × (opened config unit c ≡ Ok es)
+
+-- The file is told, and nothing that a crash may leave now is bad.
+pub record IsGood {D : Type 0} (reads : D → Option (List ℕ)) (may_leave : D → List ℕ → Type 0) (config : Configuration) (unit : ℕ) (disk : D) : Type 0 where
+  pub told : IsTold (reads disk)
+  pub opens : (c : List ℕ) → may_leave disk c → IsOpened config unit c
+
+-- It is so still, and nothing that a crash at a moment since left is bad.
+pub record StaysGood {D : Type 0} (reads : D → Option (List ℕ)) (may_leave : D → List ℕ → Type 0) (moment : D → ℕ) (left_since : D → ℕ → List ℕ → Type 0) (config : Configuration) (unit : ℕ) (old new : D) : Type 0 where
+  pub good : IsGood reads may_leave config unit new
+  pub moments : LeavesOnly moment left_since old new (IsOpened config unit)
+
 -- The first of some calls is a sync, before which nothing was written; from its end on each file that a crash may leave
 -- has P.
 pub record SyncsFirst {D : Type 0} (reads : D → Option (List ℕ)) (may_leave : D → List ℕ → Type 0) (moment : D → ℕ) (left_since : D → ℕ → List ℕ → Type 0) (old new : D) (P : List ℕ → Type 0) : Type 0 where

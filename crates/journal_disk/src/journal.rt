@@ -7,7 +7,7 @@ ghost use Rattle.recorder.specs.declared.recording.RecordRefused.{RecordRefused}
 ghost use Rattle.journal_disk.specs.Disk.{LeavesOnly};
 ghost use Rattle.journal_disk.specs.Log.{IsTried, IsKept};
 ghost use Rattle.journal_disk.specs.inner.Texts.{HasText};
-ghost use Rattle.journal_disk.specs.Journal.{MayFollow, IsJournal, OpensAsOrOneMore};
+ghost use Rattle.journal_disk.specs.Journal.{MayFollow, IsJournal, OpensAsOrOneMore, StaysGood};
 
 use crate::{Disk, Log};
 use cm_base::OutOfMemory;
@@ -97,6 +97,11 @@ impl<D: Disk + Drop> Journal<D> {
         ensures any_moment { (config : Configuration) (unit : ℕ) (es : List Entry) (tried : Option Entry)
             → IsJournal D.reads D.may_leave config unit es tried self.old → MayFollow config unit es entry.now
             → LeavesOnly D.moment D.left_since self.old.disk self.new.disk (OpensAsOrOneMore config unit es tried entry.now) }
+
+        // So nothing that a crash leaves is bad.
+        ensures good { (config : Configuration) (unit : ℕ) (es : List Entry) (tried : Option Entry)
+            → IsJournal D.reads D.may_leave config unit es tried self.old → MayFollow config unit es entry.now
+            → StaysGood D.reads D.may_leave D.moment D.left_since config unit self.old.disk self.new.disk }
 
         ensures failed { IfErr result (λ e. e ≡ RecordRefused.Failed → Rose (D.disk_faults self.old.disk) (D.disk_faults self.new.disk)) }
         ensures present { IfErr result (λ e. e ≢ RecordRefused.Absent) }

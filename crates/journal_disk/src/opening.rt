@@ -1,10 +1,11 @@
 // A journal is opened: its file is made new, or read.
-ghost use Rattle.std.specs.Prelude.{◌≡◌, ◌⊎◌, ◌≤◌, ◌<◌, ◌+◌, ℕ, List, Option, Some, None, Ok, Err, length, IfOk, IfErr, IfSome, OnOk, OnErr, false};
+ghost use Rattle.std.specs.Prelude.{◌≡◌, ◌≢◌, ◌⊎◌, ◌≤◌, ◌<◌, ◌+◌, ℕ, List, Option, Some, None, Ok, Err, length, IfOk, IfErr, IfSome, OnOk, OnErr, false};
 ghost use Rattle.cm_history.specs.declared.act.Entry.{Entry};
 ghost use Rattle.recorder.specs.Recording.{Rose};
 ghost use Rattle.journal_disk.specs.Disk.{IsSynced, LeavesOnly};
 ghost use Rattle.journal_disk.specs.Opened.{front_bytes, opened};
-ghost use Rattle.journal_disk.specs.Journal.{IsJournal, SyncsFirst};
+ghost use Rattle.journal_disk.specs.Journal.{IsJournal, IsGood, StaysGood, SyncsFirst};
+ghost use Rattle.journal_disk.specs.Log.{IsTold};
 ghost use Rattle.journal_disk.specs.declared.opening.OpenFault.{OpenFault};
 
 use crate::judging::{Shape, judge, new_file};
@@ -74,6 +75,7 @@ fn open_synced<D: Disk>(
     unit: u16,
 ) -> Result<Opened, OpenFault>
     requires configured { unit < length config.now.units }
+    ensures told { IsTold (D.reads disk.old) → IsTold (D.reads disk.new) }
     ensures untold { D.reads disk.old ≡ None → D.reads disk.new ≡ None }
     ensures within { IfOk result (λ r. IfSome (D.reads disk.new) (λ bytes. r.gate < length bytes)) }
     ensures opened { (file : List ℕ) → D.reads disk.old ≡ Some file → IsSynced (D.reads disk.old) (D.may_leave disk.old)
@@ -118,6 +120,7 @@ fn open_disk<D: Disk>(
     unit: u16,
 ) -> Result<Opened, OpenFault>
     requires configured { unit < length config.now.units }
+    ensures told { IsTold (D.reads disk.old) → IsTold (D.reads disk.new) }
     ensures untold { D.reads disk.old ≡ None → D.reads disk.new ≡ None }
     ensures within { IfOk result (λ r. IfSome (D.reads disk.new) (λ bytes. r.gate < length bytes)) }
     ensures opened { (file : List ℕ) → D.reads disk.old ≡ Some file → IfOk result (λ r. opened config.now unit file ≡ Ok r.history.entries) }
@@ -170,6 +173,13 @@ impl<D: Disk + Drop> Journal<D> {
         ensures refused { (file : List ℕ) → D.reads disk ≡ Some file
             → IfErr result (λ e. LeavesOnly D.moment D.left_since disk e.0 (D.may_leave disk)
             ⊎ SyncsFirst D.reads D.may_leave D.moment D.left_since disk e.0 (λ c. opened config.now unit c ≡ opened config.now unit file)) }
+        // A disk of which nothing is bad stays so at each moment, and is not refused as bad.
+        ensures good { IsGood D.reads D.may_leave config.now unit disk
+            → IfOk result (λ r. StaysGood D.reads D.may_leave D.moment D.left_since config.now unit disk r.0.disk) }
+        ensures good_refused { IsGood D.reads D.may_leave config.now unit disk
+            → IfErr result (λ e. StaysGood D.reads D.may_leave D.moment D.left_since config.now unit disk e.0) }
+        ensures never_bad { IsGood D.reads D.may_leave config.now unit disk → IfErr result (λ e. (place : ℕ) → e.1 ≢ OpenFault.BadJournal place) }
+
         ensures failed { IfErr result (λ e. e.1 ≡ OpenFault.DiskFault → Rose (D.disk_faults disk) (D.disk_faults e.0)) }
     {
         let mut disk = disk;

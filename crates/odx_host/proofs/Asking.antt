@@ -1,16 +1,16 @@
 -- The requests of one token and of one write follow their programs
-use Rattle.std.proofs.Common.{◌≡◌, ◌∙◌, ℕ, suc, ◌-◌, ◌<◌, List, [], ◌∷◌, ◌++◌, refl, sym, ap, subst, true, false, Bool, inr, arith}
+use Rattle.std.proofs.Common.{◌≡◌, ◌∙◌, ℕ, suc, ◌-◌, ◌<◌, List, [], ◌++◌, refl, sym, ap, subst, true, false, Bool, inr, arith}
 use Rattle.std.specs.Prelude.{Result, Ok, Err, cond}
 use Rattle.lba_ranges.specs.declared.ranges.Range.{Range}
 use Rattle.lba_ranges.specs.Denoted.{total}
 use Rattle.cm_frame.specs.declared.frame.Request.{Request}
 use Rattle.odx_host.specs.declared.fault.CopyFault.{CopyFault}
 use Rattle.odx_host.specs.Talk.{Talked}
-use Rattle.odx_host.specs.StatusRead.{Information, information_read}
+use Rattle.odx_host.specs.StatusRead.{information_read}
 use Rattle.odx_host.specs.Requests.{populate_request, status_request}
-use Rattle.odx_host.specs.Rule.{HostProgram, Asks, Ends, if_good, if_ok, ask_status, populating, token_of, polling, is_done}
+use Rattle.odx_host.specs.Rule.{HostProgram, Asks, if_good, if_ok, populating, token_of, polling, is_done}
 use Rattle.odx_host.specs.Ruled.{AreAsked, after}
-use Rattle.odx_host.specs.inner.Steps.{Follows, StopsSo, HasAsked, HasPopulated, HasPolled, StillRuns}
+use Rattle.odx_host.specs.inner.Steps.{HasAsked, HasPopulated, HasPolled, StillRuns}
 use Rattle.odx_host.proofs.Steps.{follows-on, follows-by, after-append, asked-append}
 
 -- ---- one request

@@ -1,5 +1,5 @@
 -- The parts and the writes that are still to come
-use Rattle.std.proofs.Common.{◌≡◌, ◌∙◌, ℕ, zero, suc, ◌+◌, ◌-◌, ◌<◌, ◌≤◌, List, [], ◌∷◌, ◌++◌, length, take, refl, sym, ap, subst, arith, true, false, Bool, inl, inr, min}
+use Rattle.std.proofs.Common.{◌≡◌, ◌∙◌, ℕ, zero, suc, ◌+◌, ◌-◌, ◌<◌, ◌≤◌, List, [], ◌∷◌, ◌++◌, take, refl, ap, arith, true, false, inl, inr, min}
 use Rattle.std.specs.Prelude.{◌⊎◌, nat_lt, cond}
 use Rattle.std.proofs.lemmas.Bool.{cases_lt}
 use Rattle.std.proofs.lemmas.Bool.Decides.{nat_tests}
@@ -8,7 +8,7 @@ use Rattle.lba_ranges.specs.declared.ranges.Range.{Range}
 use Rattle.lba_ranges.specs.Denoted.{total}
 use Rattle.copy_plan.specs.Jobs.{CopyJob}
 use Rattle.copy_plan.specs.Plans.{range_between, ranges_between, longest_run, ranges_limit, part_limit}
-use Rattle.odx_host.specs.Parts.{Part, part_at, parts, parts_from, place_behind, ranges_at, writes_from}
+use Rattle.odx_host.specs.Parts.{part_at, parts_from, place_behind, ranges_at, writes_from}
 use Rattle.odx_host.specs.inner.Steps.{writes_to_come, parts_to_come}
 
 -- ---- tests

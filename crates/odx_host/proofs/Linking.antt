@@ -1,7 +1,7 @@
 -- One request over a connection
-use Rattle.std.proofs.Common.{◌≡◌, ◌∙◌, ℕ, ◌+◌, ◌<◌, ◌≤◌, List, [], ◌∷◌, ◌++◌, length, refl, sym, ap, subst, inl, inr, append-nil, arith, true, false, Bool}
-use Rattle.std.specs.Prelude.{Option, Some, None, Result, Ok, Err, ◌⊎◌, cond, not, nat_lt, ◌==◌}
-use Rattle.std.specs.Io.KnownBytes.{Consumes, Appends, IsAtEnd}
+use Rattle.std.proofs.Common.{◌≡◌, ◌∙◌, ℕ, ◌+◌, ◌<◌, ◌≤◌, List, [], ◌∷◌, ◌++◌, length, refl, sym, subst, inl, inr, append-nil, arith, true, false, Bool}
+use Rattle.std.specs.Prelude.{Option, Some, None, Result, Ok, Err, cond, not, nat_lt, ◌==◌}
+use Rattle.std.specs.Io.KnownBytes.{Consumes, Appends}
 use Rattle.std.proofs.lemmas.Bool.Decides.{nat_tests}
 use Rattle.cm_base.specs.Outside.{Faulted}
 use Rattle.cm_base.specs.Sides.{IsCut}
@@ -14,7 +14,6 @@ use Rattle.cm_frame.specs.Grammar.{request_bytes, data_limit}
 use Rattle.cm_frame.specs.Reading.{read_reply, read_good, read_check, is_status, is_sense, sense_in}
 use Rattle.odx_host.specs.declared.port.PortFault.{PortFault}
 use Rattle.odx_host.specs.declared.port.PortFault.TheVariants.{OutOfMemory, ReadFault, WriteFault, Ended, BadReply}
-use Rattle.odx_host.specs.Talk.{Talked}
 use Rattle.odx_host.specs.Linked.{Linked, LinkState, IsPushed, IsRead, EndsThere, IsCounted, IsSpoken}
 
 -- ---- nothing is pulled or pushed
@@ -43,10 +42,10 @@ few-by false false false false true f good check last limit told size one two th
 few-by false false false false false true good check last limit told size one two three four five low is = let few = four is in omega (arith, few)
 few-by false false false false false false good check last limit told size one two three four five low is = absurd (five is)
 
-is-below : (a b : ℕ) → nat_lt a b ≡ true → a < b
+pub is-below : (a b : ℕ) → nat_lt a b ≡ true → a < b
 is-below a b e = grind (arith, nat_tests)
 
-is-not-below : (a b : ℕ) → nat_lt a b ≡ false → b ≤ a
+pub is-not-below : (a b : ℕ) → nat_lt a b ≡ false → b ≤ a
 is-not-below a b e = grind (arith, nat_tests)
 
 good-few : (bytes : List ℕ) → read_good bytes ≡ Short → length bytes < 6 + field bytes 2 5

@@ -1,5 +1,5 @@
 -- Some of the blocks of extents, in which no block stands twice
-use Rattle.std.proofs.Common.{◌≡◌, ◌∙◌, ℕ, zero, suc, ◌≤◌, List, [], ◌∷◌, take, drop, refl, ap, sym, arith, true, false, Bool}
+use Rattle.std.proofs.Common.{◌≡◌, ◌∙◌, ℕ, zero, suc, ◌≤◌, List, [], ◌∷◌, take, drop, refl, ap, arith, true, false, Bool}
 use Rattle.std.specs.Prelude.{◌==◌, ◌||◌, nat_lt, slice_range, None}
 use Rattle.std.specs.List.{list_any}
 use Rattle.std.proofs.lemmas.Bool.Decides.{nat_tests}

@@ -1,15 +1,14 @@
 -- What is spelled of a status is read
-use Rattle.std.proofs.Common.{◌≡◌, ◌∙◌, ℕ, ◌+◌, ◌<◌, ◌≤◌, ◌^◌, List, ◌++◌, length, drop, refl, ap, sym, subst, arith, true, false, Bool}
-use Rattle.std.specs.Prelude.{◌==◌, ◌&&◌, ◌||◌, nat_le, cond, bytes_eq, Option, Some, None, is_some, is_none, IfSome, IsTrue}
+use Rattle.std.proofs.Common.{◌≡◌, ◌∙◌, ℕ, ◌+◌, ◌≤◌, List, length, drop, refl, ap, sym, arith, true, false, Bool}
+use Rattle.std.specs.Prelude.{◌==◌, ◌&&◌, ◌||◌, nat_le, cond, bytes_eq, Option, Some, None, is_some, is_none, IfSome}
 use Rattle.std.proofs.lemmas.Bool.{le-leb, leb-true, eqb-true, eq-eqb}
-use Rattle.std.proofs.lemmas.Bool.Decides.{nat_tests}
 use Rattle.std.proofs.lemmas.Slice.Eq.{bytes_eq-Decides}
-use Rattle.cm_base.specs.Fields.{byte, field, part}
+use Rattle.cm_base.specs.Fields.{byte, field}
 use Rattle.cm_base.proofs.PublicLaws.{number-back}
 use Rattle.scsi_sense.specs.SenseCode.{SenseCode}
 use Rattle.copy_status.specs.CopyStatus.{CopyStatus, IsStatus, is_code}
 use Rattle.copy_status.specs.StatusBytes.{sense_data, information_bytes, IsToken, IsTokenOf}
-use Rattle.odx_host.specs.StatusRead.{Information, sense_told, status_told, token_told, information_told, is_key, is_token, is_status, is_told, information_read}
+use Rattle.odx_host.specs.StatusRead.{sense_told, status_told, token_told, information_told, is_key, is_token, is_status, is_told, information_read}
 
 -- ---- the parts
 

@@ -1,12 +1,12 @@
 -- Requests that were asked one after the other
 use Rattle.std.proofs.Common.{◌≡◌, ◌∙◌, List, [], ◌∷◌, ◌++◌, refl, sym, ap, subst, inl, inr}
-use Rattle.std.specs.Prelude.{Result, Ok, Err, ◌⊎◌, fold}
+use Rattle.std.specs.Prelude.{Result, Ok, Err}
 use Rattle.odx_host.specs.declared.fault.CopyFault.{CopyFault}
 use Rattle.odx_host.specs.Talk.{Talked}
-use Rattle.odx_host.specs.Worlds.{World, Passed}
+use Rattle.odx_host.specs.Worlds.{World, passed-append}
 use Rattle.odx_host.specs.Rule.{HostProgram, Asks, Ends, moved, if_ok}
-use Rattle.odx_host.specs.Ruled.{AreAsked, after, Leads}
-use Rattle.odx_host.specs.inner.Steps.{Talking, StopsSo, Follows}
+use Rattle.odx_host.specs.Ruled.{AreAsked, after}
+use Rattle.odx_host.specs.inner.Steps.{Leads, Talking, StopsSo, Follows}
 
 -- ---- programs
 
@@ -32,10 +32,6 @@ follows-on p q xs ys next (Err fault) first later = (
 )
 
 -- ---- worlds
-
-pub passed-append : (u v w : World) (xs ys : List Talked) → Passed u xs v → Passed v ys w → Passed u (xs ++ ys) w
-passed-append u v w [] ys first later = subst (λ s. Passed s ys w) first later
-passed-append u v w (x ∷ xs) ys first later = (first.0, first.1, passed-append first.0 v w xs ys first.2 later)
 
 pub leads-on : (Was Between Is : World → Type 0) (xs ys : List Talked) → Leads Was xs Between → Leads Between ys Is → Leads Was (xs ++ ys) Is
 leads-on Was Between Is xs ys first later = λ w was.

@@ -1,5 +1,5 @@
 -- The writes of a token, and the parts of a copy, follow their programs
-use Rattle.std.proofs.Common.{◌≡◌, ◌∙◌, ℕ, suc, ◌+◌, ◌-◌, ◌<◌, ◌≤◌, List, [], ◌∷◌, ◌++◌, length, refl, sym, ap, subst, arith, true, false, Bool, inl, inr}
+use Rattle.std.proofs.Common.{◌≡◌, ◌∙◌, ℕ, suc, ◌+◌, ◌-◌, ◌<◌, ◌≤◌, List, [], ◌++◌, length, refl, sym, ap, subst, arith, true, false, inl, inr}
 use Rattle.std.specs.Prelude.{◌⊎◌, ◌==◌, Result, Ok, Err}
 use Rattle.std.proofs.lemmas.Bool.{cases_lt}
 use Rattle.std.proofs.lemmas.Bool.Decides.{nat_tests}
@@ -15,8 +15,8 @@ use Rattle.odx_host.specs.declared.fault.Copied.{Copied}
 use Rattle.odx_host.specs.declared.fault.CopyFault.{CopyFault}
 use Rattle.odx_host.specs.Talk.{Talked}
 use Rattle.odx_host.specs.Requests.{write_request, write_list}
-use Rattle.odx_host.specs.Parts.{Part, part_at, place_behind, ranges_at}
-use Rattle.odx_host.specs.Rule.{HostProgram, Asks, Ends, if_good, polling, writing, copying, populating, next_step, one_write, one_token, is_last, rule}
+use Rattle.odx_host.specs.Parts.{part_at, place_behind, ranges_at}
+use Rattle.odx_host.specs.Rule.{HostProgram, Asks, if_good, polling, writing, copying, populating, next_step, one_write, one_token, is_last, rule}
 use Rattle.odx_host.specs.Ruled.{AreAsked, after, EndsSo, IsRuled}
 use Rattle.odx_host.specs.inner.Steps.{StopsSo, steps_in, Follows, HasAsked, HasPolled, HasPopulated, HasWritten, HasWrittenAll, HasCopiedPart, WritesOn, CopiesOn, writes_on, writes_to_come, parts_to_come, behind_write}
 use Rattle.odx_host.proofs.Steps.{follows-on, after-append, asked-append}

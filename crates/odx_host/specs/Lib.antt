@@ -6,4 +6,7 @@ pub mod Parts
 pub mod Rule
 pub mod Ruled
 pub mod Linked
+pub mod Copies
+pub mod Units
+pub mod CopiedOver
 pub mod inner

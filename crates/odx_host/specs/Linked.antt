@@ -1,8 +1,8 @@
 -- What is asked over a connection: frames that are pushed, and frames that are pulled
 use Rattle.std.specs.Prelude.{◌≡◌, ◌⊎◌, ℕ, ◌≤◌, List, [], ◌∷◌, ◌++◌, length, drop, Option, Result, Ok, Err}
-use Rattle.std.proofs.Common.{subst, sym}
+use Rattle.std.proofs.Common.{subst}
 use Rattle.std.specs.Io.KnownBytes.{Consumes, Appends, IsAtEnd}
-use Rattle.cm_base.specs.Outside.{Faulted, IsBeginning}
+use Rattle.cm_base.specs.Outside.{Faulted}
 use Rattle.cm_base.specs.Sides.{IsCut}
 use Rattle.cm_base.specs.declared.input_buffer.FillFailed.{FillFailed}
 use Rattle.cm_base.specs.declared.parsed.Parsed.TheVariants.{Whole, Short, Bad}

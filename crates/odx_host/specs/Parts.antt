@@ -1,9 +1,9 @@
 -- The parts of a copy: what each token is made of, and where its blocks are written
-use Rattle.std.specs.Prelude.{ℕ, zero, suc, ◌+◌, ◌-◌, List, [], ◌∷◌, nat_lt, if◌then◌else◌}
+use Rattle.std.specs.Prelude.{◌≡◌, ℕ, zero, suc, ◌+◌, ◌-◌, List, [], ◌∷◌, length, nat_lt, if◌then◌else◌}
 use Rattle.lba_ranges.specs.declared.ranges.Range.{Range}
 use Rattle.lba_ranges.specs.Denoted.{total}
 use Rattle.copy_plan.specs.Jobs.{CopyJob}
-use Rattle.copy_plan.specs.Plans.{longest_run, part_limit}
+use Rattle.copy_plan.specs.Plans.{longest_run, part_limit, IsPlan, IsGreedy}
 
 -- the ranges of one POPULATE TOKEN, and those of each WRITE USING TOKEN of its token
 pub record Part : Type 0 where
@@ -41,3 +41,10 @@ parts_from (suc left) job place =
 -- the parts of the copy, in order
 abbrev pub parts : CopyJob → List Part
 parts job = parts_from (total job.from) job 0
+
+-- as many tokens as the plan of the copy has parts, of which none has fewer
+pub record HasPlanned (job : CopyJob) (populates : ℕ) : Type 0 where
+  pub ends : List ℕ
+  pub plan : IsPlan job.from ends
+  pub greedy : IsGreedy job.from 0 ends
+  pub count : populates ≡ length ends

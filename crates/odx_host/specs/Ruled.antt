@@ -1,9 +1,8 @@
 -- A copy that follows its rule
-use Rattle.std.specs.Prelude.{◌≡◌, List, [], ◌∷◌, fold, Result, Ok, Err, ◌⊎◌}
+use Rattle.std.specs.Prelude.{◌≡◌, List, [], ◌∷◌, fold, Result, Err, ◌⊎◌}
 use Rattle.odx_host.specs.declared.fault.Copied.{Copied}
 use Rattle.odx_host.specs.declared.fault.CopyFault.{CopyFault}
 use Rattle.odx_host.specs.Talk.{Talked}
-use Rattle.odx_host.specs.Worlds.{World, Passed}
 use Rattle.odx_host.specs.Rule.{HostProgram, Asks, Ends, moved}
 
 -- these are the first requests of the program, each on the answers before it
@@ -24,7 +23,3 @@ EndsSo p outcome = (outcome ≡ Err CopyFault.OutOfMemory) ⊎ (p ≡ Ends outco
 pub record IsRuled (p : HostProgram) (talk : List Talked) (outcome : Result Copied CopyFault) : Type 0 where
   pub asked : AreAsked p talk
   pub ended : EndsSo (after p talk) outcome
-
--- In every world in which the port may have been, it is now in one to which these requests led.
-abbrev pub Leads : (World → Type 0) → List Talked → (World → Type 0) → Type 0
-Leads Was talk Is = (w : World) → Was w → (v : World) × Is v × Passed w talk v

@@ -1,5 +1,6 @@
 -- The units behind a port, and how their history goes on while a request is asked
 use Rattle.std.specs.Prelude.{◌≡◌, ℕ, ◌≤◌, List, [], ◌∷◌, ◌++◌, Result, Ok, Err}
+use Rattle.std.proofs.Common.{subst}
 use Rattle.cm_base.specs.Configuration.{Configuration}
 use Rattle.cm_frame.specs.declared.frame.Reply.{Reply}
 use Rattle.cm_history.specs.declared.act.Entry.{Entry}
@@ -56,3 +57,7 @@ pub record IsAnsweredIn (w v : World) (t : Talked) : Type 0 where
 abbrev pub Passed : World → List Talked → World → Type 0
 Passed w [] v = v ≡ w
 Passed w (t ∷ ts) v = (between : World) × IsAnsweredIn w between t × Passed between ts v
+
+pub passed-append : (u v w : World) (xs ys : List Talked) → Passed u xs v → Passed v ys w → Passed u (xs ++ ys) w
+passed-append u v w [] ys first later = subst (λ s. Passed s ys w) first later
+passed-append u v w (x ∷ xs) ys first later = (first.0, first.1, passed-append first.0 v w xs ys first.2 later)

@@ -1,2 +1,4 @@
 pub mod Told
 pub mod Steps
+pub mod Acting
+pub mod FrontJob

@@ -6,9 +6,10 @@ ghost use Rattle.copy_plan.specs.Jobs.{AreExtents};
 ghost use Rattle.copy_plan.specs.Plans.{longest_run};
 ghost use Rattle.odx_host.specs.Talk.{Talked};
 ghost use Rattle.odx_host.specs.Requests.{status_request, write_list};
-ghost use Rattle.odx_host.specs.Parts.{part_at, place_behind};
+ghost use Rattle.odx_host.specs.Parts.{HasPlanned, part_at, place_behind};
 ghost use Rattle.odx_host.specs.Rule.{next_step, one_write, rule};
-ghost use Rattle.odx_host.specs.Ruled.{IsRuled, Leads};
+ghost use Rattle.odx_host.specs.Ruled.{IsRuled};
+ghost use Rattle.odx_host.specs.Copies.{LeadsDone};
 ghost use Rattle.odx_host.specs.inner.Steps.{Talking, HasAsked, HasPopulated, HasPolled, HasWritten, HasWrittenAll, HasCopiedPart, writes_to_come, behind_write};
 
 use crate::fault::{Copied, CopyFault};
@@ -113,7 +114,9 @@ impl<'a> Host<'a> {
         ensures copied { result.copied ≡ record { populates = 0; writes = 0 } }
         ensures sources { AreExtents job.now.from }
         ensures targets { AreExtents job.now.to }
+        ensures unit { job.now.source < 2 ^ 16 }
     {
+        let _source = job.source();
         Host {
             alloc,
             job,
@@ -265,7 +268,8 @@ impl<'a> Host<'a> {
 /// which the last deletes the token. After each write RECEIVE ROD TOKEN INFORMATIONs are asked until it runs no more.
 pub fn copy<P: Port>(alloc: Global, job: &Job, port: &mut P) -> Result<Copied, CopyFault>
     ensures ruled { (talk : List Talked) × IsRuled (rule job.now) talk result
-        × P.Talks port.old talk port.new × Leads (P.IsIn port.old) talk (P.IsIn port.new) }
+        × P.Talks port.old talk port.new × LeadsDone job.now result (P.IsIn port.old) talk (P.IsIn port.new) }
+    ensures planned { IfOk result (λ copied. HasPlanned job.now copied.populates) }
 {
     let mut host = Host::new(alloc, job);
     let blocks = job.blocks();

@@ -5,10 +5,19 @@ mod copying;
 mod fault;
 mod link_port;
 mod port;
+mod replies;
 mod requests;
+mod stream_port;
 mod told;
+mod unit_port;
+mod units;
 
 pub use copying::copy;
 pub use fault::{Copied, CopyFault};
 pub use link_port::LinkPort;
 pub use port::{Port, PortFault};
+pub use stream_port::{StreamFault, copy_over};
+pub use unit_port::UnitPort;
+
+#[cfg(test)]
+mod tests;

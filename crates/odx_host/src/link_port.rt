@@ -1,10 +1,9 @@
-ghost use Rattle.std.specs.Prelude.{◌≡◌, ◌++◌, ℕ, List, []};
-ghost use Rattle.std.specs.Io.KnownBytes.{Consumes};
-ghost use Rattle.odx_host.specs.Linked.{IsRead, EndsThere, IsCounted};
+ghost use Rattle.std.specs.Prelude.{◌≡◌, []};
 
 use crate::port::{Port, PortFault};
-use cm_base::{FillFailed, InputBuffer, Link, OutOfMemory, Parsed, WriteFailed, push_all};
-use cm_frame::{Reply, Request, read_reply, write_request};
+use crate::replies::next_reply;
+use cm_base::{FillFailed, InputBuffer, Link, OutOfMemory, WriteFailed, push_all};
+use cm_frame::{Reply, Request, write_request};
 use std::alloc::Global;
 use std::marker::Model;
 
@@ -87,31 +86,6 @@ impl<K> LinkPort<K> {
     }
 }
 
-impl<K: Link> LinkPort<K> {
-    /// Pulls until the next reply is whole, and takes it.
-    fn reply(&mut self) -> Result<Reply, PortFault>
-        ensures read { (pulled : List ℕ) × Consumes (K.left self.old.link) (K.left self.new.link) pulled
-            × IsRead result (self.old.input ++ pulled) self.new.input }
-        ensures ended { EndsThere result (K.left self.new.link) }
-        ensures counted { (writes : ℕ) → IsCounted result (K.read_faults self.old.link) (K.read_faults self.new.link) writes writes }
-        ensures apart { K.unpulled self.new.link ≡ K.unpulled self.old.link }
-    {
-        'pulls: loop {
-            match read_reply(self.alloc, self.input.as_slice())? {
-                Parsed::Whole { value, used } => {
-                    self.input.consume(used);
-                    return Ok(value);
-                }
-                Parsed::Bad { place: _ } => return Err(PortFault::BadReply),
-                Parsed::Short => {}
-            }
-            if self.input.fill(&mut self.link)? == 0 {
-                return Err(PortFault::Ended);
-            }
-        }
-    }
-}
-
 impl<K: Link> Port for LinkPort<K> {
     ghost use Rattle.std.specs.Prelude.{refl};
     ghost use Rattle.odx_host.specs.Linked.{LinkState, Spoke, spoke-append};
@@ -128,7 +102,7 @@ impl<K: Link> Port for LinkPort<K> {
     fn ask(&mut self, request: &Request) -> Result<Reply, PortFault> {
         let frame = write_request(self.alloc, request)?;
         push_all(&mut self.link, frame.as_slice())?;
-        self.reply()
+        next_reply(self.alloc, &mut self.link, &mut self.input)
     }
 
     ghost silent = { λ p. refl };

@@ -164,6 +164,44 @@ fn act_on_long_operations(alloc: Global, numbers: &mut Numbers) -> Result<Act, O
     }
 }
 
+/// One of four blocks, or a few of them in a row.
+fn few_blocks(alloc: Global, numbers: &mut Numbers) -> Result<RangeList, OutOfMemory> {
+    let mut ranges = RangeList::empty(alloc);
+    ranges.push(Range {
+        lba: u64::from(numbers.below(2)),
+        count: numbers.below(3) + 1,
+    })?;
+    Ok(ranges)
+}
+
+/// An act that writes four blocks or shows them.
+fn act_on_shown_blocks(
+    alloc: Global,
+    config: &Config,
+    unit: u16,
+    numbers: &mut Numbers,
+) -> Result<Act, OutOfMemory>
+    requires { unit < length config.now.units }
+    ensures { IfOk result IsOfNexus }
+{
+    match numbers.below(8) {
+        0 | 1 | 2 => Ok(Act::Write {
+            lba: u64::from(numbers.below(3)),
+            list: mapped_blocks(alloc, numbers)?,
+        }),
+        3 => Ok(Act::Unmap {
+            ranges: few_blocks(alloc, numbers)?,
+        }),
+        4 | 5 => Ok(Act::Populate {
+            id: numbers.below(3),
+            timeout: numbers.below(60) + 1,
+            ranges: few_blocks(alloc, numbers)?,
+        }),
+        6 => act_on_tokens(alloc, config, unit, numbers),
+        _ => act_on_operations(alloc, numbers),
+    }
+}
+
 /// An act on the record of a copy.
 fn act_on_copies(numbers: &mut Numbers) -> Act
     ensures { IsOfNexus result }
@@ -183,6 +221,24 @@ fn act_on_copies(numbers: &mut Numbers) -> Act
     }
 }
 
+/// An act of any kind.
+fn mixed_act(
+    alloc: Global,
+    config: &Config,
+    unit: u16,
+    numbers: &mut Numbers,
+) -> Result<Act, OutOfMemory>
+    requires { unit < length config.now.units }
+    ensures { IfOk result IsOfNexus }
+{
+    match numbers.below(4) {
+        0 => act_on_blocks(alloc, numbers),
+        1 => act_on_tokens(alloc, config, unit, numbers),
+        2 => act_on_operations(alloc, numbers),
+        _ => Ok(act_on_copies(numbers)),
+    }
+}
+
 /// What a random history is made of.
 #[derive(Drop, Clone, Copy)]
 pub enum Style {
@@ -190,6 +246,8 @@ pub enum Style {
     Mixed,
     /// Token writes of several pieces.
     Long,
+    /// Writes and tokens of the same four blocks.
+    Shown,
 }
 
 /// An act of a nexus.
@@ -203,13 +261,9 @@ pub fn random_act(
     requires { unit < length config.now.units }
     ensures { IfOk result IsOfNexus }
 {
-    if matches!(style, Style::Long) {
-        return act_on_long_operations(alloc, numbers);
-    }
-    match numbers.below(4) {
-        0 => act_on_blocks(alloc, numbers),
-        1 => act_on_tokens(alloc, config, unit, numbers),
-        2 => act_on_operations(alloc, numbers),
-        _ => Ok(act_on_copies(numbers)),
+    match style {
+        Style::Mixed => mixed_act(alloc, config, unit, numbers),
+        Style::Long => act_on_long_operations(alloc, numbers),
+        Style::Shown => act_on_shown_blocks(alloc, config, unit, numbers),
     }
 }

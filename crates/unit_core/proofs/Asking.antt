@@ -26,7 +26,8 @@ use Rattle.copy_jobs.specs.Pieces as next
 use Rattle.copy_jobs.specs.Reports as reports
 use Rattle.rod_store.specs.declared.kept.Kept.{Kept}
 use Rattle.rod_store.specs.Kept as store
-use Rattle.unit_core.specs.inner.Tables.{key_of, work_of, job_of, jobs_of, kept_of, serial_or_none}
+use Rattle.unit_core.specs.Keys.{key_of}
+use Rattle.unit_core.specs.inner.Tables.{work_of, job_of, jobs_of, kept_of, serial_or_none}
 use Rattle.unit_core.proofs.Jobs.{IsNexus, IsOwn, own-nexus, job-key, job-runs_as, is-next-key, is-next-pump, found-job, work-background}
 use Rattle.unit_core.proofs.Tokens.{live-state}
 use Rattle.unit_core.proofs.Planned.{IsKnown, own-of}

@@ -21,7 +21,8 @@ use Rattle.cm_history.specs.Answers.{progress_by, serial_made}
 use Rattle.copy_jobs.specs.declared.job.Work.TheVariants.{Populated, Writing, Copying}
 use Rattle.copy_jobs.specs.Jobs.{started, opened, made}
 use Rattle.copy_jobs.specs.Changes.{moved_by, stopped_by, terminated, closed_by}
-use Rattle.unit_core.specs.inner.Tables.{key_of, work_of, job_of, serial_or_none}
+use Rattle.unit_core.specs.Keys.{key_of}
+use Rattle.unit_core.specs.inner.Tables.{work_of, job_of, serial_or_none}
 use Rattle.cm_history.proofs.PublicLaws.{start-total, start-few, start-alike, start-length, Moves, Stops, Ends, Closes, left-running, token-runs}
 
 -- ---- a deed that serves

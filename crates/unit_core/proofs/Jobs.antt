@@ -19,7 +19,8 @@ use Rattle.copy_jobs.specs.declared.job.Job.{Job}
 use Rattle.copy_jobs.specs.Keys as keys
 use Rattle.copy_jobs.specs.Jobs as jobs
 use Rattle.copy_jobs.specs.Pieces as next
-use Rattle.unit_core.specs.inner.Tables.{number_of, is_copy, key_of, work_of, job_of, jobs_of}
+use Rattle.unit_core.specs.Keys.{number_of, is_copy, key_of}
+use Rattle.unit_core.specs.inner.Tables.{work_of, job_of, jobs_of}
 use Rattle.unit_core.proofs.Operating.{IsMadeBy, all-made_by}
 use Rattle.cm_history.specs.Asked.{AllAsked}
 use Rattle.unit_core.proofs.Bools.{and-assoc}

@@ -25,7 +25,8 @@ use Rattle.unit_core.specs.declared.job_change.JobChange.{JobChange}
 use Rattle.token_pins.specs.declared.token_change.TokenChange.{TokenChange}
 use Rattle.unit_core.specs.inner.JobChanges.{MayJob}
 use Rattle.copy_jobs.specs.Jobs as jobs
-use Rattle.unit_core.specs.inner.Tables.{key_of, jobs_of}
+use Rattle.unit_core.specs.Keys.{key_of}
+use Rattle.unit_core.specs.inner.Tables.{jobs_of}
 use Rattle.unit_core.specs.inner.Planning.{quiet, IsPlan}
 use Rattle.unit_core.proofs.Jobs.{IsNexus, busy-is, crowded-is}
 use Rattle.unit_core.proofs.Planned.{IsKnown, own-of, refused-plan, populate-plan, start-plan, open-plan}
@@ -104,10 +105,10 @@ pub open-many : (config : Configuration) (unit : ℕ) (past : List Deed) (actor 
     → IsPlan config unit past actor at (Act.Open id) (quiet (Answer.Refused insufficient_resources))
 open-many config unit past actor at id idle many = refused-plan config unit past actor at (Act.Open id) insufficient_resources (rw (idle, many) refl) (λ s. refl) (find-none (running past))
 
-pub open-made : (config : Configuration) (unit : ℕ) (past : List Deed) (actor : Actor) (at id : ℕ) → IsKnown config unit past → IsNexus actor → is_busy past actor OfCopy id ≡ false → is_crowded past ≡ false
+pub open-made : (config : Configuration) (unit : ℕ) (past : List Deed) (actor : Actor) (at id : ℕ) → IsKnown config unit past → IsNexus actor → id < 2 ^ 8 → is_busy past actor OfCopy id ≡ false → is_crowded past ≡ false
     → IsPlan config unit past actor at (Act.Open id) (record (quiet Answer.Done) { jobs = JobChange.Open (key_of actor OfCopy id) })
-open-made config unit past actor at id known nexus idle few =
-    open-plan config unit past actor at id known nexus (rw (idle, few) refl)
+open-made config unit past actor at id known nexus byte idle few =
+    open-plan config unit past actor at id known nexus byte (rw (idle, few) refl)
     (busy-is config unit past actor OfCopy id known.is (own-of config unit past known) nexus ∙ idle)
     (crowded-is config unit past known.is ∙ few)
 

@@ -35,7 +35,8 @@ use Rattle.cm_history.specs.Asked.{AllAsked}
 use Rattle.unit_core.specs.inner.BlockChanges.{writings_of, MayChange}
 use Rattle.unit_core.specs.inner.JobChanges.{MayJob}
 use Rattle.unit_core.specs.inner.Seen.{ranges_made}
-use Rattle.unit_core.specs.inner.Tables.{key_of, kept_of, tokens_of, job_of, jobs_of}
+use Rattle.unit_core.specs.Keys.{key_of}
+use Rattle.unit_core.specs.inner.Tables.{kept_of, tokens_of, job_of, jobs_of}
 use Rattle.unit_core.specs.inner.Planning.{quiet, IsDeed, IsPlan}
 use Rattle.unit_core.proofs.Jobs.{IsNexus, IsOwn, all-own}
 use Rattle.unit_core.proofs.Keeping.{same-jobs, made-jobs}
@@ -278,11 +279,11 @@ start-plan config unit past actor at id background ranges rod state known nexus 
         (λ s. ap (λ a. is_redeem_of s a && is_answered d) is.act)
         ∙ ap (λ m. expired m (tokens_of (unit_of config unit) past)) (deed-moment config unit past actor at (Act.Start id background ranges rod) d is)
 
-pub open-plan : (config : Configuration) (unit : ℕ) (past : List Deed) (actor : Actor) (at id : ℕ) → IsKnown config unit past → IsNexus actor
+pub open-plan : (config : Configuration) (unit : ℕ) (past : List Deed) (actor : Actor) (at id : ℕ) → IsKnown config unit past → IsNexus actor → id < 2 ^ 8
     → Answer.Done ≡ answer_after config unit past actor at (Act.Open id)
     → jobs.is_busy (key_of actor OfCopy id) (jobs_of past) ≡ false → jobs.is_crowded (jobs_of past) ≡ false
     → IsPlan config unit past actor at (Act.Open id) (record (quiet Answer.Done) { jobs = JobChange.Open (key_of actor OfCopy id) })
-open-plan config unit past actor at id known nexus told idle few = record {
+open-plan config unit past actor at id known nexus byte told idle few = record {
   answer = told;
   wrote = refl;
   jobs = λ d is.
@@ -295,7 +296,7 @@ open-plan config unit past actor at id known nexus told idle few = record {
       (λ s. ap (λ a. is_redeem_of s a && is_answered d) is.act)
       ∙ ap (λ m. expired m (tokens_of (unit_of config unit) past)) (deed-moment config unit past actor at (Act.Open id) d is);
   may_blocks = tt;
-  may_jobs = (refl, idle, few);
+  may_jobs = (refl, byte, idle, few);
   may_tokens = λ spare h. tt;
   may_pin = tt;
   makes = refl;

@@ -32,7 +32,8 @@ use Rattle.unit_core.specs.declared.plan.Plan.{Plan}
 use Rattle.cm_history.specs.Ends.{ends_operation}
 use Rattle.unit_core.specs.inner.BlockChanges.{writings_of, MayChange, MayPut}
 use Rattle.unit_core.specs.inner.JobChanges.{jobs_after, MayJob, grows}
-use Rattle.unit_core.specs.inner.Tables.{key_of, is_copy, job_of, jobs_of}
+use Rattle.unit_core.specs.Keys.{key_of, is_copy}
+use Rattle.unit_core.specs.inner.Tables.{job_of, jobs_of}
 use Rattle.unit_core.specs.inner.Planning.{quiet, IsDeed, IsPlan, takes_none, piece_plan}
 use Rattle.unit_core.proofs.Jobs.{IsOwn}
 use Rattle.unit_core.proofs.Keeping.{own_key, served-there, served-runs, serving-jobs, found-own}

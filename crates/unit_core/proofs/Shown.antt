@@ -20,7 +20,8 @@ use Rattle.cm_history.specs.Answers.{deed, serial_made}
 use Rattle.cm_history.specs.Asked.{AllAsked}
 use Rattle.cm_history.specs.Image.{TokenImage, OperationImage, image, token_image, operation_image, trim, trimmed}
 use Rattle.cm_history.proofs.PublicLaws.{Each, Each-append, Each-by, Each-in, Each-map, IsPast, Serves, and_first, and_second, find-passes, kept_in, map-map, map-same, same_form-is, served-or-not, serving}
-use Rattle.unit_core.specs.inner.Tables.{token_state_of, kept_of, tokens_of, number_of, is_copy, serial_or_none, work_of, job_of, jobs_of}
+use Rattle.unit_core.specs.Keys.{number_of, is_copy}
+use Rattle.unit_core.specs.inner.Tables.{token_state_of, kept_of, tokens_of, serial_or_none, work_of, job_of, jobs_of}
 use Rattle.unit_core.specs.inner.Shown.{state_shown, token_shown, running_copy, work_shown, job_shown, image_shown}
 use Rattle.unit_core.proofs.Operating.{IsMadeBy, all-made_by}
 

@@ -36,7 +36,8 @@ use Rattle.copy_jobs.specs.Jobs as jobs
 use Rattle.copy_jobs.specs.Pieces as next
 use Rattle.copy_jobs.specs.Reports as reports
 use Rattle.rod_store.specs.Judging.{judged, judged_token, judged_state}
-use Rattle.unit_core.specs.inner.Tables.{key_of, kept_of, tokens_of, token_state_of, job_of, jobs_of, work_of}
+use Rattle.unit_core.specs.Keys.{key_of}
+use Rattle.unit_core.specs.inner.Tables.{kept_of, tokens_of, token_state_of, job_of, jobs_of, work_of}
 use Rattle.cm_history.specs.History.{past_of}
 use Rattle.unit_core.specs.UnitState.{UnitState}
 use Rattle.unit_core.specs.Acting.{MayRedeem}

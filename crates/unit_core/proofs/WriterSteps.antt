@@ -16,9 +16,7 @@ use Rattle.cm_history.specs.declared.act.Act.{Act}
 use Rattle.cm_history.specs.declared.act.Actor.{Actor}
 use Rattle.cm_history.specs.Folding.{StandsFor}
 use Rattle.cm_history.specs.Image.{Image, TokenImage, image, token_image, trim, trimmed}
-use Rattle.cm_history.proofs.FoldLaw.{writings-image}
-use Rattle.cm_history.proofs.Imaging.{writings_by}
-use Rattle.cm_history.proofs.PublicLaws.{past-is}
+use Rattle.cm_history.proofs.PublicLaws.{past-is, writings-image, writings_by}
 use Rattle.token_pins.specs.Pinning.{holder, ArePinned}
 use Rattle.unit_core.specs.Sharing.{AreShared}
 use Rattle.unit_core.specs.UnitState.{UnitState, Stands, shared_by}

@@ -5,7 +5,6 @@ use Rattle.cm_base.specs.Units.{unit_of}
 use Rattle.cm_history.specs.declared.act.Entry.{Entry}
 use Rattle.cm_history.specs.Asked.{AllAsked}
 use Rattle.cm_history.specs.Deeds.{Deed}
-use Rattle.cm_history.specs.Folding.{StandsFor}
 use Rattle.cm_history.specs.History.{on, past_of}
 use Rattle.cm_history.specs.Image.{Image, image, trimmed}
 use Rattle.cm_history.specs.Tokens.{tokens}
@@ -35,7 +34,3 @@ pub record Stands (s : UnitState) (entries : List Entry) : Type 0 where
   pub keeps : drop s.folded entries ≡ s.kept
   pub few : s.folded ≤ length entries
   pub versions : shared_by (unit_of s.config s.unit).blocks (past_of s.config s.unit entries) ≡ s.shares
-
--- it answers so, whatever versions it keeps
-abbrev pub answers_as : (s : UnitState) (entries : List Entry) → Stands s entries → StandsFor s.config s.unit s.image s.kept s.folded entries
-answers_as s entries stands = record { own = stands.own; asked = stands.asked; image = stands.image; keeps = stands.keeps; few = stands.few }

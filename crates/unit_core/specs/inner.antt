@@ -5,3 +5,4 @@ pub mod Shown
 pub mod BlockChanges
 pub mod JobChanges
 pub mod Planning
+pub mod VersionUnits

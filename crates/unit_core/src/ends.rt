@@ -1,5 +1,5 @@
 // The ends of operations, which take no memory, and what a unit shows of its tables.
-ghost use Rattle.std.specs.Prelude.{List, ◌≡◌, ◌<◌, ◌+◌, ◌-◌, ◌^◌, ◌++◌, ◌∷◌, ℕ, [], length, max, true};
+ghost use Rattle.std.specs.Prelude.{List, ◌≡◌, ◌<◌, ◌+◌, ◌-◌, ◌^◌, ◌++◌, ◌∷◌, ℕ, [], length, max, IfSome, true};
 ghost use Rattle.cm_history.specs.declared.act.Act.{Act};
 ghost use Rattle.cm_history.specs.declared.act.Actor.{Actor};
 ghost use Rattle.cm_history.specs.declared.act.Entry.{Entry};
@@ -8,6 +8,7 @@ ghost use Rattle.cm_history.specs.Limits.{within_limits};
 ghost use Rattle.cm_history.specs.Legal.{may_ask};
 ghost use Rattle.unit_core.specs.UnitState.{Stands};
 ghost use Rattle.unit_core.specs.Acting.{entry_at, ends_operation_at, is_busy_at, live_at};
+ghost use Rattle.unit_core.specs.Unended.{unended_at};
 
 use crate::room::token_key;
 use crate::sharing::SharedVersions;
@@ -105,6 +106,16 @@ where
             }
             Actor::Pump(_) => false,
         }
+    }
+
+    /// The key of the running operation that was made earliest of those that their initiator has still to end: token
+    /// operations in the foreground, and copies. `None` where no such operation runs. It takes no memory.
+    pub fn unended(&self) -> Option<Key>
+        ensures unended { (h : List Entry) → Stands self.now h → result ≡ unended_at self.now h }
+        // a copy has an identifier of one byte
+        ensures byte { IfSome result (λ key. key.copy ≡ true → key.id < 2 ^ 8) }
+    {
+        self.core.tables.jobs.unended()
     }
 
     /// How many tokens are live, at most 64. It takes no memory.

@@ -9,7 +9,7 @@ ghost use Rattle.cm_history.specs.declared.act.Entry.{Entry};
 ghost use Rattle.cm_history.specs.History.{past_of};
 ghost use Rattle.unit_core.specs.UnitState.{Stands};
 ghost use Rattle.unit_core.specs.Acting.{is_full_at, serves_operation};
-ghost use Rattle.unit_core.specs.inner.Tables.{number_of, key_of};
+ghost use Rattle.unit_core.specs.Keys.{number_of, key_of};
 
 use crate::inner::{Core, Reached};
 use crate::sharing::SharedVersions;

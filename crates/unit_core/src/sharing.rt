@@ -1,7 +1,7 @@
 ghost use Rattle.std.specs.Prelude.{ℕ, Option, Bool};
 ghost use Rattle.lba_ranges.specs.Versions.{Writers};
 ghost use Rattle.unit_core.specs.Sharing.{AreShared};
-ghost use Rattle.unit_core.specs.VersionUnits.{shares_of, shares_told};
+ghost use Rattle.unit_core.specs.inner.VersionUnits.{shares_of, shares_told};
 
 use lba_ranges::Pins;
 use lun_versions::VersionUnit;

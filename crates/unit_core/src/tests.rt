@@ -10,6 +10,7 @@ use asking::{
 };
 use cm_base::{CallList, Config};
 use cm_history::{Act, Actor};
+use copy_jobs::Key;
 use recorder::{MemoryRecorder, NoRecorder};
 use std::alloc::Global;
 use std::test::Fail;
@@ -277,6 +278,43 @@ fn a_copy_is_closed(rt: HostRuntime) -> Result<(), Fail> {
     assert!(rt; opened == Told::Done && unit.runs(Actor::Nexus(1), true, 3));
     let closed = close_copy(&mut unit);
     assert!(rt; closed == Told::Done && !unit.runs(Actor::Nexus(1), true, 3));
+    Ok(())
+}
+
+/// A write in the background is begun, and then a copy; the copy is closed.
+fn beginning(alloc: Global, config: &Config, unit: &mut Unit) -> Result<[Option<Key>; 3], Fail>
+    requires config { unit.old.config ≡ config.now }
+    requires unit { unit.old.unit ≡ 0 }
+    requires one { length config.now.units ≡ 1 }
+    ensures config { unit.new.config ≡ unit.old.config }
+    ensures unit { unit.new.unit ≡ unit.old.unit }
+{
+    let _ = start(alloc, config, unit, true, 1)?;
+    let background = unit.unended();
+    let _ = ask(config, unit, 0, Act::Open { id: 3 });
+    let copy = unit.unended();
+    let _ = close_copy(unit);
+    Ok([background, copy, unit.unended()])
+}
+
+/// An initiator has to end its copy, and not what the pump writes.
+#[test]
+fn a_copy_is_unended(rt: HostRuntime) -> Result<(), Fail> {
+    let alloc = rt.alloc();
+    let config = ample(alloc)?;
+    let mut unit = Unit::new(alloc, &config, 0)?;
+    let [background, copy, closed] = beginning(alloc, &config, &mut unit)?;
+    assert!(rt; background.is_none() && closed.is_none());
+    assert!(rt;
+        matches!(
+            copy,
+            Some(Key {
+                actor: 1,
+                copy: true,
+                id: 3
+            })
+        )
+    );
     Ok(())
 }
 

@@ -1,6 +1,6 @@
 -- What an act in a turn does to the seat
-use Rattle.std.proofs.Common.{Ok, Err, IfOk, IfErr, ◌<◌, ◌≤◌, ◌≡◌, ℕ, List, [], ◌∷◌, ◌++◌, length, refl, ap, sym, ◌∙◌, subst, arith, inl, inr, true, false}
-use Rattle.std.specs.Prelude.{◌⊎◌, Option, None, Some, IfSome}
+use Rattle.std.proofs.Common.{Ok, Err, IfOk, IfErr, ◌≤◌, ◌≡◌, ℕ, List, length, refl, ap, sym, ◌∙◌, subst, arith, inl, inr, true, false}
+use Rattle.std.specs.Prelude.{Option, None, Some, IfSome, IsSome}
 use Rattle.std.specs.declared.result.Result.{Result}
 use mathlib.Core.List.{IsPrefix}
 use Rattle.cm_history.specs.declared.act.Entry.{Entry}
@@ -8,8 +8,8 @@ use Rattle.cm_history.specs.declared.refused.ActRefused.{ActRefused}
 use Rattle.merged_history.specs.PassRules.{IsHistory}
 use Rattle.recorder.specs.Recording.{Rose}
 use Rattle.turn_gate.specs.Marks.{AtMost}
-use Rattle.turn_gate.specs.Seats.{with_newest}
-use Rattle.turn_gate.proofs.PublicLaws.{at_most_self, at_most_trans, prefix_self, prefix_trans}
+use Rattle.turn_gate.specs.Seats.{and_newest, with_newest}
+use Rattle.turn_gate.proofs.PublicLaws.{at_most_trans, prefix_self, prefix_trans}
 use Rattle.unit_gate.specs.declared.asked.Acted.{Acted}
 use Rattle.unit_gate.specs.declared.asked.AskedAct.{AskedAct}
 use Rattle.unit_gate.specs.declared.kin.UnitKin.{UnitKin}
@@ -103,6 +103,34 @@ pub refused-in-turn : (v v0 last : RecordedState) (seat after : UnitSeat) (asked
 refused-in-turn v v0 last seat after asked refused lent marks stands outcome kin up left =
     refused-here v last seat after asked marks (subst (λ s. AtMost (marks_of s) (marks_of last)) lent up) refused
     (subst (λ s. StandsFor s seat.seen → NotDone s last seat.seen asked refused) lent (outcome seat.seen) stands) (kin ∙ ap kin_of lent) left
+
+-- what is asked of the turn's value was done, or refused
+pub was-done : (v v0 first : RecordedState) (h : List Entry) (asked : AskedAct) (a : Acted) → v0 ≡ v → StandsFor v h
+    → ((h : List Entry) → StandsFor v0 h → DidAct (kin_of v0) first h asked a) → DidAct (kin_of v0) first h asked a
+was-done v v0 first h asked a lent stands did = did h (subst (λ s. StandsFor s h) (sym lent) stands)
+
+pub was-refused : (v v0 last : RecordedState) (h : List Entry) (asked : AskedAct) (refused : ActRefused) → v0 ≡ v → StandsFor v h
+    → ((h : List Entry) → StandsFor v0 h → NotDone v0 last h asked refused) → NotDone v0 last h asked refused
+was-refused v v0 last h asked refused lent stands outcome = outcome h (subst (λ s. StandsFor s h) (sym lent) stands)
+
+pub newest-some : (kin : UnitKin) (h : List Entry) (after : RecordedState) (asked : AskedAct) (a : Acted) → DidAct kin after h asked a → IsSome (newest after)
+newest-some kin h after asked a did = subst (λ (o : Option Entry). IsSome o) (sym did.newest_is) refl
+
+-- the value stands for what was seen, with its newest entry
+pub counts : (v v0 first : RecordedState) (h : List Entry) (asked : AskedAct) (a : Acted) → v0 ≡ v → StandsFor v h
+    → ((h : List Entry) → StandsFor v0 h → DidAct (kin_of v0) first h asked a) → StandsFor first (and_newest h (newest first))
+counts v v0 first h asked a lent stands did =
+    let done = was-done v v0 first h asked a lent stands did in
+    subst (λ (o : Option Entry). StandsFor first (and_newest h o)) (sym done.newest_is) done.stands
+
+seen-newest : (seat : UnitSeat) (o : Option Entry) → and_newest seat.seen o ≡ (with_newest seat o).seen
+seen-newest seat None = refl
+seen-newest seat (Some e) = refl
+
+pub leaves : (first f0 : RecordedState) (seat mid : UnitSeat) → f0 ≡ first → mid ≡ with_newest seat (newest first) → StandsFor first (and_newest seat.seen (newest first)) → StandsFor f0 mid.seen
+leaves first f0 seat mid same counted_is stands =
+    subst (λ (s : RecordedState). StandsFor s mid.seen) (sym same) (subst (λ (s : UnitSeat). StandsFor first s.seen) (sym counted_is)
+    (subst (λ l. StandsFor first l) (seen-newest seat (newest first)) stands))
 
 -- ---- from before the turn on
 

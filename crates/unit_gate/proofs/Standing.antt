@@ -1,13 +1,13 @@
 -- The lists of entries for which a unit with its recorder stands
-use Rattle.std.proofs.Common.{◌<◌, ◌≤◌, ◌≡◌, ℕ, ◌+◌, List, [], ◌∷◌, ◌++◌, length, take, refl, ap, sym, ◌∙◌, subst, arith}
-use Rattle.std.specs.Prelude.{max, Option}
+use Rattle.std.proofs.Common.{◌<◌, ◌≤◌, ◌≡◌, ℕ, ◌+◌, List, [], ◌∷◌, ◌++◌, length, take, ap, sym, ◌∙◌, arith}
+use Rattle.std.specs.Prelude.{max}
 use Rattle.cm_history.specs.declared.act.Entry.{Entry}
 use Rattle.cm_history.specs.Deeds.{last_stamp}
 use Rattle.cm_history.specs.History.{past_of}
 use Rattle.cm_history.specs.Image.{Image}
 use Rattle.merged_history.specs.PassRules.{IsHistory}
 use Rattle.recorder.specs.Recording.{with_more}
-use Rattle.unit_core.specs.UnitState.{UnitState, Stands}
+use Rattle.unit_core.specs.UnitState.{Stands}
 use Rattle.unit_core.specs.Acting as unit
 use Rattle.unit_gate.specs.declared.asked.AskedAct.{AskedAct}
 use Rattle.unit_gate.specs.declared.kin.RecorderFacts.{RecorderFacts}

@@ -1,5 +1,5 @@
 -- A unit with its recorder, as contracts see it
-use Rattle.std.specs.Prelude.{◌≡◌, ℕ, List, [], ◌∷◌, take, Option, None, Bool, true}
+use Rattle.std.specs.Prelude.{◌≡◌, ℕ, List, [], ◌∷◌, take, Option, None, Bool}
 use Rattle.std.specs.List.{last_or}
 use Rattle.cm_history.specs.declared.act.Entry.{Entry}
 use Rattle.merged_history.specs.Own.{Rises}

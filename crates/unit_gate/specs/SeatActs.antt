@@ -1,5 +1,5 @@
 -- What a seat at a unit's gate has done and has seen
-use Rattle.std.specs.Prelude.{◌≡◌, ◌⊎◌, ℕ, ◌+◌, ◌≤◌, ⊤, List, [], ◌∷◌, ◌++◌, length, slice_index_or, Option, Some, true}
+use Rattle.std.specs.Prelude.{◌≡◌, ◌⊎◌, ℕ, ◌+◌, ◌≤◌, ⊤, List, length, slice_index_or, Option, Some, true}
 use mathlib.Core.List.{IsPrefix}
 use Rattle.cm_history.specs.declared.act.Entry.{Entry}
 use Rattle.cm_history.specs.declared.refused.ActRefused.{ActRefused}

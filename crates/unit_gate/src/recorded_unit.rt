@@ -149,11 +149,12 @@ impl<R: Recorder + Drop> RecordedUnit<R> {
         ensures marks { AtMost (marks_of self.old) (marks_of self.new) }
     {
         match self.act_in_room(asked) {
+            Ok(acted) => Ok(acted),
+            Err(ActRefused::OutOfMemory) => Err(ActRefused::OutOfMemory),
             Err(ActRefused::Full) => match self.fold() {
                 FoldEnd::OutOfMemory => Err(ActRefused::OutOfMemory),
                 _ => Err(ActRefused::Full),
             },
-            told => told,
         }
     }
 

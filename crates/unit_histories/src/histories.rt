@@ -1,8 +1,10 @@
-// Random histories of two units, whose answers are compared with those of the plain model.
+// Random histories of two units, whose answers are compared with those of the plain model, and whose stored versions are
+// compared with a plain count.
 ghost use Rattle.std.specs.Prelude.{◌≡◌, ◌<◌, ◌≤◌, ◌^◌, length, IfOk, OnOk, true};
 ghost use Rattle.cm_history.specs.Legal.{may_ask};
 ghost use Rattle.plain_model.specs.Holds.{AreWithin};
 
+use crate::needed::Needed;
 use cm_base::{CallList, Config, UnitConfig, UnitList};
 use cm_history::{Act, ActRefused, Actor, Answer, Entry, History, within_limits};
 use plain_model::plain_answer;
@@ -53,7 +55,7 @@ fn is_answered_so(told: Result<Answer, ActRefused>, plain: &Answer) -> bool {
 }
 
 /// Asks a unit for an act, and says whether it is answered as by the plain model, which goes through all that was asked
-/// before. Where the record is full its entries are recorded elsewhere first. An act beyond its limits is not asked, nor
+/// before, and then stores so many versions as are needed. Where the record is full its entries are recorded elsewhere first. An act beyond its limits is not asked, nor
 /// one for which the operations that run leave no room.
 fn is_as_plain(
     alloc: Global,
@@ -61,6 +63,7 @@ fn is_as_plain(
     unit: &mut Unit,
     recorder: &mut MemoryRecorder,
     asked: &mut History,
+    needed: &mut Needed,
     next: Entry,
 ) -> Result<bool, Fail>
     requires config { unit.old.config ≡ config.now }
@@ -92,8 +95,9 @@ fn is_as_plain(
     )?;
     asked.reserve(1)?;
     asked.append(next.copy(alloc)?);
+    needed.note(alloc, &next, &plain)?;
     let told = unit.act(next.actor, next.seq, 0, next.moment, next.act);
-    Ok(is_answered_so(told, &plain))
+    Ok(is_answered_so(told, &plain) && unit.stored() == needed.count(alloc)?)
 }
 
 /// An entry, of which neither stamp nor place matters to what is answered.
@@ -132,7 +136,7 @@ fn next_entry(
 }
 
 /// Plays a random history on a unit, whose entries go to a recorder where the record is full. Whether each answer was that
-/// of the plain model, and no entry is lost.
+/// of the plain model, as many versions were stored as were needed, and no entry is lost.
 fn history_is_as_plain(
     alloc: Global,
     config: &Config,
@@ -145,9 +149,18 @@ fn history_is_as_plain(
 {
     let mut unit = Unit::new(alloc, config, number)?;
     let mut asked = History::empty(alloc);
+    let mut needed = Needed::new(alloc, config.unit(number).blocks)?;
     for _ in 0..ACTS {
         let next = next_entry(alloc, config, number, style, numbers)?;
-        if !is_as_plain(alloc, config, &mut unit, recorder, &mut asked, next)? {
+        if !is_as_plain(
+            alloc,
+            config,
+            &mut unit,
+            recorder,
+            &mut asked,
+            &mut needed,
+            next,
+        )? {
             return Ok(false);
         }
     }
@@ -216,6 +229,15 @@ fn folded_histories(alloc: Global, config: &Config, style: Style) -> Result<bool
         was_full = was_full || !recorder.entries().is_empty();
     }
     Ok(was_full)
+}
+
+/// Blocks that are overwritten while tokens show them.
+#[test]
+fn histories_of_shown_blocks(rt: HostRuntime) -> Result<(), Fail> {
+    let alloc = rt.alloc();
+    let config = machine(alloc, 40, 25, 16, 1_048_576)?;
+    assert!(rt; folded_histories(alloc, &config, Style::Shown)?);
+    Ok(())
 }
 
 /// A record that is full by its entries.

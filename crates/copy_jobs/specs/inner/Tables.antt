@@ -25,9 +25,10 @@ IsWork (Populated serial blocks) = ⊤
 IsWork (Writing write) = IsWriteJob write
 IsWork (Copying result) = ⊤
 
--- the key says whether it is a copy
+-- the key says whether it is a copy, whose identifier has one byte
 pub record IsJob (job : Job) : Type 0 where
   pub kind : job.key.copy ≡ is_copying job.work
+  pub byte : job.key.copy ≡ true → job.key.id < 2 ^ 8
   pub work : IsWork job.work
 
 abbrev pub AllJobs : List Job → Type 0

@@ -25,14 +25,7 @@ abbrev pub IsPushed : Summary → List ℕ → Status → Type 0
 IsPushed summary pushed Status.Done = pushed ≡ summary_text summary
 IsPushed summary pushed Status.WriteFault = IsBeginning pushed (summary_text summary)
 IsPushed summary pushed Status.OutOfMemory = pushed ≡ []
-IsPushed summary pushed Status.ReadFault = ⊥
-IsPushed summary pushed (Status.Torn place) = ⊥
-IsPushed summary pushed (Status.BadHeader place) = ⊥
-IsPushed summary pushed Status.Usage = ⊥
-IsPushed summary pushed Status.AcceptFault = ⊥
-IsPushed summary pushed (Status.BadRecord place) = ⊥
-IsPushed summary pushed Status.Records = ⊥
-IsPushed summary pushed (Status.Differs place) = ⊥
+IsPushed summary pushed other = ⊥
 
 pub record IsPushedSo (taken given : Option (List ℕ)) (writes writes_after : ℕ) (summary : Summary) (status : Status) : Type 0 where
   pub pushed : List ℕ

@@ -4,6 +4,7 @@ pub mod copies;
 pub mod evictions;
 pub mod first_path;
 pub mod generated;
+pub mod host_copies;
 pub mod long_data;
 pub mod operations;
 pub mod sessions;

@@ -17,12 +17,15 @@ pub const GENERATED: [(&str, &str); 3] = [
 ];
 
 /// Words that the program doesn't know.
-pub const OTHER: [&[&str]; 24] = [
+pub const OTHER: [&[&str]; 27] = [
     &[],
     &[""],
     &["Replay"],
     &["replay", "replay"],
     &["replay", "1"],
+    &["Copy"],
+    &["copy", "127.0.0.1:3260"],
+    &["copy", "127.0.0.1:3260", "1"],
     &["--help"],
     &["--version"],
     &["gen"],

@@ -8,10 +8,14 @@ use Rattle.cm_frame.specs.declared.frame.Request.{Request}
 use Rattle.odx_host.specs.declared.fault.Copied.{Copied}
 use Rattle.odx_host.specs.declared.fault.CopyFault.{CopyFault}
 use Rattle.odx_host.specs.Talk.{Talked}
-use Rattle.odx_host.specs.Worlds.{World}
+use Rattle.odx_host.specs.Worlds.{World, Passed}
 use Rattle.odx_host.specs.Parts.{Part, writes_from, parts_from, place_behind}
 use Rattle.odx_host.specs.Rule.{HostProgram, Asks, Ends, if_good, populating, polling, writing, copying, one_write, rule}
-use Rattle.odx_host.specs.Ruled.{AreAsked, after, Leads}
+use Rattle.odx_host.specs.Ruled.{AreAsked, after}
+
+-- In every world in which the port may have been, it is now in one to which these requests led.
+abbrev pub Leads : (World → Type 0) → List Talked → (World → Type 0) → Type 0
+Leads Was talk Is = (w : World) → Was w → (v : World) × Is v × Passed w talk v
 
 -- some requests were asked from one state of the port to another, and this is true of them
 pub record Talking (Talks : List Talked → Type 0) (Was Is : World → Type 0) (F : List Talked → Type 0) : Type 0 where

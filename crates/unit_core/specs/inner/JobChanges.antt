@@ -1,5 +1,5 @@
 -- What is to be changed in the operations
-use Rattle.std.specs.Prelude.{◌≡◌, ◌≤◌, ◌^◌, List, length, Some, Bool, true, false, ⊤}
+use Rattle.std.specs.Prelude.{◌≡◌, ◌<◌, ◌≤◌, ◌^◌, List, length, Some, Bool, true, false, ⊤}
 use Rattle.lba_ranges.specs.Denoted.{total, is_within, is_overlapping}
 use Rattle.scsi_sense.specs.Codes.{space_allocation_failed}
 use Rattle.cm_history.specs.Operations.{is_running_copy}
@@ -34,7 +34,7 @@ MayJob Nothing jobs = ⊤
 MayJob (Make key serial blocks) jobs = (key.copy ≡ false) × (is_busy key jobs ≡ false)
 MayJob (Start key background ranges rod) jobs =
     (key.copy ≡ false) × (is_busy key jobs ≡ false) × (is_crowded jobs ≡ false) × (is_overlapping ranges ≡ false) × (is_within (2 ^ 64) ranges ≡ true) × (total ranges ≡ length rod.items) × (length rod.items ≤ 1_048_576)
-MayJob (Open key) jobs = (key.copy ≡ true) × (is_busy key jobs ≡ false) × (is_crowded jobs ≡ false)
+MayJob (Open key) jobs = (key.copy ≡ true) × (key.id < 2 ^ 8) × (is_busy key jobs ≡ false) × (is_crowded jobs ≡ false)
 MayJob (Move key blocks) jobs = (key.copy ≡ false) × (next_length key jobs ≡ Some blocks)
 MayJob (Stop key) jobs = (key.copy ≡ false) × (is_busy key jobs ≡ true)
 MayJob (End key) jobs = (key.copy ≡ false) × (is_busy key jobs ≡ true)

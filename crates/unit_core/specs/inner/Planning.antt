@@ -28,7 +28,8 @@ use Rattle.unit_core.specs.inner.JobChanges.{jobs_after, MayJob, grows}
 use Rattle.token_pins.specs.Pinning.{rod_now}
 use Rattle.token_pins.specs.TokenChanges.{tokens_after, MayPin, MayToken, is_make, ranges_pinned}
 use Rattle.unit_core.specs.inner.Seen.{ranges_made}
-use Rattle.unit_core.specs.inner.Tables.{key_of, tokens_of, jobs_of}
+use Rattle.unit_core.specs.Keys.{key_of}
+use Rattle.unit_core.specs.inner.Tables.{tokens_of, jobs_of}
 use Rattle.cm_history.specs.Ends.{ends_operation}
 
 -- nothing is to change

@@ -1,10 +1,8 @@
 -- The tables of a unit, as its past makes them
-use Rattle.std.specs.Prelude.{ℕ, List, length, map, Option, Some, None, Bool, true, false}
+use Rattle.std.specs.Prelude.{ℕ, List, length, map, Option, Some, None}
 use Rattle.cm_history.specs.declared.act.Act.{Act}
-use Rattle.cm_history.specs.declared.act.Actor.{Actor}
-use Rattle.cm_history.specs.declared.act.Actor.TheVariants.{Nexus, Pump}
 use Rattle.cm_history.specs.Deeds.{Deed}
-use Rattle.cm_history.specs.Operations.{Operation, Form, OfToken, OfCopy, form_of, id_of, written, state, result_of, kept}
+use Rattle.cm_history.specs.Operations.{Operation, written, state, result_of, kept}
 use Rattle.cm_history.specs.Answers.{serial_made}
 use Rattle.cm_base.specs.declared.config.UnitConfig.{UnitConfig}
 use Rattle.lba_ranges.specs.Denoted.{total}
@@ -12,10 +10,10 @@ use Rattle.lba_ranges.specs.HeldBlocks.{HeldBlocks}
 use Rattle.cm_history.specs.Tokens.{Token, Fate, Live, Expired, Evicted, Deleted, tokens, rod}
 use Rattle.rod_store.specs.declared.kept.Kept.{Kept}
 use Rattle.rod_store.specs.declared.kept.TokenState.{TokenState}
-use Rattle.copy_jobs.specs.declared.key.Key.{Key}
 use Rattle.copy_jobs.specs.declared.job.Job.{Job}
 use Rattle.copy_jobs.specs.declared.job.Work.{Work}
 use Rattle.copy_jobs.specs.declared.job.Work.TheVariants.{Populated, Writing, Copying}
+use Rattle.unit_core.specs.Keys.{key_made}
 
 -- ---- tokens
 
@@ -35,18 +33,6 @@ tokens_of unit past = map (kept_of unit) (tokens past)
 
 -- ---- operations
 
--- the number of a nexus; a pump begins no operation
-abbrev pub number_of : Actor → ℕ
-number_of (Nexus nexus) = nexus
-number_of (Pump unit) = unit
-
-abbrev pub is_copy : Form → Bool
-is_copy OfToken = false
-is_copy OfCopy = true
-
-abbrev pub key_of : Actor → Form → ℕ → Key
-key_of actor form id = record { actor = number_of actor; copy = is_copy form; id = id }
-
 abbrev pub serial_or_none : Option ℕ → ℕ
 serial_or_none None = 0
 serial_or_none (Some serial) = serial
@@ -61,7 +47,7 @@ work_of o _ = Populated 0 0
 
 abbrev pub job_of : Operation → Job
 job_of o = record {
-  key = key_of o.made.entry.actor (form_of o.made.entry.act) (id_of o.made.entry.act);
+  key = key_made o;
   work = work_of o o.made.entry.act;
 }
 

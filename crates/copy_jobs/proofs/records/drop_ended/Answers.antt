@@ -1,4 +1,4 @@
-use Rattle.std.proofs.Common.{◌≡◌, ap, sym, ◌<◌, ◌∙◌, arith, rules, tests}
+use Rattle.std.proofs.Common.{ap, sym, ◌<◌, ◌∙◌, arith, rules, tests}
 use Rattle.std.specs.Prelude.{length, remove}
 use Rattle.std.specs.List.{position_or_len}
 use Rattle.std.specs.VecDeque.{deque_len}

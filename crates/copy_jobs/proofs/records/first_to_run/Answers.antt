@@ -1,4 +1,4 @@
-use Rattle.std.proofs.Common.{◌≡◌, ◌∙◌, sym}
+use Rattle.std.proofs.Common.{◌∙◌, sym}
 use Rattle.copy_jobs.proofs.Later.{none-run}
 use Rattle.copy_jobs.proofs.records.first_to_run.Goals as goal
 

@@ -1,7 +1,6 @@
-use Rattle.std.proofs.Common.{◌≡◌, ◌<◌, ◌-◌, ◌∙◌, sym, refl, arith, true}
+use Rattle.std.proofs.Common.{◌≡◌, ◌<◌, ◌-◌, ◌∙◌, sym, refl, arith}
 use Rattle.std.specs.Prelude.{length, get_or}
 use Rattle.std.specs.VecDeque.{deque_len}
-use Rattle.copy_jobs.specs.Jobs.{is_running}
 use Rattle.copy_jobs.proofs.Later.{last-alone}
 use Rattle.copy_jobs.proofs.records.newest_runs.Goals as goal
 

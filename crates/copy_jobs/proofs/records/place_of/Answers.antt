@@ -1,4 +1,4 @@
-use Rattle.std.proofs.Common.{◌≡◌, ◌+◌, ap, sym, ◌∙◌, arith, drop, rules, tests}
+use Rattle.std.proofs.Common.{sym, ◌∙◌, arith, drop, rules, tests}
 use Rattle.std.specs.Prelude.{length}
 use Rattle.std.specs.List.{position_or_len}
 use Rattle.std.proofs.lemmas.Iterator.Search.{position_from_yields_List}

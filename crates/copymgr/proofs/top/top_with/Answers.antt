@@ -7,7 +7,7 @@ use Rattle.copymgr.proofs.top.top_with.Goals as goal
 
 pub returns-in-None-clause-usage : goal.returns-in-None-clause-usage
 returns-in-None-clause-usage g c = (
-  λ e. (c.in-None.ensures.unknown Order.Replay tt, c.in-None.ensures.unknown Order.Check tt, λ rounds few is. c.in-None.ensures.unknown (Order.Generate rounds) few is),
+  λ e. (c.in-None.ensures.unknown Order.Replay tt, c.in-None.ensures.unknown Order.Check tt, c.in-None.ensures.unknown Order.Copy tt, λ rounds few is. c.in-None.ensures.unknown (Order.Generate rounds) few is),
   λ u. refl,
 )
 
@@ -16,6 +16,9 @@ returns-in-None-clause-replayed g c = λ is. absurd (c.in-None.ensures.unknown O
 
 pub returns-in-None-clause-checked : goal.returns-in-None-clause-checked
 returns-in-None-clause-checked g c = λ is. absurd (c.in-None.ensures.unknown Order.Check tt is)
+
+pub returns-in-None-clause-copied : goal.returns-in-None-clause-copied
+returns-in-None-clause-copied g c = λ is. absurd (c.in-None.ensures.unknown Order.Copy tt is)
 
 pub returns-in-None-clause-generated : goal.returns-in-None-clause-generated
 returns-in-None-clause-generated g c = λ rounds few is. absurd (c.in-None.ensures.unknown (Order.Generate rounds) few is)

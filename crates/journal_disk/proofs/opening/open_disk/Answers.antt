@@ -1,5 +1,15 @@
-use Rattle.std.proofs.Common.{◌∙◌}
+use Rattle.std.proofs.Common.{◌≡◌, ◌∙◌}
+use Rattle.journal_disk.specs.Opened.{opened}
+use Rattle.journal_disk.proofs.Openings.{syncs-first}
+use Rattle.journal_disk.proofs.Told.{on-ok}
 use Rattle.journal_disk.proofs.opening.open_disk.Goals as goal
 
 pub returns-clause-bad : goal.returns-clause-bad
 returns-clause-bad g c = λ file told. c.open_synced.ensures.bad file (c.sync.ensures.kept ∙ told)
+
+pub returns-clause-synced : goal.returns-clause-synced
+returns-clause-synced g c = λ file told.
+    on-ok c.open_synced.result
+    (syncs-first c.args.config.now c.args.unit g.D.Disk.reads g.D.Disk.may_leave g.D.Disk.moment g.D.Disk.left_since g.met.D.Disk.only_now c.args.disk.now c.sync.new.self c.open_synced.new.disk
+    (λ x. opened c.args.config.now c.args.unit x ≡ opened c.args.config.now c.args.unit file) c.sync.ensures.kept c.sync.ensures.crash c.sync.ensures.time c.in_ok-sync.ensures.synced
+    (c.open_synced.ensures.moments file (c.sync.ensures.kept ∙ told) c.in_ok-sync.ensures.synced))

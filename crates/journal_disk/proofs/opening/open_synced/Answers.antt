@@ -61,7 +61,7 @@ returns-in-Unmade-clause-kept g c = λ file told synced.
     let made = c.in_ok-make_new-in-Unmade.ensures.made (mark_bytes config unit) rest read
     (λ x now. subst (λ (l : List ℕ). MayMake c.in-Unmade.closes (mark_bytes config unit) l) (sym (synced file told x (c.judge.ensures.reads.images x now))) shape.0) in
     subst (λ (es : List Entry). IsJournal g.D.Disk.reads g.D.Disk.may_leave config unit es None (record { disk = c.make_new.new.disk; start = c.len.result - 1; gate = c.len.result - 1; begun = false })) (ap (λ h. h.entries) (sym c.empty.ensures))
-    (made-journal config unit g.D.Disk.reads g.D.Disk.may_leave c.make_new.new.disk (c.len.result - 1) (c.len.result - 1) (c.in_ok-make_new-in-Unmade.ensures.told read) start same made)
+    (made-journal config unit g.D.Disk.reads g.D.Disk.may_leave c.make_new.new.disk (c.len.result - 1) (c.len.result - 1) (c.make_new.ensures.told read) start same made)
 
 pub returns-in-Unmade-clause-moments : goal.returns-in-Unmade-clause-moments
 returns-in-Unmade-clause-moments g c = λ file told synced.

@@ -1,14 +1,20 @@
-use Rattle.std.proofs.Common.{◌≡◌, ◌∙◌, ◌+◌, ◌≤◌, ◌<◌, ◌++◌, suc, length, ap, sym, subst, arith, refl}
-use Rattle.std.specs.Prelude.{Ok, Err}
+use Rattle.std.proofs.Common.{◌∙◌, ℕ, ◌≤◌, ◌<◌, List, ◌++◌, length, ap, sym, subst, arith, inr}
+use Rattle.std.specs.Prelude.{Ok, Err, IfOk}
 use Rattle.std.proofs.lemmas.Result.{err_from_is_err_and}
 use Rattle.lba_ranges.specs.Denoted.{total}
+use Rattle.copy_plan.specs.Jobs.{CopyJob}
+use Rattle.odx_host.specs.Talk.{Talked}
+use Rattle.odx_host.specs.declared.fault.Copied.{Copied}
 use Rattle.odx_host.specs.declared.copying.Host.{Host}
-use Rattle.odx_host.specs.Parts.{part_at, place_behind}
-use Rattle.odx_host.specs.Rule.{next_step, rule}
+use Rattle.odx_host.specs.Parts.{HasPlanned, part_at, place_behind}
+use Rattle.odx_host.specs.Rule.{copying, rule}
 use Rattle.odx_host.specs.Ruled.{IsRuled}
 use Rattle.odx_host.specs.inner.Steps.{CopiesOn, parts_to_come, steps_in}
-use Rattle.odx_host.proofs.Steps.{talking-also, talking-on}
+use Rattle.odx_host.proofs.Steps.{talking-on}
+use Rattle.odx_host.proofs.Coming.{parts-end}
 use Rattle.odx_host.proofs.Identifiers.{steps-few}
+use Rattle.odx_host.proofs.Planned.{has-planned}
+use Rattle.odx_host.proofs.Whole.{copies-there}
 use Rattle.odx_host.proofs.Writing.{copies-on, copies-stop, copied-is, steps-next, part-ends}
 use Rattle.odx_host.proofs.copying.copy.Goals as goal
 
@@ -61,6 +67,56 @@ returns-in_err-copy_part g c =
     let job = c.args.job.now in
     let host = c.parts.host in
     let fault = c.in_err-copy_part.field-0.0 in
+    let is = p.1 ∙ ap Err p.2 in
     let t = talking-on g.P.Port.Talks g.P.Port.IsIn g.met.P.Port.silent g.met.P.Port.goes_on _ _ _ _ _ (λ talk. IsRuled (rule job) talk (Err fault)) c.parts.invariant.talking c.in_err-copy_part.ensures.copied (λ xs ys here more.
     copies-stop job host.copied host.copied host.from.place xs ys fault here (copied-is _ job host.copied host.from.place host.copied ys (Err fault) c.parts.invariant.job more)) in
-    record { ruled = (t.talk, subst (λ r. IsRuled (rule job) t.talk r) (sym (p.1 ∙ ap Err p.2)) t.follows, t.talks, t.leads) }
+    let ruled = subst (λ r. IsRuled (rule job) t.talk r) (sym is) t.follows in
+    record {
+      ruled = (
+        t.talk,
+        ruled,
+        t.talks,
+        λ w was.
+            let l = t.leads w was in
+            let same = sym c.blocks-blocks.ensures.to ∙ c.blocks-blocks.ensures.from in (
+              l.0,
+              l.1,
+              l.2,
+              copies-there job w l.0 c.from_residual.result t.talk (g.met.P.Port.legal c.copy_part.new.port l.0 l.1) c.new-host.ensures.sources c.new-host.ensures.targets same
+                  (omega (arith, c.blocks-blocks.ensures.few, c.blocks-blocks.ensures.from)) c.new-host.ensures.unit ruled l.2,
+            ),
+      );
+      planned = subst (λ r. IfOk r (λ copied. HasPlanned job copied.populates)) (sym is) tt;
+    }
+
+-- the requests were those of the rule
+ended : (job : CopyJob) (so_far : Copied) (place : ℕ) (talk : List Talked) → total job.from ≤ place → CopiesOn job so_far place talk → IsRuled (rule job) talk (Ok so_far)
+ended job so_far place talk over here = record { asked = here.0; ended = inr (here.1 ∙ ap (λ ps. copying job so_far ps) (parts-end job place over)) }
+
+pub returns-clause-ruled : goal.returns-clause-ruled
+returns-clause-ruled g c =
+    let job = c.args.job.now in
+    let t = c.parts.invariant.talking in
+    let so_far = c.parts.host.copied in
+    let over : total job.from ≤ c.parts.host.from.place = omega (arith, c.place.ensures.place, c.parts-test.false, c.blocks-blocks.ensures.from) in
+    let ruled = ended job so_far c.parts.host.from.place t.talk over t.follows in (
+      t.talk,
+      ruled,
+      t.talks,
+      λ w was.
+          let l = t.leads w was in
+          let same = sym c.blocks-blocks.ensures.to ∙ c.blocks-blocks.ensures.from in (
+            l.0,
+            l.1,
+            l.2,
+            copies-there job w l.0 (Ok so_far) t.talk (g.met.P.Port.legal c.parts.port l.0 l.1) c.new-host.ensures.sources c.new-host.ensures.targets same
+                (omega (arith, c.blocks-blocks.ensures.few, c.blocks-blocks.ensures.from)) c.new-host.ensures.unit ruled l.2,
+          ),
+    )
+
+pub returns-clause-planned : goal.returns-clause-planned
+returns-clause-planned g c =
+    let job = c.args.job.now in
+    let t = c.parts.invariant.talking in
+    let over : total job.from ≤ c.parts.host.from.place = omega (arith, c.place.ensures.place, c.parts-test.false, c.blocks-blocks.ensures.from) in
+    has-planned job t.talk c.parts.host.copied (ended job c.parts.host.copied c.parts.host.from.place t.talk over t.follows)

@@ -1,4 +1,4 @@
-use Rattle.std.proofs.Common.{◌≡◌, ◌+◌, ◌-◌, ◌≤◌, length}
+use Rattle.std.proofs.Common.{◌≡◌, ◌+◌, ◌-◌}
 use Rattle.lba_ranges.specs.Denoted.{total}
 use Rattle.odx_host.specs.Parts.{parts}
 use Rattle.odx_host.specs.Rule.{next_step}

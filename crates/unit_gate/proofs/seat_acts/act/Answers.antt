@@ -1,4 +1,4 @@
-use Rattle.std.proofs.Common.{◌≡◌, false}
+use Rattle.std.proofs.Common.{false}
 use Rattle.std.specs.Prelude.{IfSome}
 use Rattle.unit_gate.specs.Recorded.{kin_of}
 use Rattle.unit_gate.specs.SeatActs.{HasActed, IsRefused}

@@ -1,5 +1,4 @@
-use Rattle.std.proofs.Common.{◌≡◌, List, ap, ◌∙◌, arith, drop, rules, tests}
-use Rattle.std.specs.List.{list_any}
+use Rattle.std.proofs.Common.{List, ◌∙◌, arith, drop, rules, tests}
 use Rattle.std.proofs.lemmas.Iterator.Search.{any_from_yields_List}
 use Rattle.std.proofs.lemmas.Iterator.Consumers.{YieldsList-from_deque}
 use Rattle.copy_jobs.specs.declared.job.Job.{Job}

@@ -1,8 +1,9 @@
 use Rattle.std.proofs.Common.{◌≡◌, None, Some, false, inl, inr, sym, subst}
 use Rattle.journal_disk.specs.Opened.{opened}
-use Rattle.journal_disk.specs.Journal.{SyncsFirst}
+use Rattle.journal_disk.specs.Journal.{StaysGood, SyncsFirst}
 use Rattle.journal_disk.specs.Recording.{recorded_in, IsFit}
 use Rattle.journal_disk.specs.declared.log.Log.{Log}
+use Rattle.journal_disk.proofs.Good.{open-stays, refused-stays, never-bad}
 use Rattle.journal_disk.proofs.Openings.{told-or-not, journal-fits, journal-recorded}
 use Rattle.journal_disk.proofs.journal.Journal.open.Goals as goal
 
@@ -26,3 +27,19 @@ pub returns-in-Ok-clause-any_moment : goal.returns-in-Ok-clause-any_moment
 returns-in-Ok-clause-any_moment g c = λ file told.
     subst (λ (l : Log _). SyncsFirst g.D.Disk.reads g.D.Disk.may_leave g.D.Disk.moment g.D.Disk.left_since c.args.disk l.disk (λ x. opened c.args.config.now c.args.unit x ≡ opened c.args.config.now c.args.unit file)) (sym c.over.ensures)
     (c.in-Ok.ensures.synced file told)
+
+pub returns-in-Ok-clause-good : goal.returns-in-Ok-clause-good
+returns-in-Ok-clause-good g c = λ good.
+    subst (λ (l : Log _). StaysGood g.D.Disk.reads g.D.Disk.may_leave g.D.Disk.moment g.D.Disk.left_since c.args.config.now c.args.unit c.args.disk l.disk) (sym c.over.ensures)
+    (open-stays g.D.Disk.reads g.D.Disk.may_leave c.args.config.now c.args.unit g.D.Disk.moment g.D.Disk.left_since g.met.D.Disk.reads_left g.met.D.Disk.counts_now c.args.disk good
+    c.open_disk.new.disk (c.open_disk.ensures.told good.told) (c.in-Ok.ensures.synced good.told.0 good.told.1))
+
+pub returns-in-Err-clause-good_refused : goal.returns-in-Err-clause-good_refused
+returns-in-Err-clause-good_refused g c = λ good.
+    refused-stays g.D.Disk.reads g.D.Disk.may_leave c.args.config.now c.args.unit g.D.Disk.moment g.D.Disk.left_since g.met.D.Disk.reads_left g.met.D.Disk.counts_now c.args.disk good
+    c.open_disk.new.disk (c.open_disk.ensures.told good.told) (c.in-Err.ensures.refused good.told.0 good.told.1)
+
+pub returns-in-Err-clause-never_bad : goal.returns-in-Err-clause-never_bad
+returns-in-Err-clause-never_bad g c = λ good.
+    never-bad g.D.Disk.reads g.D.Disk.may_leave c.args.config.now c.args.unit g.D.Disk.moment g.D.Disk.left_since g.met.D.Disk.reads_left g.met.D.Disk.counts_now c.args.disk good
+    c.in-Err.fault (c.in-Err.ensures.bad good.told.0 good.told.1)

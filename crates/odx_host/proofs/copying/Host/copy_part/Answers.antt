@@ -1,9 +1,9 @@
-use Rattle.std.proofs.Common.{◌≡◌, ◌∙◌, ◌+◌, ◌≤◌, ◌<◌, suc, ap, sym, subst, arith, refl}
+use Rattle.std.proofs.Common.{◌≡◌, ◌∙◌, ◌+◌, ◌<◌, suc, ap, subst, arith, refl}
 use Rattle.std.specs.Prelude.{Ok, Err}
 use Rattle.std.proofs.lemmas.Result.{err_from_is_err_and}
 use Rattle.lba_ranges.specs.Denoted.{total}
 use Rattle.copy_plan.specs.Plans.{longest_run, part_limit}
-use Rattle.odx_host.specs.Parts.{ranges_at, place_behind}
+use Rattle.odx_host.specs.Parts.{place_behind}
 use Rattle.odx_host.specs.Rule.{one_token}
 use Rattle.odx_host.proofs.Steps.{talking-also, talking-on}
 use Rattle.odx_host.proofs.Ranges.{slice-apart, legal-ranges}

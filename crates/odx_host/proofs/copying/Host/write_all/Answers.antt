@@ -1,12 +1,12 @@
-use Rattle.std.proofs.Common.{◌≡◌, ◌∙◌, ◌≤◌, ◌<◌, ◌++◌, length, ap, sym, subst, arith, refl}
+use Rattle.std.proofs.Common.{◌∙◌, ◌≤◌, ◌<◌, ◌++◌, length, ap, sym, subst, arith}
 use Rattle.std.specs.Prelude.{Ok, Err}
 use Rattle.std.proofs.lemmas.Result.{err_from_is_err_and}
 use Rattle.lba_ranges.specs.Denoted.{total}
 use Rattle.odx_host.specs.declared.copying.Host.{Host}
 use Rattle.odx_host.specs.Rule.{next_step, one_write}
 use Rattle.odx_host.specs.inner.Steps.{WritesOn, HasWritten, behind_write, writes_to_come}
-use Rattle.odx_host.proofs.Steps.{talking-none, talking-also, talking-on}
-use Rattle.odx_host.proofs.Writing.{writes-first, writes-on, writes-stop, writes-done, behind-in, one-less, host-on}
+use Rattle.odx_host.proofs.Steps.{talking-on}
+use Rattle.odx_host.proofs.Writing.{writes-on, writes-stop, behind-in, one-less, host-on}
 use Rattle.odx_host.proofs.copying.Host.write_all.Goals as goal
 
 pub writes-smaller : goal.writes-smaller

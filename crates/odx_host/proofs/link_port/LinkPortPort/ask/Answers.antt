@@ -3,7 +3,6 @@ use Rattle.std.specs.Prelude.{Err}
 use Rattle.std.proofs.lemmas.Result.{err_from_is_err_and}
 use Rattle.std.specs.Io.KnownBytes.{Appends}
 use Rattle.cm_base.specs.Sides.{Side, IsCut}
-use Rattle.cm_frame.specs.Grammar.{request_bytes}
 use Rattle.odx_host.specs.declared.port.PortFault.{PortFault}
 use Rattle.odx_host.specs.Linked.{LinkState, IsSpoken}
 use Rattle.odx_host.proofs.Linking.{state_of, spoken-wanted, spoken-cut, spoken-by}
@@ -38,16 +37,16 @@ returns-clause-talked g c =
     let s : LinkState = state_of g.K.Source.left g.K.Source.read_faults g.K.Sink.taken g.K.Sink.write_faults (record { link = c.self.inside.link; input = c.self.inside.input }) in
     let s0 : LinkState = state_of g.K.Source.left g.K.Source.read_faults g.K.Sink.taken g.K.Sink.write_faults c.args.self.now in
     let t : LinkState = state_of g.K.Source.left g.K.Source.read_faults g.K.Sink.taken g.K.Sink.write_faults (record { link = c.push_all.new.sink; input = c.self.inside.input }) in
-    let u : LinkState = state_of g.K.Source.left g.K.Source.read_faults g.K.Sink.taken g.K.Sink.write_faults c.reply.new.self in
+    let u : LinkState = state_of g.K.Source.left g.K.Source.read_faults g.K.Sink.taken g.K.Sink.write_faults (record { link = c.next_reply.new.source; input = c.next_reply.new.input }) in
     let same : s ≡ s0 = ap (state_of g.K.Source.left g.K.Source.read_faults g.K.Sink.taken g.K.Sink.write_faults) c.self.view_is in
     let back = g.met.K.Link.pushes_apart in
     let law = g.met.K.Link.pulls_apart in
     let apart = sym (back c.push_all.new.sink) ∙ c.push_all.ensures.apart ∙ back c.self.inside.link in
-    let kept = sym (law c.reply.new.self.link) ∙ c.reply.ensures.apart ∙ law c.push_all.new.sink in
+    let kept = sym (law c.next_reply.new.source) ∙ c.next_reply.ensures.apart ∙ law c.push_all.new.sink in
     let given = subst (λ b. Appends (g.K.Sink.taken c.self.inside.link) (g.K.Sink.taken c.push_all.new.sink) b) (c.as_slice.ensures ∙ c.in_ok-frame.ensures) c.in_ok-push_all.ensures.grown in (
       u,
-      subst (λ x. IsSpoken x u (record { request = c.args.request.now; answer = c.reply.result })) same
-          (spoken-by s t u c.args.request.now c.reply.result given (ap (λ (x : Side). x.bytes) apart) refl (ap (λ (x : Side). x.faults) apart) c.in_ok-push_all.ensures.sound
-          c.reply.ensures.read c.reply.ensures.ended c.reply.ensures.counted (ap (λ (x : Side). x.bytes) kept) (ap (λ (x : Side). x.faults) kept)),
+      subst (λ x. IsSpoken x u (record { request = c.args.request.now; answer = c.next_reply.result })) same
+          (spoken-by s t u c.args.request.now c.next_reply.result given (ap (λ (x : Side). x.bytes) apart) refl (ap (λ (x : Side). x.faults) apart) c.in_ok-push_all.ensures.sound
+          c.next_reply.ensures.read c.next_reply.ensures.ended c.next_reply.ensures.counted (ap (λ (x : Side). x.bytes) kept) (ap (λ (x : Side). x.faults) kept)),
       refl,
     )

@@ -4,7 +4,7 @@ use Rattle.cm_history.specs.declared.act.Act.{Act}
 use Rattle.cm_history.specs.Operations.{OfToken, would_serve}
 use Rattle.cm_history.specs.History.{past_of}
 use Rattle.copy_jobs.specs.Pieces as next
-use Rattle.unit_core.specs.inner.Tables.{key_of}
+use Rattle.unit_core.specs.Keys.{key_of}
 use Rattle.unit_core.proofs.Asking.{asker, serves-abort}
 use Rattle.unit_core.proofs.Steps.{known-of}
 use Rattle.unit_core.proofs.ServePlans.{abort-plan}

@@ -3,7 +3,7 @@ use Rattle.cm_history.specs.declared.act.Act.{Act}
 use Rattle.cm_history.specs.Operations.{OfCopy, would_serve}
 use Rattle.cm_history.specs.History.{past_of}
 use Rattle.copy_jobs.specs.Jobs as jobs
-use Rattle.unit_core.specs.inner.Tables.{key_of}
+use Rattle.unit_core.specs.Keys.{key_of}
 use Rattle.unit_core.proofs.Asking.{asker, serves-close}
 use Rattle.unit_core.proofs.Steps.{known-of}
 use Rattle.unit_core.proofs.ServePlans.{close-plan}

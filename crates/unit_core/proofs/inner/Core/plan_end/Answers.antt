@@ -13,7 +13,7 @@ use Rattle.copy_jobs.specs.Jobs as jobs
 use Rattle.copy_jobs.specs.Pieces as next
 use Rattle.copy_jobs.specs.Reports as reports
 use Rattle.unit_core.specs.declared.job_change.JobChange.{JobChange}
-use Rattle.unit_core.specs.inner.Tables.{key_of}
+use Rattle.unit_core.specs.Keys.{key_of}
 use Rattle.unit_core.specs.inner.Planning.{quiet, IsPlan}
 use Rattle.unit_core.proofs.Asking.{asker, serves-advance}
 use Rattle.unit_core.proofs.Steps.{known-of}

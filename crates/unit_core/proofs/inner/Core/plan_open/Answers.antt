@@ -1,9 +1,10 @@
-use Rattle.std.proofs.Common.{◌≡◌, true, false, ◌∙◌, ap, refl, sym}
+use Rattle.std.proofs.Common.{◌≡◌, ◌<◌, ◌^◌, arith, true, false, ◌∙◌, ap, refl, sym}
 use Rattle.cm_history.specs.declared.act.Act.{Act}
 use Rattle.cm_history.specs.Operations.{OfCopy}
 use Rattle.cm_history.specs.History.{past_of}
 use Rattle.copy_jobs.specs.Jobs as jobs
-use Rattle.unit_core.specs.inner.Tables.{key_of, jobs_of}
+use Rattle.unit_core.specs.Keys.{key_of}
+use Rattle.unit_core.specs.inner.Tables.{jobs_of}
 use Rattle.unit_core.proofs.Jobs.{busy-is, crowded-is}
 use Rattle.unit_core.proofs.Asking.{asker}
 use Rattle.unit_core.proofs.Planned.{own-of}
@@ -42,5 +43,6 @@ returns g c = λ h a.
     let told = c.runs.ensures.busy ∙ ap (λ k. jobs.is_busy k u.tables.jobs) c.copy_key-key.ensures ∙ ap (jobs.is_busy (key_of c.args.actor OfCopy c.args.id)) a.jobs
     ∙ busy-is u.config u.unit past c.args.actor OfCopy c.args.id known.is (own-of u.config u.unit past known) mine in
     let few : jobs.is_crowded (jobs_of past) ≡ false = sym (c.is_crowded.ensures ∙ ap jobs.is_crowded a.jobs) ∙ c.if-is_crowded.false in
+    let byte : c.args.id < 2 ^ 8 = omega arith in
     rw (c.of_jobs.ensures, c.copy_key-key.ensures)
-    (λ at. open-made u.config u.unit past c.args.actor at c.args.id known mine (sym told ∙ c.if-runs.false) (sym (crowded-is u.config u.unit past known.is) ∙ few))
+    (λ at. open-made u.config u.unit past c.args.actor at c.args.id known mine byte (sym told ∙ c.if-runs.false) (sym (crowded-is u.config u.unit past known.is) ∙ few))

@@ -11,7 +11,8 @@ use Rattle.cm_history.specs.Tokens.{tokens}
 use Rattle.cm_history.specs.Operations.{OfToken}
 use Rattle.cm_history.specs.History.{past_of}
 use Rattle.copy_jobs.specs.Jobs as jobs
-use Rattle.unit_core.specs.inner.Tables.{key_of, kept_of}
+use Rattle.unit_core.specs.Keys.{key_of}
+use Rattle.unit_core.specs.inner.Tables.{kept_of}
 use Rattle.rod_store.specs.Kept.{kept_with}
 use Rattle.token_pins.specs.Pinning.{rod_shown}
 use Rattle.unit_core.proofs.Jobs.{busy-is}

@@ -8,7 +8,7 @@ use Rattle.copy_jobs.specs.declared.key.Key.{Key}
 use Rattle.copy_jobs.specs.declared.job.Job.{Job}
 use Rattle.copy_jobs.specs.Jobs as jobs
 use Rattle.copy_jobs.specs.Reports as reports
-use Rattle.unit_core.specs.inner.Tables.{key_of}
+use Rattle.unit_core.specs.Keys.{key_of}
 use Rattle.unit_core.proofs.Asking.{asker}
 use Rattle.unit_core.proofs.Steps.{known-of}
 use Rattle.unit_core.proofs.TableAnswers.{report-plan, report-none}

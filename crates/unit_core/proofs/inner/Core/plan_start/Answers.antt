@@ -7,7 +7,8 @@ use Rattle.cm_history.specs.declared.act.Act.{Act}
 use Rattle.cm_history.specs.Operations.{OfToken}
 use Rattle.cm_history.specs.History.{past_of}
 use Rattle.copy_jobs.specs.Jobs as jobs
-use Rattle.unit_core.specs.inner.Tables.{key_of, jobs_of}
+use Rattle.unit_core.specs.Keys.{key_of}
+use Rattle.unit_core.specs.inner.Tables.{jobs_of}
 use Rattle.unit_core.proofs.Jobs.{busy-is, crowded-is}
 use Rattle.unit_core.proofs.Asking.{asker}
 use Rattle.unit_core.proofs.Planned.{own-of}

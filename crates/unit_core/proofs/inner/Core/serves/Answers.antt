@@ -11,7 +11,7 @@ use Rattle.cm_history.specs.History.{past_of}
 use Rattle.cm_history.proofs.PublicLaws.{find-none}
 use Rattle.copy_jobs.specs.Pieces.{is_next, runs_in_background}
 use Rattle.copy_jobs.specs.Jobs.{is_busy}
-use Rattle.unit_core.specs.inner.Tables.{key_of}
+use Rattle.unit_core.specs.Keys.{key_of}
 use Rattle.unit_core.proofs.Asking.{asker, serves-advance, serves-pump, serves-abort, serves-close}
 use Rattle.unit_core.proofs.Steps.{known-of}
 use Rattle.unit_core.proofs.inner.Core.serves.Goals as goal

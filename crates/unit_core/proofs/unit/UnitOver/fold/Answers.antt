@@ -3,7 +3,8 @@ use Rattle.std.specs.Prelude.{is_some, max}
 use Rattle.cm_base.specs.Units.{unit_of}
 use Rattle.cm_history.specs.Folding.{StandsFor}
 use Rattle.cm_history.specs.History.{past_of}
-use Rattle.unit_core.specs.UnitState.{UnitState, Stands, answers_as, shared_by}
+use Rattle.unit_core.specs.UnitState.{UnitState, Stands, shared_by}
+use Rattle.unit_core.proofs.AnswersAs.{answers_as}
 use Rattle.unit_core.specs.Versions.{shares_table}
 use Rattle.unit_core.specs.inner.Seen.{shares_shown}
 use Rattle.unit_core.specs.inner.Agreeing.{TablesAgree}

@@ -3,7 +3,8 @@ use Rattle.std.specs.Prelude.{is_some, max}
 use Rattle.cm_base.specs.Units.{unit_of}
 use Rattle.cm_history.specs.Folding.{StandsFor}
 use Rattle.cm_history.specs.History.{past_of}
-use Rattle.unit_core.specs.UnitState.{Stands, answers_as}
+use Rattle.unit_core.specs.UnitState.{Stands}
+use Rattle.unit_core.proofs.AnswersAs.{answers_as}
 use Rattle.unit_core.specs.inner.Agreeing.{TablesAgree}
 use Rattle.unit_core.specs.inner.Shown.{image_shown}
 use Rattle.unit_core.proofs.Standing.{stands-own}
@@ -18,7 +19,8 @@ use Rattle.copy_jobs.specs.declared.key.Key.{Key}
 use Rattle.copy_jobs.specs.Jobs as jobs
 use Rattle.unit_core.specs.UnitState.{UnitState}
 use Rattle.unit_core.specs.Acting.{is_busy_at}
-use Rattle.unit_core.specs.inner.Tables.{key_of, jobs_of}
+use Rattle.unit_core.specs.Keys.{key_of}
+use Rattle.unit_core.specs.inner.Tables.{jobs_of}
 use Rattle.unit_core.proofs.Jobs.{IsNexus, busy-is}
 use Rattle.unit_core.proofs.Pumping.{pump-idle}
 use Rattle.unit_core.proofs.Planned.{IsKnown, own-of}

@@ -1,0 +1,13 @@
+use Rattle.std.proofs.Common.{◌≡◌, ◌-◌, ◌++◌, List, length}
+use Rattle.std.specs.Prelude.{ℕ}
+use Rattle.std.specs.Io.KnownBytes.{Consumes}
+use Rattle.odx_host.proofs.stream_port.front_job.Given as goal
+
+abbrev pub invariant-pulls : goal.invariant-pulls
+invariant-pulls g l = record {
+  pulled : (pulled : List ℕ) × Consumes (g.S.Source.left l.initial.source) (g.S.Source.left l.source) pulled × (l.input ≡ l.initial.input ++ pulled);
+  reads : g.S.Source.read_faults l.source ≡ g.S.Source.read_faults l.initial.source;
+}
+
+abbrev pub decreases-pulls : goal.decreases-pulls
+decreases-pulls g l = 1_572_881 - length l.input

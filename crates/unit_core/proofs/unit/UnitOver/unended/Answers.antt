@@ -1,0 +1,28 @@
+use Rattle.std.proofs.Common.{◌∙◌, ◌+◌, length, ap, sym}
+use Rattle.cm_history.specs.Folding.{StandsFor}
+use Rattle.cm_history.specs.History.{past_of}
+use Rattle.cm_history.specs.Image.{Image}
+use Rattle.cm_history.proofs.PublicLaws.{past-is}
+use Rattle.copy_jobs.specs.Unended.{unended}
+use Rattle.token_pins.specs.Pinning.{rods_of}
+use Rattle.unit_core.proofs.AnswersAs.{answers_as}
+use Rattle.unit_core.specs.inner.Agreeing.{TablesAgree}
+use Rattle.unit_core.specs.inner.Shown.{image_shown}
+use Rattle.unit_core.proofs.Standing.{stands-own}
+use Rattle.unit_core.proofs.Unended.{unended-alike}
+use Rattle.unit_core.proofs.unit.UnitOver.unended.Goals as goal
+
+pub returns-clause-unended : goal.returns-clause-unended
+returns-clause-unended g c = λ h s.
+    let u = c.self.inside in
+    let o = u.core in
+    let w = c.self.invariant.0 in
+    let t : TablesAgree o.config o.unit (g.B.Blocks.blocks o.tables.blocks) (g.B.Blocks.block_length o.tables.blocks) (g.B.Blocks.holds o.tables.blocks) (rods_of g.B.Pins.number (g.B.Blocks.block_length o.tables.blocks) (g.B.Blocks.shown o.tables.blocks) o.tables.tokens) o.tables.jobs o.last_stamp o.moment w = c.self.invariant.1 in
+    let r = c.self.invariant.2 in
+    let own = stands-own o.config o.unit u.history.entries u.folded u.history.spare u.payload (g.B.Blocks.blocks o.tables.blocks) (g.B.Blocks.block_length o.tables.blocks) (g.B.Blocks.holds o.tables.blocks) (rods_of g.B.Pins.number (g.B.Blocks.block_length o.tables.blocks) (g.B.Blocks.shown o.tables.blocks) o.tables.tokens) o.tables.jobs o.last_stamp o.moment w t r in
+    let shown = image_shown o.moment o.last_stamp (u.folded + length u.history.entries) (g.B.Blocks.blocks o.tables.blocks) (g.B.Blocks.holds o.tables.blocks) (rods_of g.B.Pins.number (g.B.Blocks.block_length o.tables.blocks) (g.B.Blocks.shown o.tables.blocks) o.tables.tokens).tokens o.tables.jobs in
+    let stood : StandsFor o.config o.unit shown u.history.entries u.folded h = rw (← c.self.view_is) at (answers_as c.args.self.now h s) in
+    let past = past_of o.config o.unit w in
+    let other = past_of o.config o.unit h in
+    rw (← c.self.view_is) (c.unended.ensures.unended ∙ ap unended t.jobs
+    ∙ unended-alike o.config o.unit past other (past-is o.config o.unit w) (past-is o.config o.unit h) (ap (λ (i : Image). i.kept) (own.image ∙ sym stood.image)))
