@@ -14,8 +14,8 @@ With --connect HOST:PORT in its place the commands go to a program that serves, 
 are known to the connection that began them. Numbers are decimal, or hexadecimal as in 0x1f or 1fh.
 
 The exit status is that of sg3_utils: 0 all was done, 5 illegal request, 7 data protect, 9 unknown operation code,
-10 copy aborted, 15 a file or the program failed, 20 no sense, 22 LBA out of range, 26 busy, 27 task set full,
-98 another sense. Wrong words are 2, which no disk of copymgr answers as it is always ready.
+10 copy aborted, 15 a file or the program failed, 20 no sense, 22 LBA out of range, 24 reservation conflict,
+26 busy, 27 task set full, 98 another sense. Wrong words are 2, which no disk of copymgr answers as it is always ready.
 """
 
 import bisect
@@ -27,7 +27,7 @@ import sys
 
 from . import plans
 from .disk import Disk
-from .errors import Busy, CheckCondition, Ended, OperationEnded, TaskSetFull
+from .errors import Busy, CheckCondition, Ended, OperationEnded, ReservationConflict, TaskSetFull
 from .hosts import Connection, Replay, Shape
 from .wire import frames, lists, senses
 
@@ -47,7 +47,7 @@ STATUS_OF_SENSE = {senses.UNKNOWN_OPERATION: 9, senses.OUT_OF_RANGE: 22}
 def exit_status(error):
     if isinstance(error, CheckCondition):
         return STATUS_OF_SENSE.get(error.sense, STATUS_OF_KEY.get(error.key, 98))
-    return {Busy: 26, TaskSetFull: 27, OperationEnded: 10}.get(type(error), FILE_ERROR)
+    return {Busy: 26, ReservationConflict: 24, TaskSetFull: 27, OperationEnded: 10}.get(type(error), FILE_ERROR)
 
 
 # ---- words
