@@ -22,6 +22,7 @@ use Rattle.cm_history.proofs.PublicLaws.{map-same, past-is}
 use Rattle.rod_store.specs.declared.kept.Kept.{Kept}
 use Rattle.rod_store.specs.Store.{Store}
 use Rattle.copy_jobs.specs.declared.job.Job.{Job}
+use Rattle.pr_keys.specs.Reservations.{Reservations}
 use Rattle.unit_core.specs.inner.Agreeing.{TablesAgree, RecordAgrees}
 use Rattle.unit_core.specs.inner.Shown.{token_shown, job_shown, image_shown}
 use Rattle.unit_core.specs.inner.Tables.{tokens_of, jobs_of}
@@ -35,17 +36,17 @@ map-row n lba (suc count) f g same within =
     ∙ ap (λ l. g lba ∷ l) (map-row n (suc lba) count f g same (omega (arith, within)))
 
 -- tables that hold the same show the same
-pub shown-same : (now stamp entries blocks blocks' : ℕ) (holds holds' : ℕ → Held) (tokens tokens' : List (Kept HeldBlocks)) (jobs jobs' : List Job)
-    → blocks' ≡ blocks → ((b : ℕ) → holds' b ≡ holds b) → tokens' ≡ tokens → jobs' ≡ jobs
-    → image_shown now stamp entries blocks' holds' tokens' jobs' ≡ image_shown now stamp entries blocks holds tokens jobs
-shown-same now stamp entries blocks blocks' holds holds' tokens tokens' jobs jobs' count same token job =
+pub shown-same : (now stamp entries blocks blocks' : ℕ) (holds holds' : ℕ → Held) (tokens tokens' : List (Kept HeldBlocks)) (jobs jobs' : List Job) (reservations reservations' : Reservations)
+    → blocks' ≡ blocks → ((b : ℕ) → holds' b ≡ holds b) → tokens' ≡ tokens → jobs' ≡ jobs → reservations' ≡ reservations
+    → image_shown now stamp entries blocks' holds' tokens' jobs' reservations' ≡ image_shown now stamp entries blocks holds tokens jobs reservations
+shown-same now stamp entries blocks blocks' holds holds' tokens tokens' jobs jobs' reservations reservations' count same token job reserved =
     let put : map holds' (row 0 blocks) ≡ map holds (row 0 blocks) = map-same holds' holds (row 0 blocks) (λ b i. same b) in
-    rw (count, token, job, put) refl
+    rw (count, token, job, reserved, put) refl
 
-pub stands-own : (config : Configuration) (unit : ℕ) (kept : List Entry) (folded spare own_payload blocks size : ℕ) (holds : ℕ → Held) (tokens : Store HeldBlocks) (jobs : List Job) (stamp now : ℕ) (whole : List Entry)
-    → TablesAgree config unit blocks size holds tokens jobs stamp now whole → RecordAgrees config unit kept folded spare own_payload whole
-    → StandsFor config unit (image_shown now stamp (folded + length kept) blocks holds tokens.tokens jobs) kept folded whole
-stands-own config unit kept folded spare own_payload blocks size holds tokens jobs stamp now whole t r =
+pub stands-own : (config : Configuration) (unit : ℕ) (kept : List Entry) (folded spare own_payload blocks size : ℕ) (holds : ℕ → Held) (tokens : Store HeldBlocks) (jobs : List Job) (reservations : Reservations) (stamp now : ℕ) (whole : List Entry)
+    → TablesAgree config unit blocks size holds tokens jobs reservations stamp now whole → RecordAgrees config unit kept folded spare own_payload whole
+    → StandsFor config unit (image_shown now stamp (folded + length kept) blocks holds tokens.tokens jobs reservations) kept folded whole
+stands-own config unit kept folded spare own_payload blocks size holds tokens jobs reservations stamp now whole t r =
     let u = unit_of config unit in
     let past = past_of config unit whole in
     let long : length kept ≡ length whole - folded = ap length (sym r.keeps) ∙ length-drop folded whole in
@@ -56,7 +57,7 @@ stands-own config unit kept folded spare own_payload blocks size holds tokens jo
     record {
       own = t.record_is.own;
       asked = t.record_is.asked;
-      image = image-shown config unit past (past-is config unit whole) t.record_is.asked ∙ rw (t.moment, t.stamp, ← count, put, t.tokens.tokens, t.jobs) refl;
+      image = image-shown config unit past (past-is config unit whole) t.record_is.asked ∙ rw (t.moment, t.stamp, ← count, put, t.tokens.tokens, t.jobs, t.reservations) refl;
       keeps = r.keeps;
       few = r.few;
     }
