@@ -211,6 +211,7 @@ impl Write {
                 OpState::Running => self.running(left),
             },
             Answer::Refused(sense) => CommandOf::Ended(Ended::Refused(sense)),
+            Answer::Conflict => CommandOf::Ended(Ended::Conflict),
             _ => unreachable!(),
         }
     }
@@ -228,6 +229,7 @@ impl Write {
         }
         match answer {
             Answer::Refused(sense) => CommandOf::Ended(Ended::Refused(sense)),
+            Answer::Conflict => CommandOf::Ended(Ended::Conflict),
             _ => self.deleting(),
         }
     }

@@ -179,6 +179,7 @@ fn a_write_ends_as_it_must(rt: HostRuntime) -> Result<(), Fail> {
     };
     let ends = [
         (Came::Refused(Sense::new(0x07, 0x27, 0x07)), over_quota),
+        (Came::Conflict, Seen::Conflict),
         (Came::Full, Seen::Full),
         (Came::NoMemory, Seen::Busy),
     ];

@@ -205,6 +205,22 @@ fn an_operation_is_ended_once(rt: HostRuntime) -> Result<(), Fail> {
     Ok(())
 }
 
+/// A reservation bars the start of a write, in the foreground or behind the command.
+#[test]
+fn a_reservation_bars_a_write(rt: HostRuntime) -> Result<(), Fail> {
+    for immed in [0, 1] {
+        let start = Seen::Start {
+            background: immed == 1,
+            blocks: 2000,
+            mapped: false,
+        };
+        let out = write_list(rt.alloc(), immed, 0, &zero())?;
+        let script = [(start, Came::Conflict)];
+        assert!(rt; plays(rt.alloc(), encode(&WRITE), out, &script, Seen::Conflict)?, "{immed}");
+    }
+    Ok(())
+}
+
 /// An operation that was terminated by another command.
 #[test]
 fn an_operation_that_is_stopped_is_refused(rt: HostRuntime) -> Result<(), Fail> {
