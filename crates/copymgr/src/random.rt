@@ -190,7 +190,6 @@ fn reply(alloc: Global, replies: &mut Bytes, initiator: u32, answer: &Answer) ->
             replies.extend(&[0x02, 0x12, 0, 0, 0, 0])?;
             replies.extend(&sense.to_bytes())?;
         }
-        Answer::Conflict => replies.extend(&[0x18, 0x00, 0, 0, 0, 0])?,
         _ => replies.extend(&[0x00, 0x00, 0, 0, 0, 0])?,
     }
     Ok(())
