@@ -1,7 +1,9 @@
 -- The persistent reservations of a unit
 use Rattle.std.specs.Prelude.{ℕ, List, [], ◌∷◌, Option, Some, None, Result, Ok, Err, Bool, true, false}
 use Rattle.pr_keys.specs.Reservations.{Reservations, unreserved, keys_of, holder_of, is_barred}
-use Rattle.pr_keys.specs.Actions.{Refusal, Conflict, Refused, applied}
+use Rattle.pr_keys.specs.declared.refused.Refusal.{Refusal}
+use Rattle.pr_keys.specs.declared.refused.Refusal.TheVariants.{Conflict, Refused}
+use Rattle.pr_keys.specs.Actions.{applied}
 use Rattle.cm_history.specs.declared.act.Act.{Act}
 use Rattle.cm_history.specs.declared.act.Actor.{Actor}
 use Rattle.cm_history.specs.declared.act.Actor.TheVariants.{Nexus, Pump}

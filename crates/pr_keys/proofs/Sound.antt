@@ -14,7 +14,8 @@ use Rattle.pr_keys.specs.declared.registrants.Registrant.{Registrant}
 use Rattle.pr_keys.specs.declared.state.Reservation.{Reservation}
 use Rattle.pr_keys.specs.Types.{type_code}
 use Rattle.pr_keys.specs.Reservations.{Reservations, unreserved, key_of, is_registered, is_held_by}
-use Rattle.pr_keys.specs.Actions.{Conflict, Refused, most_registrants, is_known, asked_type, next, rekey, is_other, stays, without, rekeyed, with_registrant, registered, is_free_for, reserved, released_from, released, cleared, held_by_key, preempted_by, preempted, done_as}
+use Rattle.pr_keys.specs.declared.refused.Refusal.TheVariants.{Conflict, Refused}
+use Rattle.pr_keys.specs.Actions.{most_registrants, is_known, asked_type, next, rekey, is_other, stays, without, rekeyed, with_registrant, registered, is_free_for, reserved, released_from, released, cleared, held_by_key, preempted_by, preempted, done_as}
 use Rattle.pr_keys.specs.Sound.{AreSound, SoundLaw}
 use Rattle.pr_keys.proofs.Registered.{few-filter, all-filter, apart-filter, still-filter, found-nexus, some-rekey, apart-rekey, keyed-rekey, some-push, apart-push, keyed-push}
 

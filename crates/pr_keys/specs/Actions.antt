@@ -2,22 +2,18 @@
 use Rattle.std.specs.Prelude.{◌≡◌, ℕ, ◌+◌, ◌%◌, ◌^◌, ◌<◌, List, [], ◌∷◌, ◌++◌, map, filter, length, Option, Some, None, unwrap_or, Result, Ok, Err, IsOkAnd, Bool, true, false, not, ◌==◌, ◌&&◌, ◌||◌, nat_le, if◌then◌else◌}
 use Rattle.std.specs.Option.{option_map_or}
 use Rattle.std.specs.List.{list_any}
-use Rattle.scsi_sense.specs.SenseCode.{SenseCode}
 use Rattle.scsi_sense.specs.Codes.{invalid_field_in_cdb, invalid_field_in_parameter_list, insufficient_resources}
 use Rattle.cm_base.specs.declared.reservations.ReservationAction.{ReservationAction}
 use Rattle.cm_base.specs.declared.reservations.ReservationAction.TheVariants.{Register, Reserve, Release, Clear, Preempt, RegisterAndIgnoreExistingKey}
 use Rattle.pr_keys.specs.declared.kind.ReservationType.{ReservationType}
 use Rattle.pr_keys.specs.declared.refused.PrRefused.{PrRefused}
+use Rattle.pr_keys.specs.declared.refused.Refusal.{Refusal}
+use Rattle.pr_keys.specs.declared.refused.Refusal.TheVariants.{Conflict, Refused}
 use Rattle.pr_keys.specs.declared.registrants.Registrant.{Registrant}
 use Rattle.pr_keys.specs.declared.state.Reservation.{Reservation}
 use Rattle.cm_base.specs.ReservationActions.{action_of}
 use Rattle.pr_keys.specs.Types.{type_of, type_code}
 use Rattle.pr_keys.specs.Reservations.{Reservations, key_of, is_registered, is_held_by}
-
--- RESERVATION CONFLICT, or a sense
-pub data Refusal : Type 0 where
-  Conflict : Refusal
-  Refused : SenseCode → Refusal
 
 -- so many nexuses are registered at most
 abbrev pub most_registrants : ℕ

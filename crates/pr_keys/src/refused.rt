@@ -6,6 +6,15 @@ use scsi_sense::Sense;
 use std::error::Error;
 use std::fmt;
 
+/// How something is refused.
+#[derive(Debug, Drop, Clone, Copy, PartialEq, Eq)]
+pub enum Refusal {
+    /// RESERVATION CONFLICT: a registration or the reservation stands against it.
+    Conflict,
+    /// CHECK CONDITION, with this sense.
+    Refused(Sense),
+}
+
 /// Why an action was not done.
 #[derive(Debug, Drop, Clone, Copy)]
 pub enum PrRefused {

@@ -1,6 +1,8 @@
 use crate::rows::{ASKED, ROWS, Row};
-use crate::{PrRefused, PrState, sound_law};
-use cm_base::{Bytes, Holder};
+use crate::{
+    OutList, PrRefused, PrState, holder_data, keys_data, read_out_list, sound_law, write_out_list,
+};
+use cm_base::{Bytes, Holder, KeyList};
 use scsi_sense::Sense;
 use std::alloc::Global;
 use std::test::Fail;
@@ -158,6 +160,38 @@ fn sixty_four_nexuses_register(rt: HostRuntime) -> Result<(), Fail> {
     unit.apply(0, 0x03, 0, 0, 1, 0)?;
     assert!(rt; unit.keys()?.is_empty());
     register(&mut unit, 64)?;
+    Ok(())
+}
+
+/// The list and the data as they were worked out by hand from SPC-4.
+#[test]
+fn lists_and_data_of_the_standard(rt: HostRuntime) -> Result<(), Fail> {
+    let list = OutList {
+        key: 0x1234,
+        action_key: 0x5678,
+    };
+    let spelled = [
+        0, 0, 0, 0, 0, 0, 0x12, 0x34, 0, 0, 0, 0, 0, 0, 0x56, 0x78, 0, 0, 0, 0, 0, 0, 0, 0,
+    ];
+    assert_eq!(rt; write_out_list(list), spelled);
+    assert_eq!(rt; read_out_list(&spelled), Ok(list));
+    let cut = read_out_list(&spelled[..23]);
+    assert_eq!(rt; cut, Err(Sense::parameter_list_length_error()));
+    let keys = KeyList::copy(rt.alloc(), &[0x1234])?;
+    let data = keys_data(rt.alloc(), 1, &keys)?;
+    let wanted = [0, 0, 0, 1, 0, 0, 0, 8, 0, 0, 0, 0, 0, 0, 0x12, 0x34];
+    assert_eq!(rt; data.as_slice(), wanted.as_slice());
+    let held = Holder {
+        key: 0x1234,
+        kind: 1,
+    };
+    let data = holder_data(rt.alloc(), 1, Some(held))?;
+    let wanted = [
+        0, 0, 0, 1, 0, 0, 0, 16, 0, 0, 0, 0, 0, 0, 0x12, 0x34, 0, 0, 0, 0, 0, 1, 0, 0,
+    ];
+    assert_eq!(rt; data.as_slice(), wanted.as_slice());
+    let data = holder_data(rt.alloc(), 2, None)?;
+    assert_eq!(rt; data.as_slice(), [0, 0, 0, 2, 0, 0, 0, 0].as_slice());
     Ok(())
 }
 
