@@ -5,6 +5,7 @@ Each function takes a `Base` and gives a request; before it is built, what it ne
 
 from replay import cdbs, lists, rod_token
 from replay.frames import Begin, Machine, Request, Run, Shape
+from replay.reservations import KINDS, REGISTER_AND_IGNORE
 
 INITIATOR = 7
 ENTRIES, PAYLOAD = 1_048_576, 268_435_456
@@ -119,6 +120,14 @@ class Base:
         out = lists.copy_bytes(self.list_id(), cscds, segments, self.rng.choice([0, 2, 3]))
         return self.with_list(self.unit(), 0x83, 0x00, out)
 
+    def reserve(self, action):
+        """A service action of an initiator that is registered and may hold the unit."""
+        unit = self.unit()
+        register = lists.reserve_bytes(0, 7)
+        self.command(self.with_list(unit, cdbs.RESERVE_OUT, REGISTER_AND_IGNORE, register))
+        out = lists.reserve_bytes(7, self.rng.choice([7, 8]))
+        return self.with_list(unit, cdbs.RESERVE_OUT, action, out, kind=self.rng.choice(KINDS))
+
     def plain(self, code, action=None):
         """A command whose sole field may be a length, a page, an LBA or a list identifier."""
         names = cdbs.FORMS[code, action].fields
@@ -150,6 +159,9 @@ LISTS = {
 }
 BLOCKS = {f"{name} of {code:02x}h": lambda base, code=code: base.blocks_command(code)
           for code, name in ((0x28, "read"), (0x2A, "write"), (0x88, "read"), (0x8A, "write"))}
+RESERVATIONS = {form.name: lambda base, action=action: base.reserve(action)
+                for (code, action), form in cdbs.FORMS.items() if code == cdbs.RESERVE_OUT}
 PLAIN = {form.name: lambda base, key=key: base.plain(*key) for key, form in cdbs.FORMS.items()
-         if form.name not in ("read", "write", "unmap", "populate token", "write using token", "extended copy")}
-BASES = {**LISTS, **BLOCKS, **PLAIN}
+         if form.name not in ("read", "write", "unmap", "populate token", "write using token", "extended copy")
+         and form.name not in RESERVATIONS}
+BASES = {**LISTS, **BLOCKS, **RESERVATIONS, **PLAIN}

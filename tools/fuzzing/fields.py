@@ -1,6 +1,7 @@
 """Where fields stand, (first byte, how many bytes), and what values to try in one of so many bytes."""
 
 from replay import cdbs
+from replay.commands import ACTIONS
 
 # numbers that are limits, or one beside
 LIMITS = [
@@ -26,6 +27,7 @@ TOKEN = [
 UNMAP_FRONT = [(0, 2), (2, 2), (4, 4)]
 POPULATE_FRONT = [(0, 2), (2, 1), (3, 1), (4, 4), (8, 4), (12, 2), (14, 2)]
 WRITE_FRONT = [(0, 2), (2, 1), (3, 5), (8, 8)] + [(16 + at, size) for at, size in TOKEN] + [(528, 6), (534, 2)]
+RESERVE = [(0, 8), (8, 8), (16, 4), (20, 1), (21, 3)]
 COPY_FRONT = [(0, 1), (1, 1), (2, 2), (4, 4), (8, 4), (12, 4)]
 
 HEADER_FRONT = [(0, 8), (8, 32), (40, 2)]
@@ -49,7 +51,7 @@ def of_list(name, data):
     if name == "extended copy":
         middle = 16 + int.from_bytes(data[2:4], "big")
         return COPY_FRONT + repeated(*CSCD, 16, middle) + repeated(*SEGMENT, middle, len(data))
-    return []
+    return RESERVE if name in ACTIONS else []
 
 
 def of_cdb(code, action):

@@ -70,7 +70,9 @@ def kind_of(reply):
     """Its status, and of a refusal the sense."""
     if reply[0] == frames.CHECK:
         return "/".join(f"{part:02x}" for part in frames.sense_of(reply[6:]))
-    return {frames.GOOD: "GOOD", frames.FULL: "TASK SET FULL", BUSY: "BUSY"}.get(reply[0], f"{reply[0]:02x}h")
+    return {
+        frames.GOOD: "GOOD", frames.CONFLICT: "RESERVATION CONFLICT", frames.FULL: "TASK SET FULL", BUSY: "BUSY",
+    }.get(reply[0], f"{reply[0]:02x}h")
 
 
 def judge_statuses(results, replies):

@@ -20,6 +20,9 @@ Put = collections.namedtuple("Put", "lba blocks")
 Open = collections.namedtuple("Open", "id")
 Close = collections.namedtuple("Close", "id result")
 Recall = collections.namedtuple("Recall", "id")
+PrOut = collections.namedtuple("PrOut", "action scope kind key action_key")
+PrKeys = collections.namedtuple("PrKeys", "")
+PrHolder = collections.namedtuple("PrHolder", "")
 
 # the answer to Report; `serial` is that of a token which a POPULATE TOKEN made
 Told = collections.namedtuple("Told", "populate state sense count serial")

@@ -1,8 +1,9 @@
 """Each command as a program: a generator that yields (unit, act), is sent the answers, and returns its data.
 
 A refused act is raised at its yield as Refused, one for which the record has no room as RecordFull, and one for which
-memory is refused as NoMemory. A command that is refused raises Refused itself; one that gives up raises what it gave up
-for, behind its last question where it has one.
+memory is refused as NoMemory. A reservation that stands against an act is raised as Conflict. A command that is refused
+raises Refused or Conflict itself; one that gives up raises what it gave up for, behind its last question where it has
+one.
 """
 
 import collections
@@ -11,11 +12,12 @@ from . import acts, cdbs, lists, rod_token, told
 from .frames import sense_bytes
 from .senses import (
     BAD_CDB, BAD_LIST, BAD_LIST_LENGTH, COPY_ABORTED, COPY_OUT_OF_RANGE, DEVICE_TYPE, NOT_REACHABLE, NO_SENSE,
-    NO_SUCH_UNIT, TOKEN_LENGTH, TOKEN_TYPE, TOKEN_UNKNOWN, NoMemory, RecordFull, Refused, refuse_if,
+    NO_SUCH_UNIT, TOKEN_LENGTH, TOKEN_TYPE, TOKEN_UNKNOWN, Conflict, NoMemory, RecordFull, Refused, refuse_if,
 )
 
 COPY_BYTES_LIMIT = 536_870_912
-LISTS = ("unmap", "extended copy", "populate token", "write using token")
+ACTIONS = ("register", "register and ignore", "reserve", "release", "clear", "preempt")
+LISTS = ("unmap", "extended copy", "populate token", "write using token") + ACTIONS
 
 # a request that was not refused before its list is read, and the shape of its unit
 Asked = collections.namedtuple("Asked", "machine unit shape cdb out")
@@ -122,6 +124,26 @@ def receive_rod_token_information(asked):
     return told.operation_bytes(report, told.token_part(token))[: asked.cdb.length]
 
 
+# ---- reservations
+
+
+def read_keys(asked):
+    generation, keys = yield asked.unit, acts.PrKeys()
+    return told.keys(generation, keys)[: asked.cdb.length]
+
+
+def read_reservation(asked):
+    generation, held = yield asked.unit, acts.PrHolder()
+    return told.reservation(generation, held)[: asked.cdb.length]
+
+
+def persistent_reserve_out(asked):
+    cdb = asked.cdb
+    key, action_key = lists.read_reserve(asked.out)
+    yield asked.unit, acts.PrOut(cdb.action, cdb.scope, cdb.kind, key, action_key)
+    return b""
+
+
 # ---- WRITE USING TOKEN
 
 
@@ -207,14 +229,14 @@ class Copying:
         self.bytes = 0
 
     def program(self):
-        """The segments in order, up to one that is refused; it returns the sense, if one is."""
+        """The segments in order, up to one that is refused; it returns the refusal, if one is."""
         try:
             for segment in self.segments:
                 if segment.count:
                     yield from self.copy(segment)
                 self.done += 1
-        except Refused as refused:
-            return refused.sense
+        except (Refused, Conflict) as refusal:
+            return refusal
         return None
 
     def copy(self, segment):
@@ -244,8 +266,10 @@ def extended_copy(asked):
         if keeps:
             yield from last_question(asked.unit, copying.close(wanted.id, told.TERMINATED))
         raise
+    if isinstance(refusal, Refused):
+        raise Refused((COPY_ABORTED[0],) + refusal.sense[1:])
     if refusal:
-        raise Refused((COPY_ABORTED[0],) + refusal[1:])
+        raise refusal
     return b""
 
 
@@ -261,4 +285,7 @@ PROGRAMS = {
     "receive copy status 1": receive_copy_status_1,
     "receive copy status 4": receive_copy_status_4,
     "receive rod token information": receive_rod_token_information,
+    "read keys": read_keys,
+    "read reservation": read_reservation,
+    **dict.fromkeys(ACTIONS, persistent_reserve_out),
 }

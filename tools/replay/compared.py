@@ -29,6 +29,8 @@ def kind_of(name, reply):
         return f"{reply[8]:02x}/{reply[18]:02x}/{reply[19]:02x}"
     if reply[0] == frames.FULL:
         return "full"
+    if reply[0] == frames.CONFLICT:
+        return "conflict"
     if name.startswith("receive") and "parameters" not in name and len(reply) > 11:
         return f"good with {reply[10 if name.endswith('1') else 11]:02x}h"
     return "good"

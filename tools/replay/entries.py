@@ -6,7 +6,7 @@ import struct
 
 from . import told
 from .player import PUMP
-from .senses import Refused
+from .senses import Conflict, Refused
 from .unit import Unit
 
 Entry = collections.namedtuple("Entry", "stamp unit block_length actor seq moment act")
@@ -67,6 +67,9 @@ FIELDS = {
     "Open": (0x10, numbers(">B")),
     "Close": (0x11, close_text),
     "Recall": (0x12, numbers(">B")),
+    "PrOut": (0x13, numbers(">BBBQQ")),
+    "PrKeys": (0x14, numbers("")),
+    "PrHolder": (0x15, numbers("")),
 }
 
 
@@ -104,7 +107,7 @@ class NotedUnit(Unit):
     def act(self, actor, moment, act):
         try:
             answer = super().act(actor, moment, act)
-        except Refused:
+        except (Refused, Conflict):
             self.note(actor, moment, act)
             raise
         self.note(actor, moment, act)

@@ -5,7 +5,7 @@ import struct
 
 from .senses import BadInput
 
-GOOD, CHECK, BUSY, FULL = 0x00, 0x02, 0x08, 0x28
+GOOD, CHECK, BUSY, CONFLICT, FULL = 0x00, 0x02, 0x08, 0x18, 0x28
 DONE, TORN, BAD_HEADER, BAD_RECORD = 0, 4, 5, 7
 BEGIN, RUN, PUMP = 1, 2, 3
 DATA_LIMIT = 8_388_608
@@ -132,6 +132,10 @@ def check(sense):
 
 def busy():
     return struct.pack(">BBI", BUSY, 0, 0)
+
+
+def conflict():
+    return struct.pack(">BBI", CONFLICT, 0, 0)
 
 
 def full():

@@ -106,6 +106,19 @@ def write_bytes(token, ranges, offset=0, immed=0, delete=0):
     return front + token + struct.pack(">6xH", len(descriptors)) + descriptors
 
 
+# ---- PERSISTENT RESERVE OUT
+
+
+def read_reserve(data):
+    """The reservation key, and the service action reservation key."""
+    refuse_if(len(data) != 24, BAD_LIST_LENGTH)
+    return struct.unpack_from(">QQ", data)
+
+
+def reserve_bytes(key, action_key):
+    return struct.pack(">QQ8x", key, action_key)
+
+
 # ---- EXTENDED COPY (LID1)
 
 

@@ -8,7 +8,7 @@ import collections
 import struct
 
 from . import acts, cdbs, commands, frames
-from .senses import BadInput, NoMemory, RecordFull, Refused
+from .senses import BadInput, Conflict, NoMemory, RecordFull, Refused
 from .unit import Unit
 
 TEXTS = {
@@ -50,6 +50,8 @@ class Pending:
             self.reply = frames.good(end.value)
         except Refused as refused:
             self.reply = frames.check(refused.sense)
+        except Conflict:
+            self.reply = frames.conflict()
         except RecordFull:
             self.reply = frames.full()
         except NoMemory:
@@ -65,7 +67,7 @@ class Pending:
         number, act = self.asked
         try:
             answer = units[number].act(initiator, moment, act)
-        except (Refused, RecordFull) as outcome:
+        except (Refused, Conflict, RecordFull) as outcome:
             self.go_on(self.program.throw, outcome)
         else:
             self.go_on(self.program.send, answer)

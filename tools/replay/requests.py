@@ -5,6 +5,7 @@ import struct
 from . import cdbs, lists, rod_token
 from .acts import PIECE
 from .frames import Request
+from .reservations import ACTIONS, KINDS
 from .told import BACKGROUND, PAGES
 
 # where lengths and other small numbers stand in the lists
@@ -13,6 +14,7 @@ FIELDS = {
     (0x83, 0x00): [0, 2, 8, 10, 12, 14, 18, 46, 48],
     (0x83, 0x10): [0, 4, 6, 8, 14],
     (0x83, 0x11): [0, 8, 16, 22, 24, 534],
+    **{(cdbs.RESERVE_OUT, action): [0, 6, 8, 14] for action in ACTIONS},
 }
 LENGTHS = [0, 1, 15, 16, 17, 27, 28, 31, 32, 33, 512, 544, 1008, 1024, 1040, 1792, 1820, 0xFFFF]
 FIXED_CODES = [(0x00, None), (0x03, None), (0x12, None), (0x25, None), (0x84, 0x03), (0x9E, 0x10), (0xA0, None)]
@@ -249,6 +251,22 @@ class Requests:
         action = 0 if form == "copy" else self.rng.choice([5, 7, 7])
         return Request(unit, self.cdb(0x84, action, id=found, length=length), b"")
 
+    # ---- reservations
+
+    def reserve(self, initiator):
+        """A service action, mostly by the key under which the initiator is registered; or a look at what is reserved."""
+        unit = self.unit()
+        if self.chance(0.15):
+            action = self.rng.choice([cdbs.READ_KEYS, cdbs.READ_RESERVATION])
+            return Request(unit, self.cdb(cdbs.RESERVE_IN, action, length=self.allocation()), b"")
+        keys = self.player.units[unit].reservations.keys
+        key = keys.get(initiator, 0) if self.chance(0.9) else self.rng.randrange(4)
+        action_key = self.rng.choice([0, 1, 2, 3, *keys.values()])
+        kind = self.rng.choice(KINDS) if self.chance(0.95) else self.rng.randrange(16)
+        scope = int(self.chance(0.03))
+        out = lists.reserve_bytes(key, action_key)
+        return self.with_list(unit, cdbs.RESERVE_OUT, self.rng.choice(ACTIONS), out, scope=scope, kind=kind)
+
     # ---- extended copies
 
     def cscd(self, unit):
@@ -289,7 +307,7 @@ class Requests:
     def spoiled(self, request):
         unit, cdb, out = request
         ways = [self.other_unit, self.longer, self.flipped_cdb, self.other_control, self.unknown]
-        if out and cdb[0] in (0x42, 0x83):
+        if out and cdb[0] in (0x42, cdbs.RESERVE_OUT, 0x83):
             ways = [self.cut, self.flipped_list, self.flipped_front, self.other_fields, self.other_fields] * 3 + ways
         return self.rng.choice(ways)(unit, cdb, out)
 
@@ -324,7 +342,7 @@ class Requests:
     def cut(self, unit, cdb, out):
         """A list that ends early, or goes on, as its CDB says."""
         out = out[: self.rng.randint(0, len(out))] if self.chance(0.8) else out + bytes(self.rng.randint(1, 40))
-        at, size = (7, 2) if cdb[0] == 0x42 else (10, 4)
+        at, size = {0x42: (7, 2), cdbs.RESERVE_OUT: (5, 4)}.get(cdb[0], (10, 4))
         return Request(unit, cdb[:at] + len(out).to_bytes(size, "big") + cdb[at + size :], out)
 
     def other_control(self, unit, cdb, out):
@@ -334,4 +352,4 @@ class Requests:
         return Request(unit, cdb[:at] + bytes([cdb[at] | bit]) + cdb[at + 1 :], out)
 
     def unknown(self, unit, cdb, out):
-        return Request(unit, self.rng.choice([b"\xff", b"\x5f", bytes([self.rng.getrandbits(8)])]) + cdb[1:], out)
+        return Request(unit, self.rng.choice([b"\xff", b"\x5c", bytes([self.rng.getrandbits(8)])]) + cdb[1:], out)

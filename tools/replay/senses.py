@@ -74,6 +74,10 @@ class Refused(Exception):
         self.sense = sense
 
 
+class Conflict(Exception):
+    """A registration or a reservation stands against an act: RESERVATION CONFLICT."""
+
+
 class RecordFull(Exception):
     """The unit's record has no room for an act."""
 

@@ -55,6 +55,15 @@ def lba_status(runs):
     return struct.pack(">I4x", 4 + len(descriptors)) + descriptors
 
 
+def keys(generation, found):
+    return struct.pack(f">II{len(found)}Q", generation, 8 * len(found), *found)
+
+
+def reservation(generation, held):
+    """The key of the holder and the kind of its reservation, or none."""
+    return struct.pack(">II", generation, 0) if held is None else struct.pack(">IIQ5xB2x", generation, 16, *held)
+
+
 def operation_bytes(report, behind):
     """What is told of a token operation, with what stands behind its sense."""
     running = report.state == BACKGROUND

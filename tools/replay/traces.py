@@ -85,6 +85,9 @@ STYLES = {
         weights=dict(ALL, use=12), long=0.6, write=20, zero=0.4, immed=0.6, pump=0.03, items=(20, 100), spoil=0.01,
         timeouts=LONGER, shape=tight,
     ),
+    "reserved": MIXED._replace(
+        weights=dict(ALL, reserve=14), long=0.3, write=20, pump=0.1, items=(100, 400), spoil=0.03, shape=wide
+    ),
     "bytes": MIXED._replace(weights=dict(ALL, write=20), write=8, items=(20, 200), shape=light),
     "runs": MIXED._replace(
         weights=dict(ALL, write=60, status=8, unmap=1), write=2, items=(200, 900), spoil=0.01, shape=dotted
@@ -189,8 +192,11 @@ class Trace:
             self.command(LOOKER, Request(number, cdb, self.rng.randbytes(count * shape.block_length)))
 
     def look(self):
-        """What stands at the end: blocks, and operations that were asked for."""
+        """What stands at the end: reservations, blocks, and operations that were asked for."""
         for unit in self.player.units:
+            for action in (cdbs.READ_KEYS, cdbs.READ_RESERVATION):
+                cdb = cdbs.encode(cdbs.RESERVE_IN, action, length=1024)
+                self.command(LOOKER, Request(unit.number, cdb, b""))
             self.command(LOOKER, Request(unit.number, cdbs.encode(0x9E, 0x12, lba=0, length=2000), b""))
             for lba in self.rng.sample(sorted(unit.held), min(8, len(unit.held))):
                 count = min(unit.shape.blocks - lba, 60)

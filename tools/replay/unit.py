@@ -1,7 +1,11 @@
 """A unit: its blocks, its tokens, its operations, and what its record holds."""
 
 from . import rod_token
-from .acts import PIECE, Abort, Advance, Close, End, Open, Pump, Result, Start, Told, Write, pieces
+from .acts import (
+    PIECE, Abort, Advance, Capture, Close, End, MapStatus, Open, Populate, Pump, Put, Read, Result, Start, Told, Unmap,
+    Write, pieces,
+)
+from .reservations import Reservations, conflict_if
 from .senses import (
     BAD_CDB, IN_USE, OUT_OF_RANGE, OVER_QUOTA, TOKEN_CORRUPT, TOKEN_DELETED, TOKEN_EVICTED, TOKEN_EXPIRED,
     TOKEN_REMOTE, TOKEN_UNKNOWN, TOO_MANY, RecordFull, Refused, refuse_if,
@@ -14,6 +18,10 @@ KEPT_RECORDS = 256
 STATUS_RUNS = 64
 RUN_LIMIT = 2**32 - 1
 RUNNING = BACKGROUND
+# the acts that a reservation may bar, and whether they write
+BARRED = {
+    Read: False, Capture: False, MapStatus: False, Populate: False, Write: True, Unmap: True, Start: True, Put: True,
+}
 
 
 class Token:
@@ -56,6 +64,7 @@ class Unit:
         self.moment = 0
         self.tokens = []
         self.operations = []
+        self.reservations = Reservations()
         self.entries = 0
         # how many of them left the record, and what the Writes of the others hold
         self.folded = 0
@@ -72,6 +81,8 @@ class Unit:
         self.payload += self.length_of(act)
         self.moment = max(self.moment, moment)
         self.expire()
+        if type(act) in BARRED:
+            conflict_if(not self.reservations.may(actor, BARRED[type(act)]))
         if isinstance(act, (Advance, Pump, End, Abort, Close)):
             return self.serve(act, served)
         return getattr(self, "do_" + type(act).__name__.lower())(actor, act)
@@ -277,3 +288,14 @@ class Unit:
 
     def do_recall(self, actor, act):
         return self.kept((actor, "copy", act.id)).result
+
+    # ---- reservations
+
+    def do_prout(self, actor, act):
+        self.reservations.apply(actor, *act)
+
+    def do_prkeys(self, *_):
+        return self.reservations.generation, list(self.reservations.keys.values())
+
+    def do_prholder(self, *_):
+        return self.reservations.generation, self.reservations.holder()

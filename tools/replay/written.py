@@ -37,7 +37,8 @@ def blocks(data, at):
 PARTS = {
     "Read": [12], "Write": [8, blocks], "Unmap": [ranges], "MapStatus": [8], "Populate": [8, ranges], "Redeem": [514],
     "Delete": [8], "Start": [5, ranges, blocks], "Advance": [4], "Pump": [], "End": [4], "Abort": [4], "Report": [4],
-    "Capture": [12], "Put": [8, blocks], "Open": [1], "Close": [8], "Recall": [1],
+    "Capture": [12], "Put": [8, blocks], "Open": [1], "Close": [8], "Recall": [1], "PrOut": [19],
+    "PrKeys": [], "PrHolder": [],
 }
 
 

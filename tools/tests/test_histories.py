@@ -58,6 +58,10 @@ REQUESTS = [[WRITE, LOOK, POPULATE, WRITE], [READ, USE, LOOK]]
 ORDER = [0, 1, 0, 1, 0, "pump 0", 1, 1]
 
 
+# in traces of these styles is each act but an End
+STYLES_OF_ALL_ACTS = [*list(STYLES)[:4], "reserved"]
+
+
 class Recorded:
     """What units and connections leave that did these requests in this order."""
 
@@ -180,7 +184,7 @@ class Files(unittest.TestCase):
         seen = set()
         for number in range(12):
             with mock.patch.object(player, "Unit", entries.NotedUnit):
-                trace = Trace(random.Random(f"histories {number}"), list(STYLES)[number % 4])
+                trace = Trace(random.Random(f"histories {number}"), STYLES_OF_ALL_ACTS[number % 5])
             for unit in trace.player.units:
                 data = b"".join(map(entries.text, unit.record))
                 found = written.entries_of(data)

@@ -6,7 +6,7 @@ import subprocess
 
 from replay import acts, frames
 from replay.player import line_of, played_items
-from replay.senses import BadInput, RecordFull, Refused, sense_text
+from replay.senses import BadInput, Conflict, RecordFull, Refused, sense_text
 
 from .replies import INDENT, counted, records_of, reply_lines
 from .traces import bytes_of
@@ -109,6 +109,9 @@ class Watched:
         except Refused as refused:
             self.note(act, sense_text(refused.sense))
             raise
+        except Conflict:
+            self.note(act, "RESERVATION CONFLICT")
+            raise
         except RecordFull:
             self.note(act, "the record is full")
             raise
@@ -143,6 +146,11 @@ def answer_text(act, answer):
         return f"state {answer.state:02X}h, {counted(answer.segments, 'segment')}, {counted(answer.bytes, 'byte')}"
     if isinstance(act, acts.Pump) and answer is None:
         return "nothing to do"
+    if isinstance(act, acts.PrKeys):
+        return f"generation {answer[0]}, {counted(len(answer[1]), 'key')}"
+    if isinstance(act, acts.PrHolder):
+        held = f"key {answer[1][0]:x}h, type {answer[1][1]}h" if answer[1] else "no reservation"
+        return f"generation {answer[0]}, {held}"
     if isinstance(act, (acts.Start, acts.Advance, acts.Pump, acts.Report)):
         return f"state {answer.state:02X}h, {counted(answer.count, 'block')}"
     return "done"

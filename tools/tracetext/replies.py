@@ -7,10 +7,12 @@ from replay import frames
 from replay.frames import sense_of
 from replay.senses import sense_text
 
-from .returned import State, capacity_of, copy_status_of, operation_of, runs_of
+from .returned import State, capacity_of, copy_status_of, keys_of, operation_of, reservation_of, runs_of
 from .values import token_text
 
-STATUSES = {0x00: "GOOD", 0x02: "CHECK CONDITION", 0x08: "BUSY", 0x28: "TASK SET FULL"}
+STATUSES = {
+    0x00: "GOOD", 0x02: "CHECK CONDITION", 0x08: "BUSY", 0x18: "RESERVATION CONFLICT", 0x28: "TASK SET FULL",
+}
 OPERATIONS = {0x10: "POPULATE TOKEN", 0x11: "WRITE USING TOKEN"}
 STATES = {
     State.DONE: "completed without errors",
@@ -18,6 +20,12 @@ STATES = {
     State.IN_FOREGROUND: "in progress in foreground",
     State.IN_BACKGROUND: "in progress in background",
     State.TERMINATED: "terminated",
+}
+RESERVATIONS = {
+    1: "write exclusive",
+    3: "exclusive access",
+    5: "write exclusive, registrants only",
+    6: "exclusive access, registrants only",
 }
 COPY_STATUSES = {0x00: "in progress", 0x01: "done", 0x02: "failed or terminated"}
 TITLES = {
@@ -146,6 +154,21 @@ def sense_lines(data, _):
     return [sense_text(sense_of(data))] if len(data) == 18 else None
 
 
+def key_lines(data, _):
+    if len(data) < 8 or len(data) != 8 + int.from_bytes(data[4:8], "big"):
+        return None
+    generation, keys = keys_of(data)
+    return [f"generation: {generation}", "keys: " + (", ".join(f"{key:x}h" for key in keys) or "none")]
+
+
+def reservation_lines(data, _):
+    if len(data) not in (8, 24) or len(data) != 8 + int.from_bytes(data[4:8], "big"):
+        return None
+    generation, held = reservation_of(data)
+    told = f"key {held.key:x}h, {RESERVATIONS.get(held.type, 'another type')} ({held.type:x}h)" if held else "no reservation"
+    return [f"generation: {generation}", told]
+
+
 FIELDS = {
     "receive rod token information": operation_lines,
     "receive copy status 4": operation_lines,
@@ -155,6 +178,8 @@ FIELDS = {
     "read capacity 16": capacity_lines,
     "report luns": lun_lines,
     "request sense": sense_lines,
+    "read keys": key_lines,
+    "read reservation": reservation_lines,
 }
 
 

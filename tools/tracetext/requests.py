@@ -1,5 +1,6 @@
 """Requests as words."""
 
+import collections
 import struct
 
 from replay import cdbs, lists
@@ -11,7 +12,9 @@ from .words import Fault, Fields, Word
 
 ALLOCATION = 4096
 # fields that are written even where they are what is read in their absence
-ALWAYS = ("lba", "count", "id", "ranges", "segments")
+ALWAYS = ("lba", "count", "id", "ranges", "segments", "key")
+# a field that only a parameter list has
+OF_LISTS = ("ranges", "token", "segments", "key", "action_key")
 
 
 def word_of(form):
@@ -21,6 +24,17 @@ def word_of(form):
 
 
 COMMANDS = {word_of(form): key for key, form in cdbs.FORMS.items()}
+# a field of some bits: its name, what it is to the encoder, its byte, its lowest bit, and its most
+Bits = collections.namedtuple("Bits", "name field at shift most")
+EVPD = [Bits("evpd", "first", 1, 0, 1)]
+SCOPE_AND_TYPE = [Bits("scope", "scope", 2, 4, 15), Bits("type", "kind", 2, 0, 15)]
+
+
+def bits_of(command):
+    """The fields of some bits that the command has."""
+    if command == "inquiry":
+        return EVPD
+    return SCOPE_AND_TYPE if COMMANDS[command][0] == cdbs.RESERVE_OUT else []
 
 
 # ---- parameter lists: a reader of fields to bytes, and a writer of bytes to fields
@@ -91,11 +105,21 @@ def copy_fields(data, machine):
     return {"id": copy.id, "usage": copy.usage, **cscds, "segments": values.segments_text(copy.segments)}
 
 
+def reserve_of(fields, _):
+    return lists.reserve_bytes(fields.number("key", 0, values.U64), fields.number("action_key", 0, values.U64))
+
+
+def reserve_fields(data, _):
+    key, action_key = lists.read_reserve(data)
+    return {"key": f"0x{key:x}", "action_key": f"0x{action_key:x}" if action_key else ""}
+
+
 LISTS = {
     "unmap": (unmap_of, unmap_fields),
     "populate-token": (populate_of, populate_fields),
     "write-using-token": (write_of, write_fields),
     "extended-copy": (copy_of, copy_fields),
+    **{word_of(form): (reserve_of, reserve_fields) for (code, _), form in cdbs.FORMS.items() if code == cdbs.RESERVE_OUT},
 }
 
 
@@ -137,7 +161,7 @@ def request_of(command, fields, machine):
     unit = fields.number("lun", 0, values.U16)
     if command is None:
         return Request(unit, fields.take("cdb", cdb_of, bytes(16)), fields.take("data", values.data_of, b"", DATA_LIMIT))
-    if command in LISTS and "data" not in fields and any(name in fields for name in ("ranges", "token", "segments")):
+    if command in LISTS and "data" not in fields and any(name in fields for name in OF_LISTS):
         out = LISTS[command][0](fields, machine)
     else:
         out = fields.take("data", values.data_of, b"", DATA_LIMIT)
@@ -146,8 +170,8 @@ def request_of(command, fields, machine):
         name: fields.number(name, known.get(name, 0), 256**size - 1)
         for name, (_, size) in cdbs.FORMS[COMMANDS[command]].fields.items()
     }
-    first = fields.number("evpd", 0, 1) if command == "inquiry" else 0
-    return Request(unit, cdbs.encode(*COMMANDS[command], first=first, **numbers), out)
+    bits = {bit.field: fields.number(bit.name, 0, bit.most) for bit in bits_of(command)}
+    return Request(unit, cdbs.encode(*COMMANDS[command], **bits, **numbers), out)
 
 
 def named_words(request, machine):
@@ -158,15 +182,14 @@ def named_words(request, machine):
         return None
     command = word_of(form)
     numbers = {n: lists.number(request.cdb, at, size) for n, (at, size) in form.fields.items()}
-    first = request.cdb[1] & 1 if command == "inquiry" else 0
-    if cdbs.encode(*COMMANDS[command], first=first, **numbers) != request.cdb:
+    bits = {bit: request.cdb[bit.at] >> bit.shift & bit.most for bit in bits_of(command)}
+    if cdbs.encode(*COMMANDS[command], **{bit.field: value for bit, value in bits.items()}, **numbers) != request.cdb:
         return None
     known = defaults(command, request.out, request.unit, machine)
     words = {n: value for n, value in numbers.items() if (value != known[n] if n in known else n in ALWAYS or value)}
     if "page" in words:
         words["page"] = f"0x{words['page']:02x}"
-    if first:
-        words["evpd"] = 1
+    words |= {bit.name: value for bit, value in bits.items() if value}
     of_list = fields_of_list(command, request.out, machine) if command in LISTS and request.out else None
     if of_list is not None:
         words |= of_list

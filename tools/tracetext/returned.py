@@ -16,6 +16,10 @@ Operation = collections.namedtuple("Operation", "action state delay count sense 
 CopyStatus = collections.namedtuple("CopyStatus", "code segments bytes")
 
 
+# the key of the holder, and the type
+Reservation = collections.namedtuple("Reservation", "key type")
+
+
 class State(enum.IntEnum):
     """COPY OPERATION STATUS (SPC-4)."""
 
@@ -49,3 +53,14 @@ def operation_of(data):
 def copy_status_of(data):
     """Of RECEIVE COPY STATUS (LID1)."""
     return CopyStatus(*struct.unpack_from(">BHxI", data, 4))
+
+
+def keys_of(data):
+    """Of READ KEYS: the generation, and the keys that are there whole."""
+    return struct.unpack_from(">I", data)[0], [struct.unpack_from(">Q", data, at)[0] for at in range(8, len(data) - 7, 8)]
+
+
+def reservation_of(data):
+    """Of READ RESERVATION: the generation, and the reservation or None."""
+    generation, length = struct.unpack_from(">II", data)
+    return generation, Reservation(*struct.unpack_from(">Q5xB", data, 8)) if length else None

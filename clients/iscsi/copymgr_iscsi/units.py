@@ -11,7 +11,9 @@ NAMES = {
     MODE_SENSE_6: "mode sense 6", MODE_SENSE_10: "mode sense 10", SYNCHRONIZE_10: "synchronize cache 10",
     SYNCHRONIZE_16: "synchronize cache 16",
 }
-STATUSES = {frames.GOOD: "good", BUSY: "busy", frames.FULL: "task set full"}
+STATUSES = {
+    frames.GOOD: "good", BUSY: "busy", frames.CONFLICT: "reservation conflict", frames.FULL: "task set full",
+}
 NOT_SAVED = (0x05, 0x39, 0x00)
 # more than any unit that is configured
 NOWHERE = 0xFFFF

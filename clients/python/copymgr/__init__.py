@@ -23,13 +23,14 @@ sense. It wants Python alone; the formats are those of tools/replay beside it. T
 """
 
 from .disk import Disk
-from .errors import Busy, CheckCondition, CommandError, Ended, OperationEnded, TaskSetFull
+from .errors import Busy, CheckCondition, CommandError, Ended, OperationEnded, ReservationConflict, TaskSetFull
 from .hosts import Connection, Replay, Shape
 from .server import Report, Server
 from .status import CopyStatus, Inquiry, Operation
-from .wire import Capacity, Run, State
+from .wire import Capacity, Reservation, Run, State
 
 __all__ = [
     "Busy", "Capacity", "CheckCondition", "CommandError", "Connection", "CopyStatus", "Disk", "Ended", "Inquiry",
-    "Operation", "OperationEnded", "Replay", "Report", "Run", "Server", "Shape", "State", "TaskSetFull",
+    "Operation", "OperationEnded", "Replay", "Report", "Reservation", "ReservationConflict", "Run", "Server", "Shape",
+    "State", "TaskSetFull",
 ]

@@ -14,8 +14,8 @@ With --connect HOST:PORT in its place the commands go to a program that serves, 
 are known to the connection that began them. Numbers are decimal, or hexadecimal as in 0x1f or 1fh.
 
 The exit status is that of sg3_utils: 0 all was done, 5 illegal request, 7 data protect, 9 unknown operation code,
-10 copy aborted, 15 a file or the program failed, 20 no sense, 22 LBA out of range, 26 busy, 27 task set full,
-98 another sense. Wrong words are 2, which no disk of copymgr answers as it is always ready.
+10 copy aborted, 15 a file or the program failed, 20 no sense, 22 LBA out of range, 24 reservation conflict,
+26 busy, 27 task set full, 98 another sense. Wrong words are 2, which no disk of copymgr answers as it is always ready.
 """
 
 import bisect
@@ -27,14 +27,14 @@ import sys
 
 from . import plans
 from .disk import Disk
-from .errors import Busy, CheckCondition, Ended, OperationEnded, TaskSetFull
+from .errors import Busy, CheckCondition, Ended, OperationEnded, ReservationConflict, TaskSetFull
 from .hosts import Connection, Replay, Shape
-from .wire import frames, lists, senses
+from .wire import frames, lists, reservations, senses
 
 # pylint: disable=wrong-import-order
 from replay.serving import address_of
 from tracetext.command_line import Parser, end_quietly, fail
-from tracetext.replies import counted, hex_lines, run_text
+from tracetext.replies import RESERVATIONS, counted, hex_lines, run_text
 from tracetext.values import U16, U32, U64, ranges_of, ranges_text
 from tracetext.words import number_of
 
@@ -42,12 +42,18 @@ PROGRAM = "cmgr"
 FILE_ERROR = 15
 STATUS_OF_KEY = {0x00: 20, 0x05: 5, 0x07: 7, 0x0A: 10}
 STATUS_OF_SENSE = {senses.UNKNOWN_OPERATION: 9, senses.OUT_OF_RANGE: 22}
+TYPES = {
+    "write-exclusive": reservations.WRITE_EXCLUSIVE,
+    "exclusive-access": reservations.EXCLUSIVE_ACCESS,
+    "write-exclusive-registrants": reservations.WRITE_EXCLUSIVE_REGISTRANTS,
+    "exclusive-access-registrants": reservations.EXCLUSIVE_ACCESS_REGISTRANTS,
+}
 
 
 def exit_status(error):
     if isinstance(error, CheckCondition):
         return STATUS_OF_SENSE.get(error.sense, STATUS_OF_KEY.get(error.key, 98))
-    return {Busy: 26, TaskSetFull: 27, OperationEnded: 10}.get(type(error), FILE_ERROR)
+    return {Busy: 26, ReservationConflict: 24, TaskSetFull: 27, OperationEnded: 10}.get(type(error), FILE_ERROR)
 
 
 # ---- words
@@ -90,11 +96,14 @@ LBA = ("--lba", {"type": number(U64), "default": 0, "help": "the first block; 0 
 COUNT = ("--count", {"type": number(2**32), "required": True, "help": "how many blocks"})
 RANGES = ("--ranges", {"type": ranges, "required": True, "help": "as in 5+1,9+3"})
 PAGE = ("--page", {"type": number(255), "help": "a page of vital product data"})
+KEY = ("--key", {"type": number(U64), "required": True, "help": "under which the initiator is registered"})
+TYPE = ("--type", {"choices": TYPES, "required": True, "help": "whom the reservation keeps out of what"})
 LIST_ID = ("--id", {"type": number(U32), "default": 1, "help": "the list identifier; 1 if left out"})
 HOST = [
     ("--connect", {"type": address, "metavar": "HOST:PORT", "help": "a program that serves, in the place of DEVICE"}),
     ("--program", {"help": "what replays the trace; else copymgr where it was built, or the plain replay"}),
     ("--moment", {"type": number(U64), "help": "of a trace: the moment in seconds; else that of its last item"}),
+    ("--initiator", {"type": number(U32), "default": 1, "help": "of a trace: by whom; 1 if left out"}),
 ]
 
 
@@ -139,6 +148,20 @@ def kinds():
             ("--segments", {"action": "store_true", "help": "of an EXTENDED COPY"}),
         ]),
         "abort": (abort, "ends an operation in the background", [LUN, LIST_ID]),
+        "register": (register, "has a new key, or ends the registration with 0", [
+            LUN,
+            ("--key", {"type": number(U64), "default": 0, "help": "the key so far; 0, none, if left out"}),
+            ("--new-key", {"type": number(U64), "required": True, "help": "the key from now on; 0 is none"}),
+            ("--ignore", {"action": "store_true", "help": "whatever the key so far is"}),
+        ]),
+        "reserve": (reserve, "reserves the unit", [LUN, KEY, TYPE]),
+        "release": (release, "ends the initiator's reservation", [LUN, KEY, TYPE]),
+        "clear": (clear, "ends all registrations and the reservation", [LUN, KEY]),
+        "preempt": (preempt, "ends the registrations of others by a key, and takes over their reservation", [
+            LUN, KEY, TYPE,
+            ("--other-key", {"type": number(U64), "required": True, "help": "the key of the others"}),
+        ]),
+        "keys": (show_keys, "tells which keys are registered, and the reservation", [LUN]),
     }
 
 
@@ -169,7 +192,8 @@ class TraceFile:
         while at < len(trace):
             item, at = frames.read_item(trace, at)
             moment = item.moment
-        self.host = Replay(program=shlex.split(words.program) if words.program else None, trace=trace)
+        program = shlex.split(words.program) if words.program else None
+        self.host = Replay(program=program, trace=trace, initiator=words.initiator)
         self.host.moment = moment if words.moment is None else words.moment
 
     def close(self):
@@ -333,6 +357,36 @@ def abort(words, host):
     Disk(host, words.lun).abort(words.id)
 
 
+def register(words, host):
+    Disk(host, words.lun).register(words.key, words.new_key, words.ignore)
+
+
+def reserve(words, host):
+    Disk(host, words.lun).reserve(words.key, TYPES[words.type])
+
+
+def release(words, host):
+    Disk(host, words.lun).release(words.key, TYPES[words.type])
+
+
+def clear(words, host):
+    Disk(host, words.lun).clear(words.key)
+
+
+def preempt(words, host):
+    Disk(host, words.lun).preempt(words.key, words.other_key, TYPES[words.type])
+
+
+def show_keys(words, host):
+    disk = Disk(host, words.lun)
+    generation, keys = disk.keys()
+    print(f"generation {generation}")
+    for key in keys:
+        print(f"key {key:#x}")
+    held = disk.reservation()[1]
+    print(f"reserved by key {held.key:#x}: {RESERVATIONS[held.type]}" if held else "no reservation")
+
+
 def main(arguments=None):
     words = parser().parse_args(arguments)
     try:
@@ -348,7 +402,7 @@ def main(arguments=None):
         finally:
             device.close()
         sys.stdout.flush()
-    except (Busy, CheckCondition, Ended, OperationEnded, TaskSetFull) as error:
+    except (Busy, CheckCondition, Ended, OperationEnded, ReservationConflict, TaskSetFull) as error:
         fail(PROGRAM, error, exit_status(error))
     except BrokenPipeError:
         end_quietly()

@@ -1,7 +1,7 @@
 """A disk: a logical unit of a host."""
 
 from . import plans, status
-from .wire import cdbs, lists, returned, rod_token
+from .wire import cdbs, lists, reservations, returned, rod_token
 
 BLOCKS_OF_COMMAND = 2048
 RANGES = 64
@@ -142,6 +142,40 @@ class Disk:
     def copy_status(self, list_id):
         """How an EXTENDED COPY to which this disk was addressed ended."""
         return status.copy_status_of(self.command(0x84, 0x00, id=list_id, length=12))
+
+    # ---- reservations; a nexus that is not registered has the key 0
+
+    def reserve_out(self, action, key, action_key=0, kind=0):
+        """PERSISTENT RESERVE OUT by a service action and a type of `replay.reservations`."""
+        out = lists.reserve_bytes(key, action_key)
+        self.command(cdbs.RESERVE_OUT, action, out, length=len(out), kind=kind)
+
+    def register(self, key, new_key, ignore=False):
+        """Has a new key, under which the unit knows this nexus; 0 ends its registration and its reservation. `ignore`
+        is REGISTER AND IGNORE EXISTING KEY, by which the key so far may be any."""
+        self.reserve_out(reservations.REGISTER_AND_IGNORE if ignore else reservations.REGISTER, key, new_key)
+
+    def reserve(self, key, kind):
+        self.reserve_out(reservations.RESERVE, key, 0, kind)
+
+    def release(self, key, kind):
+        self.reserve_out(reservations.RELEASE, key, 0, kind)
+
+    def clear(self, key):
+        """Ends all registrations, and the reservation."""
+        self.reserve_out(reservations.CLEAR, key)
+
+    def preempt(self, key, other_key, kind):
+        """Ends the registrations of others by a key, and takes over the reservation that one of them holds."""
+        self.reserve_out(reservations.PREEMPT, key, other_key, kind)
+
+    def keys(self):
+        """The generation, and the keys in the order of registering."""
+        return returned.keys_of(self.command(cdbs.RESERVE_IN, cdbs.READ_KEYS, length=ALLOCATION))
+
+    def reservation(self):
+        """The generation, and the reservation or None."""
+        return returned.reservation_of(self.command(cdbs.RESERVE_IN, cdbs.READ_RESERVATION, length=ALLOCATION))
 
     def judge_host(self, other):
         if other.host is not self.host:

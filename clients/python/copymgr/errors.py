@@ -30,6 +30,13 @@ class Busy(CommandError):
         super().__init__("BUSY")
 
 
+class ReservationConflict(CommandError):
+    """A registration or a reservation of the unit stands against the command."""
+
+    def __init__(self):
+        super().__init__("RESERVATION CONFLICT")
+
+
 class TaskSetFull(CommandError):
     """The unit's record has no room for the command."""
 

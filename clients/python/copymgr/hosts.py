@@ -8,12 +8,13 @@ import subprocess
 import threading
 import time
 
-from .errors import Busy, CheckCondition, Ended, TaskSetFull
+from .errors import Busy, CheckCondition, Ended, ReservationConflict, TaskSetFull
 from .wire import PLAIN_REPLAY, PROGRAM, frames
 
 ENTRIES_LIMIT, PAYLOAD_LIMIT = frames.ENTRIES_LIMIT, frames.PAYLOAD_LIMIT
 
 BUSY = 0x08
+ERRORS = {BUSY: Busy, frames.CONFLICT: ReservationConflict, frames.FULL: TaskSetFull}
 Reply = collections.namedtuple("Reply", "status sense data")
 
 
@@ -40,8 +41,8 @@ def data_of(reply):
     """The data of a reply that is GOOD; each other status is an error."""
     if reply.status == frames.CHECK:
         raise CheckCondition(frames.sense_of(reply.sense))
-    if reply.status in (BUSY, frames.FULL):
-        raise Busy() if reply.status == BUSY else TaskSetFull()
+    if reply.status in ERRORS:
+        raise ERRORS[reply.status]()
     return reply.data
 
 

@@ -8,9 +8,9 @@ TOP = pathlib.Path(__file__).resolve().parents[3]
 sys.path.insert(0, str(TOP / "tools"))
 
 # pylint: disable=wrong-import-position,unused-import
-from replay import cdbs, frames, lists, rod_token, senses
+from replay import cdbs, frames, lists, reservations, rod_token, senses
 from tracetext import returned
-from tracetext.returned import Capacity, Run, State
+from tracetext.returned import Capacity, Reservation, Run, State
 
 PLAIN_REPLAY = TOP / "tools/plain-replay"
 PLAIN_SERVE = TOP / "tools/plain-serve"

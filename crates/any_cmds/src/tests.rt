@@ -2,5 +2,6 @@
 mod copies;
 mod driving;
 mod plain;
+mod reservations;
 mod script;
 mod tokens;

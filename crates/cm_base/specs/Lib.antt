@@ -1,6 +1,7 @@
 pub mod Fields
 pub mod Configuration
 pub mod Units
+pub mod ReservationActions
 pub mod Numbers
 pub mod Outside
 pub mod Sides

@@ -84,6 +84,9 @@ reply-back (Reply.Check sense) rest fits =
 reply-back Reply.Busy rest fits =
     let six : nat_lt (length (reply_bytes Reply.Busy ++ rest)) 6 ≡ false = le-ltb _ 6 (omega arith) in
     rw six refl
+reply-back Reply.Conflict rest fits =
+    let six : nat_lt (length (reply_bytes Reply.Conflict ++ rest)) 6 ≡ false = le-ltb _ 6 (omega arith) in
+    rw six refl
 reply-back Reply.Full rest fits =
     let six : nat_lt (length (reply_bytes Reply.Full ++ rest)) 6 ≡ false = le-ltb _ 6 (omega arith) in
     rw six refl

@@ -10,7 +10,7 @@ use Rattle.cm_base.specs.Fields.{byte, field, part, AreBytes}
 use Rattle.cm_base.proofs.PublicLaws.{below-bytes, bytes-part, field-spelled, length-part, parts-join}
 use Rattle.cm_frame.specs.declared.frame.Reply.{Reply}
 use Rattle.cm_frame.specs.Grammar.{data_limit, reply_bytes, IsReply}
-use Rattle.cm_frame.specs.Reading.{is_status, sense_in, is_sense, read_check, read_good, read_reply}
+use Rattle.cm_frame.specs.Reading.{is_status, bare_reply, sense_in, is_sense, read_check, read_good, read_reply}
 use Rattle.cm_frame.specs.Laws.{IsSpelledSo}
 use Rattle.cm_frame.proofs.Spelled.{guard-whole, bad-whole, Takes, moved, byte-spelled}
 
@@ -70,14 +70,19 @@ bare-takes bytes reply x status used all six first none empty spelled fits e =
     moved IsReply reply_bytes bytes reply x 6 used mine e
 
 last-takes : (bytes : List ℕ) (x : Reply) (used : ℕ) → AreBytes bytes → 6 ≤ length bytes → is_status (byte bytes 0) ≡ true → (byte bytes 0 == 0) ≡ false → (byte bytes 0 == 2) ≡ false
-    → byte bytes 1 ≡ 0 → field bytes 2 5 ≡ 0 → Whole (cond (byte bytes 0 == 0x08) Reply.Busy Reply.Full) 6 ≡ Whole x used → Takes IsReply reply_bytes bytes x used
+    → byte bytes 1 ≡ 0 → field bytes 2 5 ≡ 0 → Whole (bare_reply (byte bytes 0)) 6 ≡ Whole x used → Takes IsReply reply_bytes bytes x used
 last-takes bytes x used all six status not_good not_check none empty e = go (byte bytes 0 == 0x08) refl e
   where
-    go : (t : Bool) → (byte bytes 0 == 0x08) ≡ t → Whole (cond t Reply.Busy Reply.Full) 6 ≡ Whole x used → Takes IsReply reply_bytes bytes x used
-    go true k w = bare-takes bytes Reply.Busy x 0x08 used all six (eqb-true (byte bytes 0) 0x08 k) none empty refl tt w
-    go false k w =
-        let full : (byte bytes 0 == 0x28) ≡ true = rw (not_good, not_check, k) at status in
+    other : (byte bytes 0 == 0x08) ≡ false → (t : Bool) → (byte bytes 0 == 0x18) ≡ t → Whole (cond t Reply.Conflict Reply.Full) 6 ≡ Whole x used → Takes IsReply reply_bytes bytes x used
+    other not_busy true k w = bare-takes bytes Reply.Conflict x 0x18 used all six (eqb-true (byte bytes 0) 0x18 k) none empty refl tt w
+    other not_busy false k w =
+        let full : (byte bytes 0 == 0x28) ≡ true = rw (not_good, not_check, not_busy, k) at status in
         bare-takes bytes Reply.Full x 0x28 used all six (eqb-true (byte bytes 0) 0x28 full) none empty refl tt w
+
+    go : (t : Bool) → (byte bytes 0 == 0x08) ≡ t → Whole (cond t Reply.Busy (cond (byte bytes 0 == 0x18) Reply.Conflict Reply.Full)) 6 ≡ Whole x used
+        → Takes IsReply reply_bytes bytes x used
+    go true k w = bare-takes bytes Reply.Busy x 0x08 used all six (eqb-true (byte bytes 0) 0x08 k) none empty refl tt w
+    go false k w = other k (byte bytes 0 == 0x18) refl w
 
 reply-takes : (bytes : List ℕ) (x : Reply) (used : ℕ) → AreBytes bytes → read_reply bytes ≡ Whole x used → Takes IsReply reply_bytes bytes x used
 reply-takes bytes x used all e =
@@ -92,7 +97,7 @@ reply-takes bytes x used all e =
   where
     go : (a : Bool) → (byte bytes 0 == 0) ≡ a → (b : Bool) → (byte bytes 0 == 2) ≡ b → is_status (byte bytes 0) ≡ true → 6 ≤ length bytes
         → byte bytes 1 ≡ cond {A = ℕ} b 0x12 0 → field bytes 2 5 ≤ cond {A = ℕ} a data_limit 0
-        → cond a (read_good bytes) (cond b (read_check bytes) (Whole (cond (byte bytes 0 == 0x08) Reply.Busy Reply.Full) 6)) ≡ Whole x used
+        → cond a (read_good bytes) (cond b (read_check bytes) (Whole (bare_reply (byte bytes 0)) 6)) ≡ Whole x used
         → Takes IsReply reply_bytes bytes x used
     go true k true l known six second third w = absurd (omega (arith, eqb-true (byte bytes 0) 0 k, eqb-true (byte bytes 0) 2 l))
     go true k false l known six second third w = good-takes bytes x used all six (eqb-true (byte bytes 0) 0 k) second third w

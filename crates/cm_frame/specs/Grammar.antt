@@ -48,6 +48,7 @@ abbrev pub reply_bytes : Reply → List ℕ
 reply_bytes (Reply.Good bytes) = 0x00 ∷ 0x00 ∷ big_bytes 4 (length bytes) ++ bytes
 reply_bytes (Reply.Check sense) = 0x02 ∷ 0x12 ∷ big_bytes 4 0 ++ sense_bytes sense
 reply_bytes Reply.Busy = 0x08 ∷ 0x00 ∷ big_bytes 4 0
+reply_bytes Reply.Conflict = 0x18 ∷ 0x00 ∷ big_bytes 4 0
 reply_bytes Reply.Full = 0x28 ∷ 0x00 ∷ big_bytes 4 0
 
 -- what a reply has behind its status and its lengths: the data-in, or the sense

@@ -124,9 +124,9 @@ HasItem bytes used = (item : TraceItem) × (read_item bytes ≡ Whole item used)
 
 -- ---- replies
 
--- the statuses GOOD, CHECK CONDITION, BUSY and TASK SET FULL
+-- the statuses GOOD, CHECK CONDITION, BUSY, RESERVATION CONFLICT and TASK SET FULL
 abbrev pub is_status : ℕ → Bool
-is_status s = (s == 0x00) || (s == 0x02) || (s == 0x08) || (s == 0x28)
+is_status s = (s == 0x00) || (s == 0x02) || (s == 0x08) || (s == 0x18) || (s == 0x28)
 
 -- the sense that 18 bytes spell, if they spell one
 abbrev pub sense_in : List ℕ → SenseCode
@@ -146,6 +146,10 @@ read_good bytes =
     if nat_lt (length bytes) (6 + field bytes 2 5) then Short
     else Whole (Reply.Good (part 6 (field bytes 2 5) bytes)) (6 + field bytes 2 5)
 
+-- the reply of a status behind which there is neither sense nor data
+abbrev pub bare_reply : ℕ → Reply
+bare_reply status = if status == 0x08 then Reply.Busy else if status == 0x18 then Reply.Conflict else Reply.Full
+
 -- Status, length of the sense and length of the data are judged when their six bytes are there.
 abbrev pub read_reply : List ℕ → Parsed Reply
 read_reply bytes =
@@ -155,4 +159,4 @@ read_reply bytes =
     else if nat_lt (if byte bytes 0 == 0x00 then data_limit else 0) (field bytes 2 5) then Bad 2
     else if byte bytes 0 == 0x00 then read_good bytes
     else if byte bytes 0 == 0x02 then read_check bytes
-    else Whole (if byte bytes 0 == 0x08 then Reply.Busy else Reply.Full) 6
+    else Whole (bare_reply (byte bytes 0)) 6

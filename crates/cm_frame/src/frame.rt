@@ -21,6 +21,8 @@ pub enum Reply {
     Check(Sense),
     /// BUSY: memory was wanted.
     Busy,
+    /// RESERVATION CONFLICT: a persistent reservation stands against the command.
+    Conflict,
     /// TASK SET FULL: a unit's record has no room.
     Full,
 }

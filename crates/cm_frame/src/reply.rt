@@ -1,7 +1,7 @@
 ghost use Rattle.std.specs.Prelude.{◌≡◌, ◌≤◌, ◌++◌, length, IfOk};
 ghost use Rattle.cm_base.specs.Fields.{field};
 ghost use Rattle.cm_frame.specs.Grammar.{data_limit, IsReply, reply_bytes, reply_body, data_in};
-ghost use Rattle.cm_frame.specs.Reading.{read_reply, read_good, read_check};
+ghost use Rattle.cm_frame.specs.Reading.{is_status, bare_reply, read_reply, read_good, read_check};
 ghost use Rattle.cm_frame.specs.Laws.{IfWhole};
 
 use crate::frame::Reply;
@@ -17,6 +17,8 @@ const CHECK_CONDITION: u8 = 0x02;
 
 const BUSY: u8 = 0x08;
 
+const RESERVATION_CONFLICT: u8 = 0x18;
+
 const TASK_SET_FULL: u8 = 0x28;
 
 /// Bytes of a sense.
@@ -24,6 +26,27 @@ const SENSE: u8 = 18;
 
 /// Bytes of a reply before its sense or its data.
 const FRONT: usize = 6;
+
+/// The status of a reply.
+fn is_status(status: u8) -> bool
+    ensures { result ≡ is_status status }
+{
+    matches!(
+        status,
+        GOOD | CHECK_CONDITION | BUSY | RESERVATION_CONFLICT | TASK_SET_FULL
+    )
+}
+
+/// The reply of a status behind which there is neither sense nor data.
+fn bare_reply(status: u8) -> Reply
+    ensures { result ≡ bare_reply status }
+{
+    match status {
+        BUSY => Reply::Busy,
+        RESERVATION_CONFLICT => Reply::Conflict,
+        _ => Reply::Full,
+    }
+}
 
 /// Reads the reply at the front of some bytes (own profile): its status, the lengths of its sense
 /// and of its data, and then these.
@@ -40,7 +63,7 @@ pub fn read_reply(alloc: Global, bytes: &[u8]) -> Result<Parsed<Reply>, OutOfMem
         return Ok(Parsed::Short);
     }
     let status = bytes[0];
-    if !matches!(status, GOOD | CHECK_CONDITION | BUSY | TASK_SET_FULL) {
+    if !is_status(status) {
         return Ok(Parsed::Bad { place: 0 });
     }
     let sense = if status == CHECK_CONDITION { SENSE } else { 0 };
@@ -54,12 +77,8 @@ pub fn read_reply(alloc: Global, bytes: &[u8]) -> Result<Parsed<Reply>, OutOfMem
     match status {
         GOOD => read_good(alloc, bytes),
         CHECK_CONDITION => Ok(read_check(bytes)),
-        BUSY => Ok(Parsed::Whole {
-            value: Reply::Busy,
-            used: FRONT,
-        }),
         _ => Ok(Parsed::Whole {
-            value: Reply::Full,
+            value: bare_reply(status),
             used: FRONT,
         }),
     }
@@ -108,6 +127,7 @@ pub fn reply_head(reply: &Reply) -> [u8; 6]
         }
         Reply::Check(_) => [CHECK_CONDITION, SENSE, 0, 0, 0, 0],
         Reply::Busy => [BUSY, 0, 0, 0, 0, 0],
+        Reply::Conflict => [RESERVATION_CONFLICT, 0, 0, 0, 0, 0],
         Reply::Full => [TASK_SET_FULL, 0, 0, 0, 0, 0],
     }
 }
@@ -121,7 +141,7 @@ pub fn write_reply(alloc: Global, reply: &Reply) -> Result<Bytes, OutOfMemory>
     match reply {
         Reply::Good(data) => bytes.extend(data.as_slice())?,
         Reply::Check(sense) => bytes.extend(&sense.to_bytes())?,
-        Reply::Busy | Reply::Full => {}
+        Reply::Busy | Reply::Conflict | Reply::Full => {}
     }
     Ok(bytes)
 }

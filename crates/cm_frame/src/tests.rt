@@ -261,10 +261,11 @@ fn replies_are_read_and_written(rt: HostRuntime) -> Result<(), Fail> {
     );
     assert!(rt; spelled(&rt, Reply::Check(sense), &check)?);
     assert!(rt; spelled(&rt, Reply::Busy, &[8, 0, 0, 0, 0, 0])?);
+    assert!(rt; spelled(&rt, Reply::Conflict, &[0x18, 0, 0, 0, 0, 0])?);
     assert!(rt; spelled(&rt, Reply::Full, &[0x28, 0, 0, 0, 0, 0])?);
     let mut descriptor = check;
     descriptor[6] = 0x72;
-    let replies: [(&[u8], Ending); 10] = [
+    let replies: [(&[u8], Ending); 11] = [
         (&check[..23], Ending::Short),
         (&descriptor, Ending::Bad(6)),
         (&[1, 0, 0, 0, 0], Ending::Short),
@@ -272,6 +273,7 @@ fn replies_are_read_and_written(rt: HostRuntime) -> Result<(), Fail> {
         (&[0, 0x12, 0, 0, 0, 0], Ending::Bad(1)),
         (&[2, 0, 0, 0, 0, 0], Ending::Bad(1)),
         (&[8, 0, 0, 0, 0, 1], Ending::Bad(2)),
+        (&[0x18, 0, 0, 0, 0, 1], Ending::Bad(2)),
         (&[0, 0, 0, 0x80, 0, 1], Ending::Bad(2)),
         (&[0, 0, 0, 0x80, 0, 0], Ending::Short),
         (&[0, 0, 0, 0, 0, 2, 1], Ending::Short),

@@ -21,14 +21,16 @@ use Rattle.cm_history.specs.Blocks.{held, cut}
 use Rattle.cm_history.specs.Tokens.{tokens, token_after, made_token}
 use Rattle.cm_history.specs.Redeeming.{named_token}
 use Rattle.cm_history.specs.Operations.{Operation, OfToken, OfCopy, has_key, is_making, is_foreground, operations, is_running, running, fits, would_serve, made_operation, keep, kept, operation_after}
-use Rattle.cm_history.specs.Answers.{answer_after, answer_populate, answer_end, answer_report, answer_recall, done_if, is_busy, deed, writings, wrote_of}
+use Rattle.cm_history.specs.Answers.{answer_after, answer_unbarred, answer_populate, answer_end, answer_report, answer_recall, done_if, is_busy, deed, writings, wrote_of}
+use Rattle.cm_history.specs.Reserving.{reservations, bars_act}
 use Rattle.cm_history.specs.History.{past_of, answer}
 use Rattle.cm_history.specs.Image.{image, token_image, operation_image, OperationImage, TokenImage, SameImage}
-use Rattle.cm_history.proofs.Imaging.{redeem_by, progress_of, piece_by, now_of, token_by, made_by, tokens_by, end_by, done_by, report_by, recall_by, answer_by, writings_by, kept_by, keep_by, new_by, is_served_by, moved_by, change_first, with_answer, next_image}
+use Rattle.cm_history.proofs.Imaging.{redeem_by, progress_of, piece_by, now_of, token_by, made_by, tokens_by, end_by, done_by, report_by, recall_by, unbarred_by, answer_by, writings_by, kept_by, keep_by, new_by, is_served_by, moved_by, change_first, with_answer, next_image}
 use Rattle.cm_history.proofs.Lists.{Each-in, In-filter, find-in}
 use Rattle.cm_history.proofs.Finding.{find-passes, map-append}
 use Rattle.cm_history.proofs.Counts.{IsPast, IsBegun, begun}
 use Rattle.cm_history.proofs.CountLaw.{past-is}
+use Rattle.cm_history.proofs.Reserved.{free-answered}
 use Rattle.cm_history.proofs.Keys.{and_second}
 use Rattle.cm_history.proofs.Made.{length-map, past_of-mine, past_of-other}
 use Rattle.cm_history.proofs.ImageBlocks.{SameBelow, now-is, map-row, read-same, write-same, status-same, mapped-with-same, cut-same}
@@ -78,46 +80,55 @@ recall-image : (w : Option Operation) → recall_by (option_map operation_image 
 recall-image None = refl
 recall-image (Some o) = refl
 
--- the answer is a function of the image
-pub answer-image : (config : Configuration) (unit : ℕ) (past : List Deed) (actor : Actor) (now : ℕ) (act : Act) → IsPast config unit past
-    → answer_by config unit (image (unit_of config unit) past) actor now act ≡ answer_after config unit past actor now act
-answer-image config unit past actor now (Act.Read lba count) is = read-same (unit_of config unit) _ (held past) lba count (held-image (unit_of config unit) past)
-answer-image config unit past actor now (Act.Write lba list) is = write-same (unit_of config unit) _ (held past) lba list.items (held-image (unit_of config unit) past)
-answer-image config unit past actor now (Act.Unmap ranges) is = refl
-answer-image config unit past actor now (Act.MapStatus lba) is = status-same (unit_of config unit) _ (held past) lba (held-image (unit_of config unit) past)
-answer-image config unit past actor now (Act.Populate id timeout ranges) is =
+-- the answer to an act that nothing bars is a function of the image
+unbarred-image : (config : Configuration) (unit : ℕ) (past : List Deed) (actor : Actor) (now : ℕ) (act : Act) → IsPast config unit past
+    → unbarred_by config unit (image (unit_of config unit) past) actor now act ≡ answer_unbarred config unit past actor now act
+unbarred-image config unit past actor now (Act.Read lba count) is = read-same (unit_of config unit) _ (held past) lba count (held-image (unit_of config unit) past)
+unbarred-image config unit past actor now (Act.Write lba list) is = write-same (unit_of config unit) _ (held past) lba list.items (held-image (unit_of config unit) past)
+unbarred-image config unit past actor now (Act.Unmap ranges) is = refl
+unbarred-image config unit past actor now (Act.MapStatus lba) is = status-same (unit_of config unit) _ (held past) lba (held-image (unit_of config unit) past)
+unbarred-image config unit past actor now (Act.Populate id timeout ranges) is =
     rw (busy-image config unit past actor OfToken id is, length-map (token_image (unit_of config unit)) (tokens past)) refl
-answer-image config unit past actor now (Act.Redeem text target) is =
+unbarred-image config unit past actor now (Act.Redeem text target) is =
     ap (λ o. redeem_answer o) (get-map (token_image (unit_of config unit)) (tokens past) (serial_of text))
     ∙ sym (redeem-image config unit (max now (moment past)) text target (named_token past text))
   where
     redeem_answer : Option TokenImage → Answer
     redeem_answer o = redeem_by config unit (max now (moment past)) text target o
-answer-image config unit past actor now (Act.Delete serial) is = refl
-answer-image config unit past actor now (Act.Start id background ranges rod) is =
+unbarred-image config unit past actor now (Act.Delete serial) is = refl
+unbarred-image config unit past actor now (Act.Start id background ranges rod) is =
     rw (busy-image config unit past actor OfToken id is, running-image config unit past is) refl
-answer-image config unit past actor now (Act.Advance id) is =
+unbarred-image config unit past actor now (Act.Advance id) is =
     let u = unit_of config unit in
     ap (progress_of u (now_of (image u past).blocks) (Answer.Refused invalid_field_in_cdb)) (would-image config unit past actor (Act.Advance id) is)
     ∙ progress-image u past (now_of (image u past).blocks) (Answer.Refused invalid_field_in_cdb) (would_serve past actor (Act.Advance id))
     (λ ws. mapped-with-same u (now_of (image u past).blocks) (held past) ws (held-image u past)) (start-advance config unit past actor id is)
-answer-image config unit past actor now Act.Pump is =
+unbarred-image config unit past actor now Act.Pump is =
     let u = unit_of config unit in
     ap (progress_of u (now_of (image u past).blocks) Answer.Idle) (would-image config unit past actor Act.Pump is)
     ∙ progress-image u past (now_of (image u past).blocks) Answer.Idle (would_serve past actor Act.Pump)
     (λ ws. mapped-with-same u (now_of (image u past).blocks) (held past) ws (held-image u past)) (start-pump config unit past actor is)
-answer-image config unit past actor now (Act.End id) is = ap end_by (would-image config unit past actor (Act.End id) is) ∙ end-image (would_serve past actor (Act.End id))
-answer-image config unit past actor now (Act.Abort id) is = ap done_by (would-image config unit past actor (Act.Abort id) is) ∙ done-image (would_serve past actor (Act.Abort id))
-answer-image config unit past actor now (Act.Report id) is = ap report_by (found-image actor OfToken id (kept past)) ∙ report-image (find (has_key actor OfToken id) (kept past))
-answer-image config unit past actor now (Act.Capture lba count) is = read-same (unit_of config unit) _ (held past) lba count (held-image (unit_of config unit) past)
-answer-image config unit past actor now (Act.Put lba list) is = write-same (unit_of config unit) _ (held past) lba list.items (held-image (unit_of config unit) past)
-answer-image config unit past actor now (Act.Open id) is =
+unbarred-image config unit past actor now (Act.End id) is = ap end_by (would-image config unit past actor (Act.End id) is) ∙ end-image (would_serve past actor (Act.End id))
+unbarred-image config unit past actor now (Act.Abort id) is = ap done_by (would-image config unit past actor (Act.Abort id) is) ∙ done-image (would_serve past actor (Act.Abort id))
+unbarred-image config unit past actor now (Act.Report id) is = ap report_by (found-image actor OfToken id (kept past)) ∙ report-image (find (has_key actor OfToken id) (kept past))
+unbarred-image config unit past actor now (Act.Capture lba count) is = read-same (unit_of config unit) _ (held past) lba count (held-image (unit_of config unit) past)
+unbarred-image config unit past actor now (Act.Put lba list) is = write-same (unit_of config unit) _ (held past) lba list.items (held-image (unit_of config unit) past)
+unbarred-image config unit past actor now (Act.Open id) is =
     rw (busy-image config unit past actor OfCopy id is, running-image config unit past is) refl
-answer-image config unit past actor now (Act.Close id result) is =
+unbarred-image config unit past actor now (Act.Close id result) is =
     ap done_by (would-image config unit past actor (Act.Close id result) is) ∙ done-image (would_serve past actor (Act.Close id result))
-answer-image config unit past actor now (Act.Recall id) is = ap recall_by (found-image actor OfCopy id (kept past)) ∙ recall-image (find (has_key actor OfCopy id) (kept past))
+unbarred-image config unit past actor now (Act.Recall id) is = ap recall_by (found-image actor OfCopy id (kept past)) ∙ recall-image (find (has_key actor OfCopy id) (kept past))
+unbarred-image config unit past actor now (Act.PrOut action scope kind key action_key) is = refl
+unbarred-image config unit past actor now Act.PrKeys is = refl
+unbarred-image config unit past actor now Act.PrHolder is = refl
 
--- so is what the act writes
+-- so is each answer
+pub answer-image : (config : Configuration) (unit : ℕ) (past : List Deed) (actor : Actor) (now : ℕ) (act : Act) → IsPast config unit past
+    → answer_by config unit (image (unit_of config unit) past) actor now act ≡ answer_after config unit past actor now act
+answer-image config unit past actor now act is =
+    ap (λ (a : Answer). if bars_act (reservations past) actor act then Answer.Conflict else a) (unbarred-image config unit past actor now act is)
+
+-- and what the act writes
 pub writings-image : (config : Configuration) (unit : ℕ) (past : List Deed) (actor : Actor) (act : Act) → IsPast config unit past
     → writings_by (image (unit_of config unit) past) actor act ≡ writings past actor act
 writings-image config unit past actor (Act.Write lba list) is = refl
@@ -159,7 +170,8 @@ tokens-image config unit past e =
         → cut (unit_of config unit) (now_of (image (unit_of config unit) past).blocks) (blocks_of ranges) ≡ cut (unit_of config unit) (held past) (blocks_of ranges)
     shows id timeout ranges is answered =
         cut-same (unit_of config unit) ranges _ (held past) (held-image (unit_of config unit) past)
-        (populate-within (unit_of config unit) past e.actor id ranges (sym (ap (λ a. not (is_refusal (answer_after config unit past e.actor e.moment a))) is) ∙ answered))
+        (populate-within (unit_of config unit) past e.actor id ranges (free-answered (bars_act (reservations past) e.actor (Act.Populate id timeout ranges)) _
+        (sym (ap (λ a. not (is_refusal (answer_after config unit past e.actor e.moment a))) is) ∙ answered)))
 
 pub kept-image : (config : Configuration) (unit : ℕ) (past : List Deed) (e : Entry) → IsPast config unit past
     → map operation_image (kept (deed config unit past e ∷ past))

@@ -15,8 +15,9 @@ use Rattle.cm_history.specs.Bounds.{live_tokens}
 use Rattle.cm_history.specs.Deeds.{is_refusal}
 use Rattle.cm_history.specs.Tokens.{Fate, Live, Expired, Evicted, Deleted, is_live, is_populate, is_delete_of, is_redeem_of}
 use Rattle.cm_history.specs.Answers.{wrote_of}
+use Rattle.cm_history.specs.Reserving.{bars_act}
 use Rattle.cm_history.specs.Image.{Image, TokenImage, trim, trimmed}
-use Rattle.cm_history.proofs.Imaging.{now_of, over_by, live_by, older_by, makes_room_by, ended_as, token_by, made_by, tokens_by, redeem_by, answer_by, writings_by, with_answer, next_image}
+use Rattle.cm_history.proofs.Imaging.{now_of, over_by, live_by, older_by, makes_room_by, ended_as, token_by, made_by, tokens_by, redeem_by, unbarred_by, answer_by, writings_by, with_answer, next_image}
 use Rattle.cm_history.proofs.Lists.{filter-passes}
 use Rattle.cm_history.proofs.Finding.{filter-map, filter-same, all-map, all-same, map-append, map-map, map-same}
 use Rattle.cm_history.proofs.Made.{length-map}
@@ -112,12 +113,15 @@ redeem-trim config unit now text target (Some t) = go (is_live t.fate) refl
     go true e = ap (λ x. redeem_by config unit now text target (Some x)) (trim-live t e)
     go false e = ap (λ x. redeem_by config unit now text target (Some x)) (trim-dead t e) ∙ dead t.fate refl e
 
+unbarred-trim : (config : Configuration) (unit : ℕ) (i : Image) (actor : Actor) (now : ℕ) (act : Act) → unbarred_by config unit (trimmed i) actor now act ≡ unbarred_by config unit i actor now act
+unbarred-trim config unit i actor now (Act.Populate id timeout ranges) = rw (length-map trim i.tokens) refl
+unbarred-trim config unit i actor now (Act.Redeem text target) =
+    ap (redeem_by config unit (max now i.moment) text target) (get-map trim i.tokens (serial_of text)) ∙ redeem-trim config unit (max now i.moment) text target (slice_get i.tokens (serial_of text))
+unbarred-trim config unit i actor now _ = refl
+
 -- a trimmed image is answered as the whole one
 pub answer-trim : (config : Configuration) (unit : ℕ) (i : Image) (actor : Actor) (now : ℕ) (act : Act) → answer_by config unit (trimmed i) actor now act ≡ answer_by config unit i actor now act
-answer-trim config unit i actor now (Act.Populate id timeout ranges) = rw (length-map trim i.tokens) refl
-answer-trim config unit i actor now (Act.Redeem text target) =
-    ap (redeem_by config unit (max now i.moment) text target) (get-map trim i.tokens (serial_of text)) ∙ redeem-trim config unit (max now i.moment) text target (slice_get i.tokens (serial_of text))
-answer-trim config unit i actor now _ = refl
+answer-trim config unit i actor now act = ap (λ (a : Answer). if bars_act i.reservations actor act then Answer.Conflict else a) (unbarred-trim config unit i actor now act)
 
 writings-trim : (i : Image) (actor : Actor) (act : Act) → writings_by (trimmed i) actor act ≡ writings_by i actor act
 writings-trim i actor (Act.Advance id) = refl

@@ -3,11 +3,12 @@ pub use Rattle.cm_history.proofs.Lists.{Each, Each-all, Each-append, Each-by, Ea
 pub use Rattle.cm_history.proofs.Counts.{IsBegun, IsPast, apart, begun, earlier, made-after, same_place}
 pub use Rattle.cm_history.proofs.Records.{and_first, kept_in, making_serves, running_kept, served_none, with_room_in}
 pub use Rattle.cm_history.proofs.Made.{Has, IsMade, all-made, past_of-mine, past_of-other, token-kept}
+pub use Rattle.cm_history.proofs.Reserved.{barred-kind, free-answer, free-answered, out-refused, reservations-sound}
 pub use Rattle.cm_history.proofs.Keys.{KeysApart, and_second, keys-apart, one-key, record-found, same-record, same_actor-is, same_form-is}
 pub use Rattle.cm_history.proofs.CountLaw.{length-past, past-is, same_actor-self}
 pub use Rattle.cm_history.proofs.Locality.{past_of-on}
 pub use Rattle.cm_history.proofs.LegalPush.{legal_push}
-pub use Rattle.cm_history.proofs.AnswerKinds.{after-kind, answer-kind}
+pub use Rattle.cm_history.proofs.AnswerKinds.{after-kind, answer-kind, unbarred-kind}
 pub use Rattle.cm_history.proofs.WritesOn.{more_of, no-failure}
 pub use Rattle.cm_history.proofs.WritesEnd.{Follows, follows-answer, follows-more, follows-started}
 pub use Rattle.cm_history.proofs.Finding.{all-map, all-same, any-filter, any-found, any-map, any-same, any-some, filter-map, filter-same, find-filter, find-map, find-passes, find-same, map-append, map-map, map-same}

@@ -6,6 +6,7 @@ pub mod Tokens
 pub mod Operations
 pub mod Ends
 pub mod Redeeming
+pub mod Reserving
 pub mod Answers
 pub mod History
 pub mod Forms
@@ -18,3 +19,4 @@ pub mod Completeness
 pub mod Image
 pub mod Asked
 pub mod Folding
+pub mod inner

@@ -5,7 +5,7 @@ ghost use Rattle.cm_history.specs.declared.answer.Answer.{Answer};
 use crate::act::{Act, Entry};
 use crate::answer::Answer;
 use crate::token_text::TokenText;
-use cm_base::OutOfMemory;
+use cm_base::{KeyList, OutOfMemory};
 use lba_ranges::{BlockList, RangeList, StatusList};
 use std::alloc::Global;
 
@@ -87,6 +87,21 @@ impl Act {
             Act::Open { id } => Act::Open { id },
             Act::Close { id, result } => Act::Close { id, result },
             Act::Recall { id } => Act::Recall { id },
+            Act::PrOut {
+                action,
+                scope,
+                kind,
+                key,
+                action_key,
+            } => Act::PrOut {
+                action,
+                scope,
+                kind,
+                key,
+                action_key,
+            },
+            Act::PrKeys => Act::PrKeys,
+            Act::PrHolder => Act::PrHolder,
         };
         Ok(act)
     }
@@ -121,6 +136,12 @@ fn rod(list: BlockList) -> Answer
     Answer::Rod(list)
 }
 
+fn told_keys(generation: u32, keys: KeyList) -> Answer
+    ensures { result ≡ Answer.Keys generation keys }
+{
+    Answer::Keys { generation, keys }
+}
+
 impl Answer {
     /// An equal answer, which shares the bytes of its blocks.
     pub fn copy(&self, alloc: Global) -> Result<Answer, OutOfMemory>
@@ -136,7 +157,13 @@ impl Answer {
             Answer::Idle => Answer::Idle,
             Answer::Report(report) => Answer::Report(report),
             Answer::Copy(end) => Answer::Copy(end),
+            Answer::Keys {
+                generation,
+                ref keys,
+            } => told_keys(generation, KeyList::copy(alloc, keys.as_slice())?),
+            Answer::Holder { generation, holder } => Answer::Holder { generation, holder },
             Answer::Refused(sense) => Answer::Refused(sense),
+            Answer::Conflict => Answer::Conflict,
         };
         Ok(answer)
     }

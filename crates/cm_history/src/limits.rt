@@ -5,7 +5,7 @@ ghost use Rattle.cm_history.specs.Limits.{within_limits, fits_unit};
 ghost use Rattle.cm_history.specs.Room.{pieces};
 
 use crate::act::{Act, CopyState};
-use cm_base::Config;
+use cm_base::{Config, ReservationAction};
 use lba_ranges::{BlockList, RangeList};
 use rod_token::{TokenKind, classify};
 
@@ -84,6 +84,13 @@ pub fn within_limits(config: &Config, unit: u16, act: &Act) -> bool
         Act::Capture { lba: _, count } => *count <= 65_535,
         Act::Put { lba: _, list } => list.blocks() <= PIECE_BLOCKS && fits_unit(config, unit, list),
         Act::Close { id: _, result } => !matches!(&result.state, CopyState::Running),
+        Act::PrOut {
+            action,
+            scope,
+            kind,
+            key: _,
+            action_key: _,
+        } => ReservationAction::from_code(*action).is_some() && *scope < 16 && *kind < 16,
         _ => true,
     }
 }

@@ -2,8 +2,9 @@ ghost use Rattle.std.specs.Prelude.{◌≡◌, ◌≤◌, length, IfOk};
 ghost use Rattle.cm_history.specs.Legal.{IsLegal};
 
 use super::*;
-use cm_base::{Config, OutOfMemory, Payload, UnitConfig, UnitList};
+use cm_base::{Config, KeyList, OutOfMemory, Payload, UnitConfig, UnitList};
 use lba_ranges::{BlockList, Fill, MapRun, Piece, Range, RangeList, StatusList};
+use pr_keys::PrState;
 use std::alloc::Global;
 use std::test::Fail;
 
@@ -104,6 +105,16 @@ fn capture(count: u32) -> Act {
     Act::Capture { lba: 0, count }
 }
 
+fn out(action: u8, scope: u8, kind: u8) -> Act {
+    Act::PrOut {
+        action,
+        scope,
+        kind,
+        key: 1,
+        action_key: 2,
+    }
+}
+
 /// The act may be asked of unit 0.
 fn allows(config: &Config, act: Act) -> bool
     requires { 1 ≤ length config.now.units }
@@ -119,6 +130,15 @@ fn numbers_have_limits(rt: HostRuntime) -> Result<(), Fail> {
     assert!(rt; allows(&config, close(CopyState::Done)));
     assert!(rt; !allows(&config, close(CopyState::Running)));
     assert!(rt; allows(&config, Act::Pump));
+    Ok(())
+}
+
+/// A service action that is not known, and fields of four bits.
+#[test]
+fn codes_of_reservations_have_limits(rt: HostRuntime) -> Result<(), Fail> {
+    let config = one_unit(&rt)?;
+    assert!(rt; allows(&config, out(0x06, 15, 15)) && !allows(&config, out(0x05, 0, 1)));
+    assert!(rt; !allows(&config, out(0x01, 16, 1)) && !allows(&config, out(0x01, 0, 16)));
     Ok(())
 }
 
@@ -177,6 +197,61 @@ fn runs_are_copied(rt: HostRuntime) -> Result<(), Fail> {
     let runs = Answer::Status(StatusList::copy(rt.alloc(), &[run])?);
     let told = runs.copy(rt.alloc())?;
     assert!(rt; matches!(&told, Answer::Status(runs) if runs.len() == 1));
+    Ok(())
+}
+
+/// Registers a nexus by key A1h, and reserves the unit for its writes.
+fn reserved(alloc: Global) -> Result<PrState, Fail> {
+    let none = PrState::new(alloc);
+    let registered = reserve(&none, Actor::Nexus(2), 0x00, 0, 0, 0, 0xa1)?;
+    let reserved = reserve(
+        &registered.reservations,
+        Actor::Nexus(2),
+        0x01,
+        0,
+        1,
+        0xa1,
+        0,
+    )?;
+    if !matches!(&reserved.answer, Answer::Done) {
+        return Err(Fail::new("the unit is not reserved"));
+    }
+    Ok(reserved.reservations)
+}
+
+/// Others may read, and not write; a token may be redeemed, and the pump goes on.
+#[test]
+fn a_reservation_bars_writes(rt: HostRuntime) -> Result<(), Fail> {
+    let unit = reserved(rt.alloc())?;
+    let write = write(&rt, 0, 0x11)?;
+    assert!(rt; bars(&unit, Actor::Nexus(1), &write) && !bars(&unit, Actor::Nexus(2), &write));
+    assert!(rt; !bars(&unit, Actor::Nexus(1), &read(1)));
+    assert!(rt; !bars(&unit, Actor::Nexus(1), &redeem(rt.alloc(), &[0; 512], 0)?));
+    assert!(rt; !bars(&unit, Actor::Pump(0), &Act::Pump));
+    let refused = reserve(&unit, Actor::Nexus(1), 0x03, 0, 0, 0xa1, 0)?;
+    assert!(rt; matches!(&refused.answer, Answer::Conflict));
+    let keys = answer_keys(&unit)?;
+    assert!(rt; matches!(&keys, Answer::Keys { generation: 1, keys } if keys.len() == 1));
+    assert!(rt;
+        matches!(
+            &answer_holder(&unit),
+            Answer::Holder {
+                generation: 1,
+                holder: Some(_),
+            }
+        )
+    );
+    Ok(())
+}
+
+#[test]
+fn keys_are_copied(rt: HostRuntime) -> Result<(), Fail> {
+    let told = Answer::Keys {
+        generation: 3,
+        keys: KeyList::copy(rt.alloc(), &[0xa1, 0xb2])?,
+    };
+    let told = told.copy(rt.alloc())?;
+    assert!(rt; matches!(&told, Answer::Keys { generation: 3, keys } if keys.len() == 2));
     Ok(())
 }
 
@@ -260,6 +335,7 @@ fn laws_can_be_called(rt: HostRuntime) -> Result<(), Fail> {
     locality_law(&config, &history, 0);
     kind_law(&config, &history, 0);
     refused_law(&config, &history, 0);
+    reservation_law(&config, &history, 0);
     write_law(&config, &history, 0);
     fold_law(
         &config,

@@ -19,7 +19,7 @@ use Rattle.unit_gate.specs.declared.recorded_unit.ClosedUnit.{ClosedUnit}
 
 module _ {R : Type 0} (facts : R → RecorderFacts) (fits : R → Entry → Type 0) (config : Configuration) (entries : List Entry) where
   count-is : (unit : ℕ) (opening : RecorderFacts) (history : List Entry) (left : ClosedUnit R) → on unit entries ≡ history
-      → IsLeftOf facts fits (record { config = config; unit = unit; opening = opening }) history left → left.count ≡ count_of config entries unit
+      → IsLeftOf facts fits (record { config = config; unit = unit; opening = opening; folded = 0 }) history left → left.count ≡ count_of config entries unit
   count-is unit opening history left is l =
       let past : past_of config unit history ≡ past_of config unit entries = ap (past_of config unit) (sym is) ∙ past_of-on config unit entries in
       let steps : left.count.steps ≡ length (on unit entries) = l.steps ∙ ap (λ (h : List Entry). length h) (sym is) in
@@ -40,7 +40,7 @@ module _ {R : Type 0} (facts : R → RecorderFacts) (fits : R → Entry → Type
   counts-from n (r ∷ rs) (g ∷ gs) [] us kins left parts = absurd left
   counts-from n (r ∷ rs) (g ∷ gs) (h ∷ hs) [] kins left parts = absurd left
   counts-from n (r ∷ rs) (g ∷ gs) (h ∷ hs) (x ∷ us) kins left parts =
-      let kin : g.kin ≡ Some (record { config = config; unit = n; opening = r }) = cc in
+      let kin : g.kin ≡ Some (record { config = config; unit = n; opening = r; folded = 0 }) = cc in
       let rest : map (λ (g : UnitGate). g.kin) gs ≡ kins_from config (suc n) rs = cc in
       let one : n + 0 ≡ n = omega arith in
       let here : on n entries ≡ h = ap (λ k. on k entries) (sym one) ∙ parts 0 in

@@ -59,8 +59,8 @@ module _ {R : Type 0} (facts : R → RecorderFacts) (fits : R → Entry → Type
     pub at_gate : slice_get gates u ≡ Some gate
     pub at_history : slice_get histories u ≡ Some history
     pub at_left : slice_get units u ≡ Some left
-    pub kin : gate.kin ≡ Some (record { config = config; unit = n + u; opening = opening })
-    pub left_of : IsLeftOf facts fits (record { config = config; unit = n + u; opening = opening }) history left
+    pub kin : gate.kin ≡ Some (record { config = config; unit = n + u; opening = opening; folded = 0 })
+    pub left_of : IsLeftOf facts fits (record { config = config; unit = n + u; opening = opening; folded = 0 }) history left
 
   left-at : (n : ℕ) (rs : List RecorderFacts) (gs : List UnitGate) (hs : List (List Entry)) (us : List (ClosedUnit R)) (u : ℕ)
       → map (λ (g : UnitGate). g.kin) gs ≡ kins_from config n rs → AreLeftOf facts fits gs hs us → u < length rs → LeftAt n rs gs hs us u
@@ -69,9 +69,9 @@ module _ {R : Type 0} (facts : R → RecorderFacts) (fits : R → Entry → Type
   left-at n (r ∷ rs) (g ∷ gs) [] us u kins left low = absurd left
   left-at n (r ∷ rs) (g ∷ gs) (h ∷ hs) [] u kins left low = absurd left
   left-at n (r ∷ rs) (g ∷ gs) (h ∷ hs) (x ∷ us) zero kins left low =
-      let here : g.kin ≡ Some (record { config = config; unit = n; opening = r }) = cc in
+      let here : g.kin ≡ Some (record { config = config; unit = n; opening = r; folded = 0 }) = cc in
       let same : n ≡ n + 0 = omega arith in
-      let kin : g.kin ≡ Some (record { config = config; unit = n + 0; opening = r }) = here ∙ ap (λ k. Some (record { config = config; unit = k; opening = r })) same in
+      let kin : g.kin ≡ Some (record { config = config; unit = n + 0; opening = r; folded = 0 }) = here ∙ ap (λ k. Some (record { config = config; unit = k; opening = r; folded = 0 })) same in
       record {
         opening = r;
         gate = g;
@@ -97,8 +97,8 @@ module _ {R : Type 0} (facts : R → RecorderFacts) (fits : R → Entry → Type
         at_gate = l.at_gate;
         at_history = l.at_history;
         at_left = l.at_left;
-        kin = l.kin ∙ ap (λ k. Some (record { config = config; unit = k; opening = l.opening })) same;
-        left_of = subst (λ k. IsLeftOf facts fits (record { config = config; unit = k; opening = l.opening }) l.history l.left) same l.left_of;
+        kin = l.kin ∙ ap (λ k. Some (record { config = config; unit = k; opening = l.opening; folded = 0 })) same;
+        left_of = subst (λ k. IsLeftOf facts fits (record { config = config; unit = k; opening = l.opening; folded = 0 }) l.history l.left) same l.left_of;
       }
 
   module _ (recorders : List RecorderFacts) (gates : List UnitGate) (histories : List (List Entry)) (units : List (ClosedUnit R))
@@ -106,23 +106,23 @@ module _ {R : Type 0} (facts : R → RecorderFacts) (fits : R → Entry → Type
     pub at : (u : ℕ) → u < length recorders → LeftAt 0 recorders gates histories units u
     at u low = left-at 0 recorders gates histories units u kins left low
 
-    high-at : (u : ℕ) (low : u < length recorders) → slice_index_or (marks_left facts fits units) u [] ≡ (facts (at u low).left.recorder).faults ∷ (at u low).left.folded ∷ []
+    high-at : (u : ℕ) (low : u < length recorders) → slice_index_or (marks_left facts fits units) u [] ≡ (facts (at u low).left.recorder).faults ∷ (at u low).left.folded ∷ (at u low).left.late ∷ []
     high-at u low =
         let l = at u low in
-        get-or (marks_left facts fits units) u ((facts l.left.recorder).faults ∷ l.left.folded ∷ []) []
-        (get-map (λ (x : ClosedUnit R). (facts x.recorder).faults ∷ x.folded ∷ []) units u l.left l.at_left)
+        get-or (marks_left facts fits units) u ((facts l.left.recorder).faults ∷ l.left.folded ∷ l.left.late ∷ []) []
+        (get-map (λ (x : ClosedUnit R). (facts x.recorder).faults ∷ x.folded ∷ x.late ∷ []) units u l.left l.at_left)
 
-    low-at : (u : ℕ) (low : u < length recorders) → slice_index_or (opening_marks recorders) u [] ≡ (at u low).opening.faults ∷ 0 ∷ []
+    low-at : (u : ℕ) (low : u < length recorders) → slice_index_or (opening_marks recorders) u [] ≡ (at u low).opening.faults ∷ 0 ∷ 0 ∷ []
     low-at u low =
         let l = at u low in
-        get-or (opening_marks recorders) u (l.opening.faults ∷ 0 ∷ []) [] (get-map (λ (r : RecorderFacts). r.faults ∷ 0 ∷ []) recorders u l.opening l.at_opening)
+        get-or (opening_marks recorders) u (l.opening.faults ∷ 0 ∷ 0 ∷ []) [] (get-map (λ (r : RecorderFacts). r.faults ∷ 0 ∷ 0 ∷ []) recorders u l.opening l.at_opening)
 
     has-none : (before : PassView) (u : ℕ) (low : u < length recorders) → before.gates ≡ gates → HasNone before.gates u → (at u low).opening.absent ≡ true
     has-none before u low same none =
         let l = at u low in
         let gate : none.gate ≡ l.gate = get-same gates u none.gate l.gate (subst (λ g. slice_get g u ≡ Some none.gate) same none.at) l.at_gate in
-        let kins : Some none.kin ≡ Some (record { config = config; unit = 0 + u; opening = l.opening }) = sym none.has ∙ ap (λ (g : UnitGate). g.kin) gate ∙ l.kin in
-        let kin : none.kin ≡ record { config = config; unit = 0 + u; opening = l.opening } = cc in
+        let kins : Some none.kin ≡ Some (record { config = config; unit = 0 + u; opening = l.opening; folded = 0 }) = sym none.has ∙ ap (λ (g : UnitGate). g.kin) gate ∙ l.kin in
+        let kin : none.kin ≡ record { config = config; unit = 0 + u; opening = l.opening; folded = 0 } = cc in
         sym (ap (λ (k : UnitKin). k.opening.absent) kin) ∙ none.absent
 
     -- so many entries may be written out

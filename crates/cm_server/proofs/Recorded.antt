@@ -62,10 +62,10 @@ module _ {R : Type 0} (facts : R → RecorderFacts) (fits : R → Entry → Type
   -- ---- one unit
 
   -- so many entries of its history were recorded in all
-  pub recorded-kept : (kin : UnitKin) (history : List Entry) (left : ClosedUnit R) (after : RecorderFacts) (here : ℕ) → IsLeftOf facts fits kin history left
+  pub recorded-kept : (kin : UnitKin) (history : List Entry) (left : ClosedUnit R) (after : RecorderFacts) (here : ℕ) → kin.folded ≡ 0 → IsLeftOf facts fits kin history left
       → kin.opening.faults ≤ (facts left.recorder).faults → (h : HasRecordedKept (facts left.recorder) after left.history.entries here)
       → HasRecorded kin.opening after history (left.folded + h.done) × (length history - (left.folded + h.done) ≡ here)
-  recorded-kept kin history left after here l low h =
+  recorded-kept kin history left after here new l low h =
       let kept : length left.history.entries ≡ length history - left.folded = ap (λ (es : List Entry). length es) l.kept ∙ length-drop left.folded history in
       let few = l.few in
       let all = h.all in
@@ -77,7 +77,7 @@ module _ {R : Type 0} (facts : R → RecorderFacts) (fits : R → Entry → Type
         record {
           may = record {
             few = omega (arith, kept, few, all);
-            absent = λ gone. (let none = l.unfolded gone in let done = h.none (l.absent ∙ gone) in omega (arith, none, done));
+            absent = λ gone. (let none = l.unfolded gone ∙ new in let done = h.none (l.absent ∙ gone) in omega (arith, none, done));
             whole = λ has. go (h.whole (l.absent ∙ has));
           };
           told = told;
@@ -122,11 +122,11 @@ module _ {R : Type 0} (facts : R → RecorderFacts) (fits : R → Entry → Type
   recorded-from config n before after entries (r ∷ rs) (g ∷ gs) (h ∷ hs) [] zs left kins are kept marks parts old new = absurd are
   recorded-from config n before after entries (r ∷ rs) (g ∷ gs) (h ∷ hs) (u ∷ us) [] left kins are kept marks parts old new = absurd kept
   recorded-from config n before after entries (r ∷ rs) (g ∷ gs) (h ∷ hs) (u ∷ us) (a ∷ zs) left kins are kept marks parts old new =
-      let kin : g.kin ≡ Some (record { config = config; unit = n; opening = r }) = cc in
+      let kin : g.kin ≡ Some (record { config = config; unit = n; opening = r; folded = 0 }) = cc in
       let rest : map (λ (g : UnitGate). g.kin) gs ≡ kins_from config (suc n) rs = cc in
       let l = subst (λ (k : Option UnitKin). IfSome k (λ kin. IsLeftOf facts fits kin h u)) kin are.0 in
       let low = marks 0 0 in
-      let one = recorded-kept (record { config = config; unit = n; opening = r }) h u (facts a.recorder) kept.0 l low kept.4 in
+      let one = recorded-kept (record { config = config; unit = n; opening = r; folded = 0 }) h u (facts a.recorder) kept.0 refl l low kept.4 in
       let same : n + 0 ≡ n = omega arith in
       let here : on n entries ≡ h = ap (λ k. on k entries) (sym same) ∙ parts 0 in
       let first : slice_get before n ≡ Some r = ap (slice_get before) (sym same) ∙ old 0 r refl in
@@ -197,7 +197,7 @@ module _ {R : Type 0} (facts : R → RecorderFacts) (fits : R → Entry → Type
   -- ---- what is left may be recorded
 
   left-writable : (config : Configuration) (n : ℕ) (opening : RecorderFacts) (history : List Entry) (u : ClosedUnit R) (entries : List Entry) → IsLegal config entries → on n entries ≡ history
-      → IsLeftOf facts fits (record { config = config; unit = n; opening = opening }) history u → AreWritable fits u
+      → IsLeftOf facts fits (record { config = config; unit = n; opening = opening; folded = 0 }) history u → AreWritable fits u
   left-writable config n opening history u entries legal is l = record {
     first = l.fits_next;
     short = subst (All (λ (e : Entry). HasShortLists e.act)) (sym l.kept)
@@ -215,7 +215,7 @@ module _ {R : Type 0} (facts : R → RecorderFacts) (fits : R → Entry → Type
   writable-from config n entries rs (g ∷ gs) (h ∷ hs) [] legal kins are parts = absurd are
   writable-from config n entries [] (g ∷ gs) (h ∷ hs) (u ∷ us) legal kins are parts = cc
   writable-from config n entries (r ∷ rs) (g ∷ gs) (h ∷ hs) (u ∷ us) legal kins are parts =
-      let kin : g.kin ≡ Some (record { config = config; unit = n; opening = r }) = cc in
+      let kin : g.kin ≡ Some (record { config = config; unit = n; opening = r; folded = 0 }) = cc in
       let rest : map (λ (g : UnitGate). g.kin) gs ≡ kins_from config (suc n) rs = cc in
       let l = subst (λ (k : Option UnitKin). IfSome k (λ kin. IsLeftOf facts fits kin h u)) kin are.0 in
       let same : n + 0 ≡ n = omega arith in (

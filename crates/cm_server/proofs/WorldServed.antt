@@ -1,6 +1,6 @@
 -- A world was served, settled and closed
-use Rattle.std.proofs.Common.{◌≡◌, ℕ, List, [], length, refl, ap, sym, ◌∙◌, subst, arith}
-use Rattle.std.specs.Prelude.{Option}
+use Rattle.std.proofs.Common.{◌≡◌, ℕ, List, [], ◌∷◌, length, refl, ap, sym, ◌∙◌, subst, arith}
+use Rattle.std.specs.Prelude.{Option, map}
 use Rattle.std.proofs.lemmas.List.{length-map}
 use Rattle.cm_base.specs.Configuration.{Configuration}
 use Rattle.cm_base.specs.Listening.{Gone}
@@ -25,7 +25,8 @@ use Rattle.cm_server.proofs.Owned.{closed-for}
 use Rattle.cm_server.proofs.Runs.{links-of}
 use Rattle.cm_server.proofs.Trailing.{FoldsSo}
 use Rattle.merged_history.specs.Merged.{merged}
-use Rattle.nexus.specs.Closing.{AreLeftOf, WasClosed, marks_left}
+use Rattle.merged_history.specs.Passes.{IsWhole}
+use Rattle.nexus.specs.Closing.{AreLeftOf, AreNone, WasClosed, marks_left}
 use Rattle.nexus.specs.Opening.{IsBegun}
 use Rattle.nexus.specs.Roots.{RootView, AreAtMost}
 use Rattle.nexus.specs.Worlds.{WorldView}
@@ -62,6 +63,10 @@ served-as step config Legal Folds opening first Shows coming rest before after R
   links = s.links;
 }
 
+all-none : (recorders : List RecorderFacts) → AreNone (map (λ (r : RecorderFacts). 0) recorders)
+all-none [] = tt
+all-none (r ∷ rs) = (refl, all-none rs)
+
 module _ {R : Type 0} (facts : R → RecorderFacts) (fits : R → Entry → Type 0) (stays : StaysJudged read_request) (world : WorldView) (Shows : ℕ → Type 0) (first : ℕ)
     (recorders : List RecorderFacts) (zero one two : RootView) (coming rest : Option (List (List ℕ))) (before after : Option (List Gone)) (ends : List SessionEnd)
     (units : List (ClosedUnit R)) (kept : Record) (begun : IsBegun world.config recorders world zero) (each_unit : length recorders ≡ length world.config.units)
@@ -70,11 +75,18 @@ module _ {R : Type 0} (facts : R → RecorderFacts) (fits : R → Entry → Type
   abbrev entries : List Entry
   entries = merged closed.histories
 
+  -- no unit had an entry at the opening
+  none-opened : AreNone two.openings
+  none-opened = subst AreNone (sym (settled.joined.openings ∙ served.joined.openings ∙ ap (λ (r : RootView). r.openings) begun.root_is)) (all-none recorders)
+
+  whole : IsWhole two.config closed.histories two.joined entries
+  whole = closed.whole none-opened
+
   is-closed : IsClosedWorld world zero Shows first one.seen entries (marks_left facts fits units) served.spare served.sessions served.workers settled.lasts
   is-closed =
       closes world Shows first served.made zero one two closed.histories (marks_left facts fits units) served.spare served.sessions served.workers settled.lasts
       served.are served.spare_are served.workers_are settled.are settled.each_unit served.joined settled.joined (ap (λ (r : RootView). r.joined) begun.root_is)
-      settled.ready.of.config closed.longer closed.whole closed.marks
+      settled.ready.of.config closed.longer whole closed.marks
 
   left-of : AreLeftOf facts fits world.gates closed.histories units
   left-of = subst (λ g. AreLeftOf facts fits g closed.histories units) settled.ready.of.gates closed.left
@@ -107,12 +119,12 @@ module _ {R : Type 0} (facts : R → RecorderFacts) (fits : R → Entry → Type
           refl,
           record {
             histories = closed.histories;
-            parts = closed.whole.parts;
+            parts = whole.parts;
             kins = begun.gates;
             each_unit = each_unit;
             left = left-of;
             marks = marks-of;
-            counts = counts-are facts fits world.config entries recorders world.gates closed.histories units begun.gates each_unit left-of closed.whole.parts;
+            counts = counts-are facts fits world.config entries recorders world.gates closed.histories units begun.gates each_unit left-of whole.parts;
           },
         );
         links = subst (λ (l : List SessionEnd). IfTold coming rest before after (λ c r b a. AreServed step world.config (IsLegal world.config) Folds [] entries first c r b a l))

@@ -229,9 +229,9 @@ fn serve_recorded<
     ensures write { IfOk result (λ s. s.status ≡ Status.WriteFault → Faulted (O.write_faults output.old) (O.write_faults output.new)) }
     ensures count { IfOk result (λ s. length s.recorders ≡ length recorders.items) }
     ensures recorded { IfOk result (λ s. IfReported s.status (WasServed step config (IsLegal config)
-        (FoldsBy (map (facts R.recorded R.record_faults R.absent) recorders.items) (map (facts R.recorded R.record_faults R.absent) s.recorders))
+        (FoldsBy (map (facts R.recorded R.record_faults R.absent R.front) recorders.items) (map (facts R.recorded R.record_faults R.absent R.front) s.recorders))
         [] 0 (C.shows clock) (L.coming listener.old) (L.coming listener.new) (L.ended listener.old) (L.ended listener.new)
-        (ReportsKept (map (facts R.recorded R.record_faults R.absent) recorders.items) (map (facts R.recorded R.record_faults R.absent) s.recorders)
+        (ReportsKept (map (facts R.recorded R.record_faults R.absent R.front) recorders.items) (map (facts R.recorded R.record_faults R.absent R.front) s.recorders)
         s.status count config (O.taken output.old) (O.taken output.new)))) }
 {
     let mut recorders = recorders;
@@ -286,9 +286,9 @@ pub fn serve_with<
     ensures count { IfReported result.status (length result.recorders ≡ 16) }
     ensures served { IfReported result.status ((n : ℕ) × (c : Configuration) × AreRecordWords words.now n × (read_config config.now ≡ Ok c)
         × WasServed step c (IsLegal c)
-        (FoldsBy (map (facts R.recorded R.record_faults R.absent) recorders) (map (facts R.recorded R.record_faults R.absent) result.recorders))
+        (FoldsBy (map (facts R.recorded R.record_faults R.absent R.front) recorders) (map (facts R.recorded R.record_faults R.absent R.front) result.recorders))
         [] 0 (C.shows clock) (L.coming listener.old) (L.coming listener.new) (L.ended listener.old) (L.ended listener.new)
-        (ReportsKept (map (facts R.recorded R.record_faults R.absent) recorders) (map (facts R.recorded R.record_faults R.absent) result.recorders)
+        (ReportsKept (map (facts R.recorded R.record_faults R.absent R.front) recorders) (map (facts R.recorded R.record_faults R.absent R.front) result.recorders)
         result.status n c (O.taken output.old) (O.taken output.new))) }
 {
     let Some(count) = sessions_asked_with_folder(words) else {

@@ -232,7 +232,7 @@ pub(crate) fn serve_world<
     ensures { (recorders : List RecorderFacts) → IsBegun config recorders world root → length recorders ≡ length config.units
         → IfOk result (λ left. (ends : List SessionEnd)
         × AreAccepted count (L.accept_faults listener.old) (L.accept_faults listener.new) ends left.counts left.accept_failed
-        × IsClosed (facts R.recorded R.record_faults R.absent) R.fits config recorders (C.shows clock) (L.coming listener.old) (L.coming listener.new)
+        × IsClosed (facts R.recorded R.record_faults R.absent R.front) R.fits config recorders (C.shows clock) (L.coming listener.old) (L.coming listener.new)
         (L.ended listener.old) (L.ended listener.new) ends left.units.items) }
 {
     let mut root = root;

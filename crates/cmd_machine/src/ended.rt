@@ -14,6 +14,8 @@ use scsi_sense::{ParamFault, Sense};
 pub enum Ended {
     /// GOOD without data.
     Good,
+    /// RESERVATION CONFLICT.
+    Conflict,
     Refused(Sense),
 }
 
@@ -34,6 +36,7 @@ impl Ended {
     {
         match answer {
             Answer::Refused(sense) => Ended::Refused(sense),
+            Answer::Conflict => Ended::Conflict,
             _ => Ended::Good,
         }
     }
@@ -44,6 +47,7 @@ impl Ended {
     {
         Step::Done(match self {
             Ended::Good => Reply::Good(Payload::new()),
+            Ended::Conflict => Reply::Conflict,
             Ended::Refused(sense) => Reply::Check(sense),
         })
     }

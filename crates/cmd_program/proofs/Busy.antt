@@ -4,6 +4,7 @@ use Rattle.std.specs.Prelude.{fold, cond, Bool, Option, Some, None, Result, Ok, 
 use Rattle.scsi_sense.specs.Codes.{logical_unit_not_supported}
 use Rattle.block_params.specs.ListsRead.{unmap_read, populate_read, write_token_read}
 use Rattle.seg_parse.specs.ListRead.{lid1_read}
+use Rattle.pr_keys.specs.Bytes.{out_list_read}
 use Rattle.cm_base.specs.Configuration.{Configuration}
 use Rattle.cm_base.specs.Units.{is_configured}
 use Rattle.scsi_sense.specs.SenseCode.{SenseCode}
@@ -16,7 +17,7 @@ use Rattle.cmd_program.specs.Stepping.{gave_up}
 use Rattle.cmd_program.proofs.Stepping.{IsBusyAtEnd, EndsBusy}
 use Rattle.cmd_program.specs.Program.{Ask, Program, Ends, Asks, GivesUp, next, moved, give_up, go_on_by, refused, done}
 use Rattle.cmd_program.specs.Judging.{step, program, judged_cdb, judged_out}
-use Rattle.cmd_program.proofs.Open.{IsOpen, read-open, unless_refused-open, map-open, inquiry-open, unmap-open}
+use Rattle.cmd_program.proofs.Open.{IsOpen, read-open, unless_refused-open, map-open, inquiry-open, unmap-open, reserve_in-open, reserve_out-open}
 use Rattle.cmd_program.proofs.OpenTokens.{populate-open, report-open, information-open, write-open}
 use Rattle.cmd_program.proofs.OpenCopies.{copy-open, extended-open}
 
@@ -101,6 +102,9 @@ cdb-open config r (Ok (Cdb.TokenInformation id allocation)) = out-open config r 
 cdb-open config r (Ok (Cdb.ExtendedCopy length)) =
     out-open config r (Cdb.ExtendedCopy length) _ (extended-open config r.unit length (lid1_read r.out))
 cdb-open config r (Ok (Cdb.CopyStatus1 id allocation)) = out-open config r (Cdb.CopyStatus1 id allocation) _ (copy-open allocation)
+cdb-open config r (Ok (Cdb.PersistentIn action allocation)) = out-open config r (Cdb.PersistentIn action allocation) _ (reserve_in-open r.unit action allocation)
+cdb-open config r (Ok (Cdb.PersistentOut action scope kind length)) =
+    out-open config r (Cdb.PersistentOut action scope kind length) _ (reserve_out-open r.unit action scope kind (out_list_read r.out))
 
 pub program-open : (config : Configuration) (r : Request) → IsOpen (program config r)
 program-open config r = go (is_configured config r.unit)

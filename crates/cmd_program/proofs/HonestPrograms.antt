@@ -16,6 +16,9 @@ use Rattle.block_params.specs.declared.lists.WriteList.{WriteList}
 use Rattle.block_params.specs.ListsRead.{unmap_read, populate_read, write_token_read}
 use Rattle.seg_parse.specs.declared.list.CopyList.{CopyList}
 use Rattle.seg_parse.specs.ListRead.{lid1_read}
+use Rattle.pr_keys.specs.declared.lists.OutList.{OutList}
+use Rattle.pr_keys.specs.declared.refused.Refusal.{Refusal}
+use Rattle.pr_keys.specs.Bytes.{out_list_read}
 use Rattle.rod_token.specs.declared.kind.TokenKind.{TokenKind}
 use Rattle.rod_token.specs.TokenText.{classify}
 use Rattle.cm_history.specs.Bounds.{piece_blocks}
@@ -25,7 +28,7 @@ use Rattle.cm_history.specs.declared.answer.OpState.{OpState}
 use Rattle.cm_history.specs.Forms.{HasKind}
 use Rattle.cmd_program.specs.declared.step.Outcome.{Outcome}
 use Rattle.cmd_program.specs.Program.{Program, Ends, Asks, GivesUp, good, refused, done, ask_then, unless_refused, next, moved}
-use Rattle.cmd_program.specs.SingleActs.{told_read, told_map, told_report, told_token, told_copy, inquiry, unmap, page_told, populate}
+use Rattle.cmd_program.specs.SingleActs.{told_read, told_map, told_report, told_token, told_copy, told_keys, told_holder, inquiry, unmap, page_told, populate, reserve_in, reserve_out}
 use Rattle.cm_history.specs.Room.{pieces}
 use Rattle.cmd_program.specs.TokenWrite.{TokenWrite, wanted, delete_by, deleting, advancing, started, starting, rod_part, redeemed, zero_rod, write_by, write_using_token}
 use Rattle.cmd_program.specs.ExtendedCopy.{Move, Copying, Tally, close_as, end_state, left_of, copy_reply, closing, segment_done, piece_put, unless_ended, putting, captured, copying, fresh, opening, copy_by, copy_read, copy_fault, moves_of, extended_copy}
@@ -43,15 +46,18 @@ IsHonest (GivesUp last reply) = ⊥
 read-honest : (lba count : ℕ) (a : Answer) → HasKind (Act.Read lba count) a → IsHonest (told_read a)
 read-honest lba count (Answer.Blocks list) k = tt
 read-honest lba count (Answer.Refused sense) k = tt
+read-honest lba count Answer.Conflict k = tt
 read-honest lba count _ k = absurd k
 
 unless_refused-honest : (p : Program) (a : Answer) → IsHonest p → IsHonest (unless_refused p a)
 unless_refused-honest p (Answer.Refused sense) h = tt
+unless_refused-honest p Answer.Conflict h = tt
 unless_refused-honest p _ h = h
 
 map-honest : (lba allocation : ℕ) (a : Answer) → HasKind (Act.MapStatus lba) a → IsHonest (told_map allocation a)
 map-honest lba allocation (Answer.Status runs) k = tt
 map-honest lba allocation (Answer.Refused sense) k = tt
+map-honest lba allocation Answer.Conflict k = tt
 map-honest lba allocation _ k = absurd k
 
 page-honest : (allocation : ℕ) (page : Option (List ℕ)) → IsHonest (page_told allocation page)
@@ -77,17 +83,41 @@ populate-honest unit id (Ok list) = λ a k. unless_refused-honest done a tt
 report-honest : (id allocation : ℕ) (a : Answer) → HasKind (Act.Report id) a → IsHonest (told_report allocation a)
 report-honest id allocation (Answer.Report report) k = tt
 report-honest id allocation (Answer.Refused sense) k = tt
+report-honest id allocation Answer.Conflict k = cc
 report-honest id allocation _ k = absurd k
 
 information-honest : (config : Configuration) (id unit allocation : ℕ) (a : Answer) → HasKind (Act.Report id) a → IsHonest (told_token config unit allocation a)
 information-honest config id unit allocation (Answer.Report report) k = tt
 information-honest config id unit allocation (Answer.Refused sense) k = tt
+information-honest config id unit allocation Answer.Conflict k = cc
 information-honest config id unit allocation _ k = absurd k
 
 recall-honest : (id allocation : ℕ) (a : Answer) → HasKind (Act.Recall id) a → IsHonest (told_copy allocation a)
 recall-honest id allocation (Answer.Copy result) k = tt
 recall-honest id allocation (Answer.Refused sense) k = tt
+recall-honest id allocation Answer.Conflict k = cc
 recall-honest id allocation _ k = absurd k
+
+keys-honest : (allocation : ℕ) (a : Answer) → HasKind Act.PrKeys a → IsHonest (told_keys allocation a)
+keys-honest allocation (Answer.Keys generation keys) k = tt
+keys-honest allocation Answer.Conflict k = cc
+keys-honest allocation _ k = absurd k
+
+holder-honest : (allocation : ℕ) (a : Answer) → HasKind Act.PrHolder a → IsHonest (told_holder allocation a)
+holder-honest allocation (Answer.Holder generation holder) k = tt
+holder-honest allocation Answer.Conflict k = cc
+holder-honest allocation _ k = absurd k
+
+reserve_in-honest : (unit action allocation : ℕ) → IsHonest (reserve_in unit action allocation)
+reserve_in-honest unit action allocation = go (action == 0)
+  where
+    go : (b : Bool) → IsHonest (cond b (ask_then unit Act.PrKeys (told_keys allocation)) (ask_then unit Act.PrHolder (told_holder allocation)))
+    go true = keys-honest allocation
+    go false = holder-honest allocation
+
+reserve_out-honest : (unit action scope kind : ℕ) (list : Result OutList SenseCode) → IsHonest (reserve_out unit action scope kind list)
+reserve_out-honest unit action scope kind (Err sense) = tt
+reserve_out-honest unit action scope kind (Ok list) = λ a k. unless_refused-honest done a tt
 
 -- ---- WRITE USING TOKEN
 
@@ -103,16 +133,19 @@ deleting-honest w = delete-honest w.list.delete (classify w.list.token)
 abbrev IsProgress : Answer → Type 0
 IsProgress (Answer.Progress state count) = Unit {0}
 IsProgress (Answer.Refused sense) = Unit {0}
+IsProgress Answer.Conflict = Unit {0}
 IsProgress _ = ⊥
 
 advance-progress : (id : ℕ) (a : Answer) → HasKind (Act.Advance id) a → IsProgress a
 advance-progress id (Answer.Progress state count) k = tt
 advance-progress id (Answer.Refused sense) k = tt
+advance-progress id Answer.Conflict k = cc
 advance-progress id _ k = absurd k
 
 start-progress : (id : ℕ) (background : Bool) (ranges : List Range) (rod : HeldBlocks) (a : Answer) → HasKind (Act.Start id background ranges rod) a → IsProgress a
 start-progress id background ranges rod (Answer.Progress state count) k = tt
 start-progress id background ranges rod (Answer.Refused sense) k = tt
+start-progress id background ranges rod Answer.Conflict k = tt
 start-progress id background ranges rod _ k = absurd k
 
 advancing-honest : (w : TokenWrite) (left : ℕ) (a : Answer) → IsProgress a → IsHonest (advancing w left a)
@@ -122,6 +155,7 @@ advancing-honest w left (Answer.Progress OpState.Terminated count) k = tt
 advancing-honest w zero (Answer.Progress OpState.Running count) k = tt
 advancing-honest w (suc left) (Answer.Progress OpState.Running count) k = λ a j. advancing-honest w left a (advance-progress w.id a j)
 advancing-honest w left (Answer.Refused sense) k = tt
+advancing-honest w left Answer.Conflict k = tt
 advancing-honest w left _ k = absurd k
 
 started-honest : (w : TokenWrite) (immed : Bool) (a : Answer) → IsProgress a → IsHonest (started w immed a)
@@ -138,6 +172,7 @@ redeemed-honest w (Answer.Rod rod) k = go (nat_lt (length rod.items) (w.list.off
     go true = tt
     go false = starting-honest w (rod_part w rod)
 redeemed-honest w (Answer.Refused sense) k = tt
+redeemed-honest w Answer.Conflict k = cc
 redeemed-honest w _ k = absurd k
 
 kind-honest : (config : Configuration) (w : TokenWrite) (kind : TokenKind) → IsHonest (write_by config w kind)
@@ -156,11 +191,12 @@ write-honest config unit id (Ok list) = kind-honest config (record { unit = unit
 
 -- ---- EXTENDED COPY
 
-reply-honest : (ended_by : Option SenseCode) → IsHonest (copy_reply ended_by)
+reply-honest : (ended_by : Option Refusal) → IsHonest (copy_reply ended_by)
 reply-honest None = tt
-reply-honest (Some sense) = tt
+reply-honest (Some Refusal.Conflict) = tt
+reply-honest (Some (Refusal.Refused sense)) = tt
 
-closing-honest : (c : Copying) (t : Tally) (ended_by : Option SenseCode) → IsHonest (closing c t ended_by)
+closing-honest : (c : Copying) (t : Tally) (ended_by : Option Refusal) → IsHonest (closing c t ended_by)
 closing-honest c t ended_by = go c.opened
   where
     go : (opened : Bool) → IsHonest (cond opened (Asks (close_as c t (end_state ended_by)) (left_of c t) (unless_refused (copy_reply ended_by))) (copy_reply ended_by))
@@ -168,7 +204,8 @@ closing-honest c t ended_by = go c.opened
     go false = reply-honest ended_by
 
 ended-honest : (c : Copying) (t : Tally) (rest : Program) (a : Answer) → IsHonest rest → IsHonest (unless_ended c t rest a)
-ended-honest c t rest (Answer.Refused sense) h = closing-honest c t (Some sense)
+ended-honest c t rest (Answer.Refused sense) h = closing-honest c t (Some (Refusal.Refused sense))
+ended-honest c t rest Answer.Conflict h = closing-honest c t (Some Refusal.Conflict)
 ended-honest c t rest _ h = h
 
 putting-honest : (c : Copying) (m : Move) (list : HeldBlocks) (rest : Tally → Program) (left at : ℕ) (t : Tally)
@@ -181,7 +218,8 @@ putting-honest c m list rest (suc left) at t h =
 captured-honest : (c : Copying) (m : Move) (rest : Tally → Program) (t : Tally) (a : Answer) → HasKind (Act.Capture m.from m.count) a
     → ((after : Tally) → IsHonest (rest after)) → IsHonest (captured c m rest t a)
 captured-honest c m rest t (Answer.Blocks list) k h = putting-honest c m list rest (pieces m.count) 0 t h
-captured-honest c m rest t (Answer.Refused sense) k h = closing-honest c t (Some sense)
+captured-honest c m rest t (Answer.Refused sense) k h = closing-honest c t (Some (Refusal.Refused sense))
+captured-honest c m rest t Answer.Conflict k h = closing-honest c t (Some Refusal.Conflict)
 captured-honest c m rest t _ k h = absurd k
 
 copying-honest : (c : Copying) (ms : List Move) (t : Tally) → IsHonest (copying c ms t)
@@ -240,6 +278,9 @@ cdb-honest config r (Ok (Cdb.TokenInformation id allocation)) = out-honest confi
 cdb-honest config r (Ok (Cdb.ExtendedCopy length)) =
     out-honest config r (Cdb.ExtendedCopy length) _ (extended-honest config r.unit length (lid1_read r.out))
 cdb-honest config r (Ok (Cdb.CopyStatus1 id allocation)) = out-honest config r (Cdb.CopyStatus1 id allocation) _ (recall-honest id allocation)
+cdb-honest config r (Ok (Cdb.PersistentIn action allocation)) = out-honest config r (Cdb.PersistentIn action allocation) _ (reserve_in-honest r.unit action allocation)
+cdb-honest config r (Ok (Cdb.PersistentOut action scope kind length)) =
+    out-honest config r (Cdb.PersistentOut action scope kind length) _ (reserve_out-honest r.unit action scope kind (out_list_read r.out))
 
 pub program-honest : (config : Configuration) (r : Request) → IsHonest (program config r)
 program-honest config r = go (is_configured config r.unit)

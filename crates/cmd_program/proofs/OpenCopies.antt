@@ -8,6 +8,7 @@ use Rattle.lba_ranges.specs.HeldBlocks.{HeldBlocks}
 use Rattle.cm_history.specs.Bounds.{piece_blocks}
 use Rattle.cm_history.specs.declared.act.Act.{Act}
 use Rattle.cm_history.specs.declared.answer.Answer.{Answer}
+use Rattle.pr_keys.specs.declared.refused.Refusal.{Refusal}
 use Rattle.cmd_program.specs.Program.{Program, Asks, unless_refused}
 use Rattle.cmd_program.specs.SingleActs.{told_copy}
 use Rattle.cm_history.specs.Room.{pieces}
@@ -22,11 +23,12 @@ copy-open allocation _ = tt
 
 -- ---- EXTENDED COPY
 
-reply-open : (ended_by : Option SenseCode) → IsOpen (copy_reply ended_by)
+reply-open : (ended_by : Option Refusal) → IsOpen (copy_reply ended_by)
 reply-open None = tt
-reply-open (Some sense) = tt
+reply-open (Some Refusal.Conflict) = tt
+reply-open (Some (Refusal.Refused sense)) = tt
 
-closing-open : (c : Copying) (t : Tally) (ended_by : Option SenseCode) → IsOpen (closing c t ended_by)
+closing-open : (c : Copying) (t : Tally) (ended_by : Option Refusal) → IsOpen (closing c t ended_by)
 closing-open c t ended_by = go c.opened
   where
     go : (opened : Bool) → IsOpen (cond opened (Asks (close_as c t (end_state ended_by)) (left_of c t) (unless_refused (copy_reply ended_by))) (copy_reply ended_by))
@@ -34,7 +36,8 @@ closing-open c t ended_by = go c.opened
     go false = reply-open ended_by
 
 ended-open : (c : Copying) (t : Tally) (rest : Program) (a : Answer) → IsOpen rest → IsOpen (unless_ended c t rest a)
-ended-open c t rest (Answer.Refused sense) opens = closing-open c t (Some sense)
+ended-open c t rest (Answer.Refused sense) opens = closing-open c t (Some (Refusal.Refused sense))
+ended-open c t rest Answer.Conflict opens = closing-open c t (Some Refusal.Conflict)
 ended-open c t rest _ opens = opens
 
 putting-open : (c : Copying) (m : Move) (list : HeldBlocks) (rest : Tally → Program) (left at : ℕ) (t : Tally)
@@ -47,7 +50,8 @@ putting-open c m list rest (suc left) at t opens =
 captured-open : (c : Copying) (m : Move) (rest : Tally → Program) (t : Tally) (a : Answer)
     → ((after : Tally) → IsOpen (rest after)) → IsOpen (captured c m rest t a)
 captured-open c m rest t (Answer.Blocks list) opens = putting-open c m list rest (pieces m.count) 0 t opens
-captured-open c m rest t (Answer.Refused sense) opens = closing-open c t (Some sense)
+captured-open c m rest t (Answer.Refused sense) opens = closing-open c t (Some (Refusal.Refused sense))
+captured-open c m rest t Answer.Conflict opens = closing-open c t (Some Refusal.Conflict)
 captured-open c m rest t _ opens = tt
 
 copying-open : (c : Copying) (ms : List Move) (t : Tally) → IsOpen (copying c ms t)

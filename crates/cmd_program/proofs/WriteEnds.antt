@@ -10,7 +10,7 @@ use Rattle.cm_base.specs.Units.{unit_of, is_configured}
 use Rattle.lba_ranges.specs.declared.ranges.Range.{Range}
 use Rattle.lba_ranges.specs.Denoted.{blocks_of, is_within}
 use Rattle.lba_ranges.specs.HeldBlocks.{HeldBlocks}
-use Rattle.lba_ranges.specs.Writings.{Held, paired}
+use Rattle.lba_ranges.specs.Writings.{Held}
 use Rattle.lba_ranges.proofs.PublicLaws.{length-blocks_of}
 use Rattle.scsi_sense.specs.SenseCode.{SenseCode}
 use Rattle.scsi_sense.specs.Codes.{logical_unit_not_supported, invalid_field_in_parameter_list, token_unknown, space_allocation_failed, operation_in_progress, lba_out_of_range, insufficient_resources}
@@ -28,6 +28,7 @@ use Rattle.cm_history.specs.declared.answer.Answer.{Answer}
 use Rattle.cm_history.specs.declared.answer.OpState.{OpState}
 use Rattle.cm_history.specs.Deeds.{Deed, same_actor, is_refusal, is_answered}
 use Rattle.cm_history.specs.Operations.{OfToken, list_of, is_failure, is_making, makes_operation}
+use Rattle.cm_history.specs.Reserving.{reservations, bars_act}
 use Rattle.cm_history.specs.Answers.{deed, answer_after, is_busy, is_crowded}
 use Rattle.cm_history.specs.History.{past_of, answer}
 use Rattle.cm_history.specs.Forms.{HasKind}
@@ -221,24 +222,25 @@ module _ (config : Configuration) (nexus : ℕ) (w : TokenWrite) (m : Deed) (rod
 
 -- ---- the Start
 
--- what a Start is answered: a refusal, or how far it has come
-start-cases : (config : Configuration) (unit : ℕ) (h : List Entry) (actor : Actor) (now id : ℕ) (ranges : List Range) (rod : HeldBlocks)
-    → ((sense : SenseCode) × (answer config h unit actor now (Act.Start id false ranges rod) ≡ Answer.Refused sense))
-    ⊎ (answer config h unit actor now (Act.Start id false ranges rod) ≡ Answer.Progress (if length rod.items == 0 then OpState.Done else OpState.Running) 0)
-start-cases config unit h actor now id ranges rod =
-    go (is_busy (past_of config unit h) actor OfToken id) (not (is_within (unit_of config unit).blocks ranges)) (is_crowded (past_of config unit h))
-  where
-    last : Answer
-    last = Answer.Progress (if length rod.items == 0 then OpState.Done else OpState.Running) 0
+-- a refusal, or how far it has come
+abbrev StartCases : HeldBlocks → Answer → Type 0
+StartCases rod a = ((sense : SenseCode) × (a ≡ Answer.Refused sense)) ⊎ ((a ≡ Answer.Conflict) ⊎ (a ≡ Answer.Progress (if length rod.items == 0 then OpState.Done else OpState.Running) 0))
 
-    go : (a b c : Bool)
-        → ((sense : SenseCode) × ((if a then Answer.Refused operation_in_progress else if b then Answer.Refused lba_out_of_range else if c then Answer.Refused insufficient_resources else Answer.Progress (if length rod.items == 0 then OpState.Done else OpState.Running) 0) ≡ Answer.Refused sense))
-        ⊎ ((if a then Answer.Refused operation_in_progress else if b then Answer.Refused lba_out_of_range else if c then Answer.Refused insufficient_resources else Answer.Progress (if length rod.items == 0 then OpState.Done else OpState.Running) 0)
-        ≡ Answer.Progress (if length rod.items == 0 then OpState.Done else OpState.Running) 0)
-    go true b c = inl (operation_in_progress, refl)
-    go false true c = inl (lba_out_of_range, refl)
-    go false false true = inl (insufficient_resources, refl)
-    go false false false = inr refl
+-- what a Start is answered
+start-cases : (config : Configuration) (unit : ℕ) (h : List Entry) (actor : Actor) (now id : ℕ) (ranges : List Range) (rod : HeldBlocks)
+    → StartCases rod (answer config h unit actor now (Act.Start id false ranges rod))
+start-cases config unit h actor now id ranges rod =
+    by (bars_act (reservations (past_of config unit h)) actor (Act.Start id false ranges rod))
+    (is_busy (past_of config unit h) actor OfToken id) (not (is_within (unit_of config unit).blocks ranges)) (is_crowded (past_of config unit h))
+  where
+    by : (t a b c : Bool)
+        → StartCases rod (if t then Answer.Conflict else if a then Answer.Refused operation_in_progress else if b then Answer.Refused lba_out_of_range else if c then Answer.Refused insufficient_resources
+        else Answer.Progress (if length rod.items == 0 then OpState.Done else OpState.Running) 0)
+    by true a b c = inr (inl refl)
+    by false true b c = inl (operation_in_progress, refl)
+    by false false true c = inl (lba_out_of_range, refl)
+    by false false false true = inl (insufficient_resources, refl)
+    by false false false false = inr (inr refl)
 
 -- behind this history the program ends well, if its Start is answered
 abbrev StartsAt : Configuration → ℕ → Program → List Entry → Type 0
@@ -327,15 +329,19 @@ module _ (config : Configuration) (nexus : ℕ) (w : TokenWrite) (rod : HeldBloc
   starting-ends false foreground h (Outcome.Answered told ∷ os) run none some =
       go (start-cases config w.unit (h ++ run.0) (Actor.Nexus nexus) run.1.moment w.id w.list.ranges rod)
     where
-      go : ((sense : SenseCode) × (answer config (h ++ run.0) w.unit (Actor.Nexus nexus) run.1.moment (Act.Start w.id false w.list.ranges rod) ≡ Answer.Refused sense))
-          ⊎ (answer config (h ++ run.0) w.unit (Actor.Nexus nexus) run.1.moment (Act.Start w.id false w.list.ranges rod) ≡ Answer.Progress (if length rod.items == 0 then OpState.Done else OpState.Running) 0)
+      go : StartCases rod (answer config (h ++ run.0) w.unit (Actor.Nexus nexus) run.1.moment (Act.Start w.id false w.list.ranges rod))
           → EndsWell (Outcome.Answered told ∷ os) (next (fold moved (advancing w (pieces (wanted w)) told) os))
       go (inl refusal) =
           let is : told ≡ Answer.Refused refusal.0 = run.2.answered ∙ refusal.1 in
           absurd (refused-starts config nexus (Answer.Refused refusal.0) (Reply.Check refusal.0) (h ++ run.0 ++ run.1 ∷ []) os refl
           (subst (λ a. RunsIn config nexus (advancing w (pieces (wanted w)) a) (h ++ run.0 ++ run.1 ∷ []) os) is run.3) none
           (subst (λ a. has_started (Outcome.Answered a ∷ os) ≡ true) is some))
-      go (inr progress) = begun-ends h run.0 run.1 told os run.2 (run.2.answered ∙ progress) run.3 none
+      go (inr (inl barred)) =
+          let is : told ≡ Answer.Conflict = run.2.answered ∙ barred in
+          absurd (refused-starts config nexus Answer.Conflict Reply.Conflict (h ++ run.0 ++ run.1 ∷ []) os refl
+          (subst (λ a. RunsIn config nexus (advancing w (pieces (wanted w)) a) (h ++ run.0 ++ run.1 ∷ []) os) is run.3) none
+          (subst (λ a. has_started (Outcome.Answered a ∷ os) ≡ true) is some))
+      go (inr (inr progress)) = begun-ends h run.0 run.1 told os run.2 (run.2.answered ∙ progress) run.3 none
 
 -- ---- the Redeem
 
@@ -361,6 +367,7 @@ redeemed-ends config nexus w h (Answer.Rod rod) now kind os run none some =
     (rod-ends config nexus w rod h now (nat_lt (length rod.items) (w.list.offset + wanted w)) refl os run none some)
 redeemed-ends config nexus w h (Answer.Refused sense) now kind os run none some =
     absurd (refused-starts config nexus (Answer.Refused sense) (Reply.Check sense) h os refl run none some)
+redeemed-ends config nexus w h Answer.Conflict now kind os run none some = cc
 redeemed-ends config nexus w h _ now kind os run none some = absurd kind
 
 redeem-ends : (config : Configuration) (nexus : ℕ) (w : TokenWrite) (creator : ℕ) (h : List Entry) → w.list.immed ≡ false

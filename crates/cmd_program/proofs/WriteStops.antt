@@ -26,7 +26,8 @@ use Rattle.cm_history.specs.Tokens.{Token, Fate, Live, Expired, Evicted, Deleted
 use Rattle.cm_history.specs.Redeeming.{are_alike, fate_at, answer_by_fate, named_token}
 use Rattle.cm_history.specs.Redeeming as token
 use Rattle.cm_history.specs.Operations.{OfToken}
-use Rattle.cm_history.specs.Answers.{is_busy, is_crowded}
+use Rattle.cm_history.specs.Reserving.{reservations, bars_act}
+use Rattle.cm_history.specs.Answers.{answer_unbarred, is_busy, is_crowded}
 use Rattle.cm_history.specs.History.{past_of, answer}
 use Rattle.cm_history.specs.Forms.{HasKind}
 use Rattle.cm_history.proofs.PublicLaws.{answer-kind}
@@ -70,13 +71,19 @@ IsPlain _ = Unit {0}
 start-plain : (config : Configuration) (unit : ℕ) (h : List Entry) (actor : Actor) (now id : ℕ) (background : Bool) (ranges : List Range) (rod : HeldBlocks)
     → IsPlain (answer config h unit actor now (Act.Start id background ranges rod))
 start-plain config unit h actor now id background ranges rod =
-    go (is_busy (past_of config unit h) actor OfToken id) (not (is_within (unit_of config unit).blocks ranges)) (is_crowded (past_of config unit h))
+    unless_barred (bars_act (reservations (past_of config unit h)) actor (Act.Start id background ranges rod))
+    (go (is_busy (past_of config unit h) actor OfToken id) (not (is_within (unit_of config unit).blocks ranges)) (is_crowded (past_of config unit h)))
   where
     go : (a b c : Bool) → IsPlain (if a then Answer.Refused operation_in_progress else if b then Answer.Refused lba_out_of_range else if c then Answer.Refused insufficient_resources else Answer.Progress (if length rod.items == 0 then OpState.Done else OpState.Running) 0)
     go true b c = refl
     go false true c = refl
     go false false true = refl
     go false false false = tt
+
+    unless_barred : (t : Bool) → IsPlain (answer_unbarred config unit (past_of config unit h) actor now (Act.Start id background ranges rod))
+        → IsPlain (if t then Answer.Conflict else answer_unbarred config unit (past_of config unit h) actor now (Act.Start id background ranges rod))
+    unless_barred true plain = tt
+    unless_barred false plain = plain
 
 redeem-plain : (config : Configuration) (unit : ℕ) (h : List Entry) (actor : Actor) (now : ℕ) (text : List ℕ) (target : ℕ)
     → IsPlain (answer config h unit actor now (Act.Redeem text target))
@@ -136,6 +143,8 @@ started-fine : (config : Configuration) (nexus : ℕ) (w : TokenWrite) (immed : 
     → has_started (Outcome.Answered told ∷ os) ≡ false → IsNotStopped (next (fold moved (started w immed told) os))
 started-fine config nexus w true rod (Answer.Refused sense) h kind plain os run none no_start = refused-fine config nexus sense h plain os run none no_start
 started-fine config nexus w false rod (Answer.Refused sense) h kind plain os run none no_start = refused-fine config nexus sense h plain os run none no_start
+started-fine config nexus w true rod Answer.Conflict h kind plain os run none no_start = ended-fine config nexus Reply.Conflict h (not-check Reply.Conflict refl) os run none no_start
+started-fine config nexus w false rod Answer.Conflict h kind plain os run none no_start = ended-fine config nexus Reply.Conflict h (not-check Reply.Conflict refl) os run none no_start
 started-fine config nexus w immed rod (Answer.Progress state count) h kind plain os run none no_start = cc
 started-fine config nexus w immed rod _ h kind plain os run none no_start = absurd kind
 
@@ -159,6 +168,7 @@ redeemed-fine config nexus w (Answer.Rod rod) h kind plain = go (nat_lt (length 
     go true = refused-fine config nexus invalid_field_in_parameter_list h refl
     go false = starting-fine config nexus w (rod_part w rod) h
 redeemed-fine config nexus w (Answer.Refused sense) h kind plain = refused-fine config nexus sense h plain
+redeemed-fine config nexus w Answer.Conflict h kind plain = cc
 redeemed-fine config nexus w _ h kind plain = absurd kind
 
 redeem-fine : (config : Configuration) (nexus : ℕ) (w : TokenWrite) (creator : ℕ) (h : List Entry)

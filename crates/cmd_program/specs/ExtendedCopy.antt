@@ -15,7 +15,8 @@ use Rattle.cm_history.specs.Bounds.{piece_blocks}
 use Rattle.cm_history.specs.declared.act.Act.{Act}
 use Rattle.cm_history.specs.declared.act.CopyState.{CopyState}
 use Rattle.cm_history.specs.declared.answer.Answer.{Answer}
-use Rattle.cmd_program.specs.Program.{Ask, Program, Asks, done, refused, unless_refused, with_blocks, ask_then}
+use Rattle.pr_keys.specs.declared.refused.Refusal.{Refusal}
+use Rattle.cmd_program.specs.Program.{Ask, Program, Asks, done, refused, conflict, unless_refused, with_blocks, ask_then}
 use Rattle.cm_history.specs.Room.{pieces}
 
 -- ---- where the segments lead
@@ -115,17 +116,18 @@ abbrev pub left_of : Copying → Tally → Option Ask
 left_of c t = if c.opened then Some (close_as c t CopyState.Terminated) else None
 
 -- Done, unless a refusal ended the segments
-abbrev pub end_state : Option SenseCode → CopyState
+abbrev pub end_state : Option Refusal → CopyState
 end_state None = CopyState.Done
-end_state (Some sense) = CopyState.Failed
+end_state (Some refusal) = CopyState.Failed
 
 -- the reply to the whole copy
-abbrev pub copy_reply : Option SenseCode → Program
+abbrev pub copy_reply : Option Refusal → Program
 copy_reply None = done
-copy_reply (Some sense) = refused (aborted_by sense.asc sense.ascq)
+copy_reply (Some Refusal.Conflict) = conflict
+copy_reply (Some (Refusal.Refused sense)) = refused (aborted_by sense.asc sense.ascq)
 
 -- after the segments: the record is closed, if it was opened
-abbrev pub closing : Copying → Tally → Option SenseCode → Program
+abbrev pub closing : Copying → Tally → Option Refusal → Program
 closing c t ended_by =
     if c.opened then Asks (close_as c t (end_state ended_by)) (left_of c t) (unless_refused (copy_reply ended_by)) else copy_reply ended_by
 
@@ -147,7 +149,8 @@ piece_put t list at = record t { bytes = t.bytes + piece_count list at * list.bl
 
 -- a refusal ends the segments; any other answer goes on
 abbrev pub unless_ended : Copying → Tally → Program → Answer → Program
-unless_ended c t rest (Answer.Refused sense) = closing c t (Some sense)
+unless_ended c t rest (Answer.Refused sense) = closing c t (Some (Refusal.Refused sense))
+unless_ended c t rest Answer.Conflict = closing c t (Some Refusal.Conflict)
 unless_ended c t rest _ = rest
 
 -- the pieces that are left of a segment, from its block `at` on, and then `rest`
@@ -160,7 +163,7 @@ putting c m list rest (suc left) at t =
 -- after the Capture of a segment
 abbrev pub captured : Copying → Move → (Tally → Program) → Tally → Answer → Program
 captured c m rest t answer =
-    with_blocks (λ list. putting c m list rest (pieces m.count) 0 t) (λ sense. closing c t (Some sense)) answer
+    with_blocks (λ list. putting c m list rest (pieces m.count) 0 t) (λ refusal. closing c t (Some refusal)) answer
 
 -- the segments in order; one with no blocks is done at once
 abbrev pub copying : Copying → List Move → Tally → Program

@@ -11,12 +11,13 @@ use Rattle.scsi_cdb.specs.Decoded.{decoded}
 use Rattle.cm_frame.specs.declared.frame.Request.{Request}
 use Rattle.block_params.specs.ListsRead.{unmap_read, populate_read, write_token_read}
 use Rattle.seg_parse.specs.ListRead.{lid1_read}
+use Rattle.pr_keys.specs.Bytes.{out_list_read}
 use Rattle.scsi_inquiry.specs.UnitData.{capacity10, capacity16, report_luns, copy_parameters}
 use Rattle.cm_history.specs.declared.act.Act.{Act}
 use Rattle.cmd_program.specs.declared.step.Outcome.{Outcome}
 use Rattle.cmd_program.specs.declared.step.Step.{Step}
 use Rattle.cmd_program.specs.Program.{Program, good, done, refused, ask_then, next, moved}
-use Rattle.cmd_program.specs.SingleActs.{inquiry, blocks_in, unmap, populate, act_alone, told_read, told_map, told_report, told_token, told_copy}
+use Rattle.cmd_program.specs.SingleActs.{inquiry, blocks_in, unmap, populate, act_alone, told_read, told_map, told_report, told_token, told_copy, reserve_in, reserve_out}
 use Rattle.cmd_program.specs.TokenWrite.{write_using_token}
 use Rattle.cmd_program.specs.ExtendedCopy.{extended_copy}
 
@@ -31,6 +32,7 @@ out_fault unit out (Cdb.Unmap length) = length_is out length parameter_list_leng
 out_fault unit out (Cdb.ExtendedCopy length) = length_is out length parameter_list_length_error
 out_fault unit out (Cdb.PopulateToken id length) = length_is out length parameter_list_length_error
 out_fault unit out (Cdb.WriteUsingToken id length) = length_is out length parameter_list_length_error
+out_fault unit out (Cdb.PersistentOut action scope kind length) = length_is out length parameter_list_length_error
 out_fault unit out _ = length_is out 0 invalid_field_in_cdb
 
 -- the program of each command; `allocation` is the allocation length
@@ -53,6 +55,8 @@ program_of config unit out (Cdb.CopyStatus1 id allocation) = ask_then unit (Act.
 program_of config unit out (Cdb.CopyParameters allocation) = good (take allocation copy_parameters)
 program_of config unit out (Cdb.CopyStatus4 id allocation) = ask_then unit (Act.Report id) (told_report allocation)
 program_of config unit out (Cdb.TokenInformation id allocation) = ask_then unit (Act.Report id) (told_token config unit allocation)
+program_of config unit out (Cdb.PersistentIn action allocation) = reserve_in unit action allocation
+program_of config unit out (Cdb.PersistentOut action scope kind length) = reserve_out unit action scope kind (out_list_read out)
 
 -- a command whose data has the right length
 abbrev pub judged_out : Configuration → Request → Cdb → Option SenseCode → Program

@@ -6,6 +6,7 @@ use Rattle.cm_frame.specs.declared.frame.Reply.{Reply}
 use Rattle.cm_history.specs.declared.act.Act.{Act}
 use Rattle.cm_history.specs.declared.answer.Answer.{Answer}
 use Rattle.cm_history.specs.declared.answer.OpReport.{OpReport}
+use Rattle.pr_keys.specs.declared.refused.Refusal.{Refusal}
 use Rattle.cmd_program.specs.declared.step.Outcome.{Outcome}
 use Rattle.cmd_program.specs.declared.step.Step.{Step}
 
@@ -60,6 +61,15 @@ done = good []
 abbrev pub refused : SenseCode → Program
 refused sense = Ends (Reply.Check sense)
 
+-- RESERVATION CONFLICT
+abbrev pub conflict : Program
+conflict = Ends Reply.Conflict
+
+-- the command ends by this refusal
+abbrev pub refused_as : Refusal → Program
+refused_as Refusal.Conflict = conflict
+refused_as (Refusal.Refused sense) = refused sense
+
 -- stands behind an answer of another kind than the act's: no such answer has the form of the act, so this is never come to
 abbrev pub never : Program
 never = Ends Reply.Busy
@@ -67,12 +77,14 @@ never = Ends Reply.Busy
 -- a refusal ends the command; any other answer goes on
 abbrev pub unless_refused : Program → Answer → Program
 unless_refused rest (Answer.Refused sense) = refused sense
+unless_refused rest Answer.Conflict = conflict
 unless_refused rest _ = rest
 
 -- goes on with the blocks of an answer, or by its refusal
-abbrev pub with_blocks : (HeldBlocks → Program) → (SenseCode → Program) → Answer → Program
+abbrev pub with_blocks : (HeldBlocks → Program) → (Refusal → Program) → Answer → Program
 with_blocks go_on if_refused (Answer.Blocks list) = go_on list
-with_blocks go_on if_refused (Answer.Refused sense) = if_refused sense
+with_blocks go_on if_refused (Answer.Refused sense) = if_refused (Refusal.Refused sense)
+with_blocks go_on if_refused Answer.Conflict = if_refused Refusal.Conflict
 with_blocks go_on if_refused _ = never
 
 -- goes on with the report of an answer; a refusal ends the command

@@ -9,7 +9,9 @@ use Rattle.block_params.specs.declared.lists.PopulateList.{PopulateList}
 use Rattle.scsi_inquiry.specs.UnitData.{standard, vpd}
 use Rattle.cm_history.specs.declared.act.Act.{Act}
 use Rattle.cm_history.specs.declared.answer.Answer.{Answer}
-use Rattle.cmd_program.specs.Program.{Program, good, done, refused, never, unless_refused, with_blocks, with_report, ask_then}
+use Rattle.pr_keys.specs.declared.lists.OutList.{OutList}
+use Rattle.pr_keys.specs.Bytes.{keys_bytes, holder_bytes}
+use Rattle.cmd_program.specs.Program.{Program, good, done, refused, refused_as, conflict, never, unless_refused, with_blocks, with_report, ask_then}
 use Rattle.lba_ranges.specs.HeldBlocks.{blocks_bytes}
 use Rattle.copy_status.specs.StatusBytes.{status4_bytes, status1_bytes}
 use Rattle.cmd_program.specs.AnswerBytes.{map_bytes, status_of, report_token_bytes, copy_code}
@@ -22,12 +24,13 @@ blocks_in size bytes = record { block_length = size; items = cut size (length by
 
 -- READ: the bytes of the blocks
 abbrev pub told_read : Answer → Program
-told_read answer = with_blocks (λ list. good (blocks_bytes list)) refused answer
+told_read answer = with_blocks (λ list. good (blocks_bytes list)) refused_as answer
 
 -- GET LBA STATUS: the runs of mapped and unmapped blocks
 abbrev pub told_map : ℕ → Answer → Program
 told_map allocation (Answer.Status runs) = good (take allocation (map_bytes runs))
 told_map allocation (Answer.Refused sense) = refused sense
+told_map allocation Answer.Conflict = conflict
 told_map allocation _ = never
 
 -- RECEIVE COPY STATUS(LID4): the report of the operation
@@ -43,6 +46,16 @@ abbrev pub told_copy : ℕ → Answer → Program
 told_copy allocation (Answer.Copy result) = good (take allocation (status1_bytes (copy_code result.state) result.segments result.bytes))
 told_copy allocation (Answer.Refused sense) = refused sense
 told_copy allocation _ = never
+
+-- PERSISTENT RESERVE IN, READ KEYS: the keys of the registered nexuses
+abbrev pub told_keys : ℕ → Answer → Program
+told_keys allocation (Answer.Keys generation keys) = good (take allocation (keys_bytes generation keys))
+told_keys allocation _ = never
+
+-- PERSISTENT RESERVE IN, READ RESERVATION: the reservation
+abbrev pub told_holder : ℕ → Answer → Program
+told_holder allocation (Answer.Holder generation holder) = good (take allocation (holder_bytes generation holder))
+told_holder allocation _ = never
 
 -- ---- the commands
 
@@ -69,3 +82,13 @@ unmap unit (Ok ranges) = act_alone unit (Act.Unmap ranges)
 abbrev pub populate : ℕ → ℕ → Result PopulateList SenseCode → Program
 populate unit id (Err sense) = refused sense
 populate unit id (Ok list) = act_alone unit (Act.Populate id list.timeout list.ranges)
+
+-- PERSISTENT RESERVE IN, by its service action
+abbrev pub reserve_in : ℕ → ℕ → ℕ → Program
+reserve_in unit action allocation =
+    if action == 0 then ask_then unit Act.PrKeys (told_keys allocation) else ask_then unit Act.PrHolder (told_holder allocation)
+
+-- PERSISTENT RESERVE OUT, by its service action, scope and type, and as its parameter list was read
+abbrev pub reserve_out : ℕ → ℕ → ℕ → ℕ → Result OutList SenseCode → Program
+reserve_out unit action scope kind (Err sense) = refused sense
+reserve_out unit action scope kind (Ok list) = act_alone unit (Act.PrOut action scope kind list.key list.action_key)

@@ -13,7 +13,7 @@ use Rattle.cm_history.specs.Room.{pieces}
 use Rattle.cm_history.specs.declared.act.Act.{Act}
 use Rattle.cm_history.specs.declared.answer.Answer.{Answer}
 use Rattle.cm_history.specs.declared.answer.OpState.{OpState}
-use Rattle.cmd_program.specs.Program.{Ask, Program, Asks, done, refused, never, unless_refused, ask_then}
+use Rattle.cmd_program.specs.Program.{Ask, Program, Asks, done, refused, conflict, never, unless_refused, ask_then}
 use Rattle.cmd_program.specs.SingleActs.{act_alone}
 
 -- what the command was given: the addressed unit, the list identifier and the parameter list
@@ -48,6 +48,7 @@ advancing w zero (Answer.Progress OpState.Running count) = refused copy_aborted
 advancing w (suc left) (Answer.Progress OpState.Running count) =
     Asks (record { unit = w.unit; act = Act.Advance w.id }) (Some (end_of w)) (advancing w left)
 advancing w left (Answer.Refused sense) = refused sense
+advancing w left Answer.Conflict = conflict
 advancing w left _ = never
 
 -- after the Start: with IMMED the operation is left to run in the background

@@ -18,22 +18,25 @@ use Rattle.cm_history.specs.Deeds.{Deed, moment, last_stamp, is_answered, is_ref
 use Rattle.cm_history.specs.Operations.{Operation, OfToken, operations, made_operation, makes_operation, running, is_running, fits, has_key}
 use Rattle.cm_history.specs.Tokens.{Token, Live, tokens, token_after, made_token, rod, is_over}
 use Rattle.cm_history.specs.Redeeming.{redeemed, named_token}
+use Rattle.pr_keys.specs.Reservations.{unreserved}
+use Rattle.cm_history.specs.Reserving.{reservations, reserved_by as left_by, bars_actor}
 use Rattle.cm_history.specs.Answers.{deed, is_busy, answer_populate}
 use Rattle.cm_history.specs.Room.{is_full, is_write, need, reserved, reserved_by}
 use Rattle.cm_history.proofs.PublicLaws.{served_none}
 use Rattle.generator.specs.Settings.{settings}
 
--- So many tokens were made, no operation runs, the moment is `now` at most, and deeds and stamps are `few` at most.
+-- So many tokens were made, no operation runs, nothing is reserved, the moment is `now` at most, and deeds and stamps are `few` at most.
 pub record Quiet (serial now few : ℕ) (past : List Deed) : Type 0 where
   pub made : length (tokens past) ≡ serial
   pub idle : running past ≡ []
+  pub free : reservations past ≡ unreserved
   pub moment : moment past ≤ now
   pub count : length past ≤ few
   pub stamp : last_stamp past ≤ few
 
 -- before the first act
 pub none-yet : Quiet 0 0 0 []
-none-yet = record { made = refl; idle = refl; moment = omega arith; count = omega arith; stamp = omega arith }
+none-yet = record { made = refl; idle = refl; free = refl; moment = omega arith; count = omega arith; stamp = omega arith }
 
 -- ---- room
 
@@ -71,10 +74,12 @@ more-tokens d past =
 
 pub still-quiet : (serial now few more : ℕ) (past : List Deed) (e : Entry) → Quiet serial now few past → e.moment ≤ now → e.stamp ≤ few + 1
     → filter is_running (made_by (deed settings 0 past e)) ≡ [] → length (made_token (deed settings 0 past e) past (length (tokens past)) e.act) ≡ more
+    → left_by (reservations past) e.actor e.act ≡ reservations past
     → Quiet (serial + more) now (few + 1) (deed settings 0 past e ∷ past)
-still-quiet serial now few more past e q early low new tokens = record {
+still-quiet serial now few more past e q early low new tokens keeps = record {
   made = more-tokens (deed settings 0 past e) past ∙ omega (arith, q.made, tokens);
   idle = still-idle (deed settings 0 past e) past (serves-none past e q.idle) q.idle new;
+  free = keeps ∙ q.free;
   moment = omega (arith, q.moment, early);
   count = omega (arith, q.count);
   stamp = low;
@@ -89,7 +94,7 @@ pub after-write : (serial now few stamp seq lba : ℕ) (list : HeldBlocks) (acto
 after-write serial now few stamp seq lba list actor at past q early low =
     let e : Entry = record { stamp = stamp; unit = 0; actor = actor; seq = seq; moment = at; act = Act.Write lba list } in
     let same : serial + 0 ≡ serial = omega arith in
-    subst (λ n. Quiet n now (few + 1) (deed settings 0 past e ∷ past)) same (still-quiet serial now few 0 past e q early low refl refl)
+    subst (λ n. Quiet n now (few + 1) (deed settings 0 past e ∷ past)) same (still-quiet serial now few 0 past e q early low refl refl refl)
 
 -- a Redeem
 pub after-redeem : (serial now few stamp seq target : ℕ) (text : List ℕ) (actor : Actor) (at : ℕ) (past : List Deed) → Quiet serial now few past
@@ -98,20 +103,26 @@ pub after-redeem : (serial now few stamp seq target : ℕ) (text : List ℕ) (ac
 after-redeem serial now few stamp seq target text actor at past q early low =
     let e : Entry = record { stamp = stamp; unit = 0; actor = actor; seq = seq; moment = at; act = Act.Redeem text target } in
     let same : serial + 0 ≡ serial = omega arith in
-    subst (λ n. Quiet n now (few + 1) (deed settings 0 past e ∷ past)) same (still-quiet serial now few 0 past e q early low refl refl)
+    subst (λ n. Quiet n now (few + 1) (deed settings 0 past e ∷ past)) same (still-quiet serial now few 0 past e q early low refl refl refl)
 
 -- the eight blocks from a place on
 abbrev pub eight : ℕ → List Range
 eight lba = record { lba = lba; count = 8 } ∷ []
 
+-- where nothing is reserved nothing is barred
+unreserved-free : (actor : Actor) (writes : Bool) → bars_actor unreserved actor writes ≡ false
+unreserved-free (Actor.Nexus n) writes = refl
+unreserved-free (Actor.Pump u) writes = refl
+
 -- a Populate makes the token of the next serial
 pub populates : (serial now few lba id : ℕ) (actor : Actor) (past : List Deed) → Quiet serial now few past → serial < 2 ^ 48 → lba + 8 ≤ 1_048_576
-    → answer_populate (unit_of settings 0) past actor id (eight lba) ≡ Answer.Made (length (tokens past))
+    → (if bars_actor (reservations past) actor false then Answer.Conflict else answer_populate (unit_of settings 0) past actor id (eight lba)) ≡ Answer.Made (length (tokens past))
 populates serial now few lba id actor past q few_made low =
+    let unbarred : bars_actor (reservations past) actor false ≡ false = ap (λ s. bars_actor s actor false) q.free ∙ unreserved-free actor false in
     let free : is_busy past actor OfToken id ≡ false = ap (list_any (has_key actor OfToken id)) q.idle in
     let within : is_within 1_048_576 (eight lba) ≡ true = grind (arith, nat_tests) in
     let more : nat_le (2 ^ 48) (length (tokens past)) ≡ false = let m = q.made in grind (arith, nat_tests) in
-    rw (free, within, more) refl
+    rw (unbarred, free, within, more) refl
 
 abbrev pub populate_entry : ℕ → ℕ → Actor → ℕ → ℕ → ℕ → ℕ → Entry
 populate_entry stamp seq actor at id timeout lba =
@@ -145,7 +156,7 @@ after-populate serial now few stamp seq at id timeout lba actor past q early low
     let all : tokens (d ∷ past) ≡ map (token_after d (tokens past)) (tokens past) ++ t ∷ [] = ap (λ l. map (token_after d (tokens past)) (tokens past) ++ l) new in
     let place : length (map (token_after d (tokens past)) (tokens past)) ≡ serial = length-map (token_after d (tokens past)) (tokens past) ∙ q.made in
     record {
-      quiet = still-quiet serial now few 1 past e q early low none (ap length new);
+      quiet = still-quiet serial now few 1 past e q early low none (ap length new) refl;
       there = ap (λ ts. slice_get ts serial) all ∙ ap (slice_get (map (token_after d (tokens past)) (tokens past) ++ t ∷ [])) (sym place)
           ∙ get-behind (map (token_after d (tokens past)) (tokens past)) t;
     }

@@ -56,11 +56,13 @@ asks-alone config r unit act go_on is ends = record { asks = λ nexus. ap next i
 
 ends-done : EndsIt (unless_refused done)
 ends-done (Answer.Refused sense) = (Reply.Check sense, refl)
+ends-done Answer.Conflict = (Reply.Conflict, refl)
 ends-done _ = (Reply.Good [], refl)
 
 ends-read : EndsIt told_read
 ends-read (Answer.Blocks list) = (_, refl)
 ends-read (Answer.Refused sense) = (_, refl)
+ends-read Answer.Conflict = (Reply.Conflict, refl)
 ends-read _ = (Reply.Busy, refl)
 
 ends-token : (config : Configuration) (unit allocation : ℕ) → EndsIt (told_token config unit allocation)

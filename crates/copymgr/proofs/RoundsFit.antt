@@ -40,6 +40,7 @@ weaker : (serial now few later more : ℕ) (past : List Deed) → Quiet serial n
 weaker serial now few later more past q a b = record {
   made = q.made;
   idle = q.idle;
+  free = q.free;
   moment = omega (arith, q.moment, a);
   count = omega (arith, q.count, b);
   stamp = omega (arith, q.stamp, b);

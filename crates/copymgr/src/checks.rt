@@ -1,6 +1,6 @@
 // Worked traces and their replies, checked.
 use crate::rows::first_path::{HEADER, ROWS, RUN};
-use crate::rows::{Row, copies, evictions, operations, tokens, usual_copy};
+use crate::rows::{Row, copies, evictions, operations, reservations, tokens, usual_copy};
 use crate::status::Status;
 use crate::tests::{bytes_of, generated_replies, only, words_of};
 use crate::top::top;
@@ -89,6 +89,11 @@ fn worked_replies_of_copies_are_right(rt: HostRuntime) -> Result<(), Fail> {
 #[test]
 fn worked_replies_of_operations_are_right(rt: HostRuntime) -> Result<(), Fail> {
     are_right(rt.alloc(), &operations::ROWS)
+}
+
+#[test]
+fn worked_replies_of_reservations_are_right(rt: HostRuntime) -> Result<(), Fail> {
+    are_right(rt.alloc(), &reservations::ROWS)
 }
 
 #[test]

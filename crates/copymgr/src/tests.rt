@@ -3,7 +3,9 @@ ghost use Rattle.std.specs.Prelude.{◌<◌};
 use crate::ready::{Empty, ReadyMemory, make_ready};
 use crate::rows::first_path::{HEADER, ROWS, RUN};
 use crate::rows::words::{GENERATED, OTHER};
-use crate::rows::{Row, copies, evictions, generated, long_data, operations, tokens, usual_copy};
+use crate::rows::{
+    Row, copies, evictions, generated, long_data, operations, reservations, tokens, usual_copy,
+};
 use crate::status::Status;
 use crate::top::{top, top_with};
 use cm_base::{Bytes, CallList, MemorySink, MemorySource, Word};
@@ -142,6 +144,14 @@ fn worked_traces_of_copies(rt: HostRuntime) -> Result<(), Fail> {
 #[test]
 fn worked_traces_of_operations(rt: HostRuntime) -> Result<(), Fail> {
     for row in &operations::ROWS {
+        assert!(rt; is_as_worked(rt.alloc(), row, 65_536)?, "{}", row.name);
+    }
+    Ok(())
+}
+
+#[test]
+fn worked_traces_of_reservations(rt: HostRuntime) -> Result<(), Fail> {
+    for row in &reservations::ROWS {
         assert!(rt; is_as_worked(rt.alloc(), row, 65_536)?, "{}", row.name);
     }
     Ok(())

@@ -1,8 +1,8 @@
-ghost use Rattle.std.specs.Prelude.{◌≡◌, ◌≤◌, ◌∷◌, ◌++◌, [], length, flat_map, OnOk};
+ghost use Rattle.std.specs.Prelude.{◌≡◌, ◌≤◌, ◌∷◌, ◌++◌, [], length, flat_map, OnOk, true};
 ghost use Rattle.cm_frame.specs.declared.item.TraceItem.{TraceItem};
 ghost use Rattle.cm_frame.specs.Grammar.{item_bytes, data_limit};
 ghost use Rattle.scsi_cdb.specs.declared.cdb.Cdb.{Cdb};
-ghost use Rattle.scsi_cdb.specs.Encoded.{moved};
+ghost use Rattle.scsi_cdb.specs.Encoded.{has_codes, moved};
 ghost use Rattle.generator.specs.Settings.{settings};
 ghost use Rattle.generator.specs.Rounds as rounds;
 
@@ -24,6 +24,7 @@ fn push_begin(
     cdb: Cdb,
     out: &[u8],
 ) -> Result<(), OutOfMemory>
+    requires codes { has_codes cdb ≡ true }
     requires moved { moved cdb ≤ 2048 }
     requires data { length out.now ≤ data_limit }
     ensures { OnOk result (trace.new ≡ trace.old ++ item_bytes (rounds.begin_of round unit cdb out.now)) }
@@ -71,6 +72,7 @@ fn push_command(
     cdb: Cdb,
     out: &[u8],
 ) -> Result<(), OutOfMemory>
+    requires codes { has_codes cdb ≡ true }
     requires moved { moved cdb ≤ 2048 }
     requires data { length out.now ≤ data_limit }
     ensures { OnOk result

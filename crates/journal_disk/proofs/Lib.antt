@@ -12,4 +12,5 @@ mod Scans
 mod Shapes
 mod Openings
 pub mod Good
+pub mod Fits
 pub mod PublicLaws

@@ -7,7 +7,7 @@ use Rattle.journal_disk.specs.Disk.{NoMore, IsSynced, Elapses, LeavesOnly}
 use Rattle.journal_disk.specs.Opened.{front_bytes, mark_bytes, is_unmade, opened}
 use Rattle.journal_disk.specs.Log.{Holds, IsTold}
 use Rattle.journal_disk.specs.Journal.{last_stamp, AreSpelled, BegunSpells, IsJournal, SyncsFirst}
-use Rattle.journal_disk.specs.Recording.{if_spelled, entries_of, recorded_in, AreShort, IsFit}
+use Rattle.journal_disk.specs.Recording.{if_spelled, entries_of, recorded_in, AreTexts, IsFit}
 use Rattle.journal_disk.specs.inner.NewFile.{front_of, IsEmpty}
 use Rattle.journal_disk.specs.inner.Scanning.{IsFound}
 use Rattle.journal_disk.specs.declared.log.Log.{Log}
@@ -29,11 +29,11 @@ module _ (config : Configuration) (unit : ℕ) where
   entries-spelled last (p ∷ ps) (e ∷ es) spelled =
       ap (λ (o : Option Entry). if_spelled o (entries_of ps)) spelled.0.1 ∙ ap (λ (l : List Entry). e ∷ l) (entries-spelled e.stamp ps es spelled.1)
 
-  short-spelled : (last : ℕ) (ps : List (List ℕ)) (es : List Entry) → AreSpelled config unit last ps es → AreShort ps
-  short-spelled last [] [] spelled = tt
-  short-spelled last [] (e ∷ es) spelled = absurd spelled
-  short-spelled last (p ∷ ps) [] spelled = absurd spelled
-  short-spelled last (p ∷ ps) (e ∷ es) spelled = (spelled.0.0, short-spelled e.stamp ps es spelled.1)
+  texts-spelled : (last : ℕ) (ps : List (List ℕ)) (es : List Entry) → AreSpelled config unit last ps es → AreTexts ps
+  texts-spelled last [] [] spelled = tt
+  texts-spelled last [] (e ∷ es) spelled = absurd spelled
+  texts-spelled last (p ∷ ps) [] spelled = absurd spelled
+  texts-spelled last (p ∷ ps) (e ∷ es) spelled = ((e, (spelled.0.0, spelled.0.1)), texts-spelled e.stamp ps es spelled.1)
 
   begun-none : (last : ℕ) (begun : Option (List ℕ)) → BegunSpells config unit last begun None → begun ≡ None
   begun-none last None tries = refl
@@ -73,14 +73,14 @@ module _ (config : Configuration) (unit : ℕ) where
       last = journal.begun;
       kept = journal.kept;
       start = journal.start;
-      short = short-spelled 0 journal.payloads es journal.spelled;
+      texts = texts-spelled 0 journal.payloads es journal.spelled;
       same = inl (begun-none (last_stamp 0 es) journal.begun journal.tries);
     })
 
     pub journal-recorded : ((disk : D) (file : List ℕ) → reads disk ≡ Some file → may_leave disk file) → (es : List Entry) (tried : Option Entry) (log : Log D) → IsJournal reads may_leave config unit es tried log
         → recorded_in log.start log.gate (reads log.disk) ≡ Some es
     journal-recorded reads_left es tried log journal =
-        kept-recorded reads may_leave reads_left (front_bytes config unit) journal.payloads journal.begun log journal.kept journal.start (short-spelled 0 journal.payloads es journal.spelled)
+        kept-recorded reads may_leave reads_left (front_bytes config unit) journal.payloads journal.begun log journal.kept journal.start (texts-spelled 0 journal.payloads es journal.spelled)
         ∙ ap (λ (l : List Entry). Some l) (entries-spelled 0 journal.payloads es journal.spelled)
 
     module _ (moment : D → ℕ) (left_since : D → ℕ → List ℕ → Type 0) where

@@ -31,14 +31,18 @@ entries_of (p ∷ ps) = if_spelled (entry_in p) (entries_of ps)
 abbrev pub recorded_in : ℕ → ℕ → Option (List ℕ) → Option (List Entry)
 recorded_in start gate reads = option_map (λ file. entries_of (payloads_in (drop start (take gate file)))) reads
 
--- a length that eight bytes can hold
-abbrev pub IsShort : List ℕ → Type 0
-IsShort payload = length payload < 2 ^ 64
+-- the bytes before the records, where the file is told
+abbrev pub front_in : ℕ → Option (List ℕ) → Option (List ℕ)
+front_in start reads = option_map (take start) reads
 
--- so are they all
-abbrev pub AreShort : List (List ℕ) → Type 0
-AreShort [] = Unit {0}
-AreShort (p ∷ ps) = IsShort p × AreShort ps
+-- the bytes spell the entry, and eight bytes can hold their length
+abbrev pub IsTextOf : List ℕ → Entry → Type 0
+IsTextOf payload e = (length payload < 2 ^ 64) × (entry_in payload ≡ Some e)
+
+-- each of the records spells an entry
+abbrev pub AreTexts : List (List ℕ) → Type 0
+AreTexts [] = Unit {0}
+AreTexts (p ∷ ps) = ((e : Entry) × IsTextOf p e) × AreTexts ps
 
 -- the journal is kept, and of no other entry than this the opening was begun
 pub record IsReady {D : Type 0} (reads : D → Option (List ℕ)) (may_leave : D → List ℕ → Type 0) (log : Log D) (e : Entry) : Type 0 where
@@ -47,8 +51,8 @@ pub record IsReady {D : Type 0} (reads : D → Option (List ℕ)) (may_leave : D
   pub last : Option (List ℕ)
   pub kept : IsKept reads may_leave front ps last log
   pub start : log.start ≡ length front
-  pub short : AreShort ps
-  pub same : (last ≡ None) ⊎ (last ≡ Some (entry_bytes e))
+  pub texts : AreTexts ps
+  pub same : (last ≡ None) ⊎ ((last ≡ Some (entry_bytes e)) × IsTextOf (entry_bytes e) e)
 
 -- the entry may be recorded next: the disk tells nothing, or the journal is ready for it
 abbrev pub IsFit : {D : Type 0} → (D → Option (List ℕ)) → (D → List ℕ → Type 0) → Log D → Entry → Type 0

@@ -6,7 +6,7 @@ ghost use Rattle.recorder.specs.Text.{entry_bytes, HasShortLists};
 ghost use Rattle.recorder.specs.declared.recording.RecordRefused.{RecordRefused};
 ghost use Rattle.journal_disk.specs.Disk.{LeavesOnly};
 ghost use Rattle.journal_disk.specs.Log.{IsTried, IsKept};
-ghost use Rattle.journal_disk.specs.inner.Texts.{HasText};
+ghost use Rattle.journal_disk.specs.inner.Texts.{HasText, IsTriedBy};
 ghost use Rattle.journal_disk.specs.Journal.{MayFollow, IsJournal, OpensAsOrOneMore, StaysGood};
 
 use crate::{Disk, Log};
@@ -51,7 +51,7 @@ impl<D: Disk + Drop> Journal<D> {
         ensures grown_records { (front : List ℕ) (ps : List (List ℕ)) (last : Option (List ℕ)) → IsKept D.reads D.may_leave front ps last self.old
             → OnOk result (IsKept D.reads D.may_leave front (ps ++ (entry_bytes entry.now ∷ [])) None self.new) }
         ensures kept_records { (front : List ℕ) (ps : List (List ℕ)) (last : Option (List ℕ)) → IsKept D.reads D.may_leave front ps last self.old
-            → OnErr result ((next : Option (List ℕ)) × IsTried last (entry_bytes entry.now) next × IsKept D.reads D.may_leave front ps next self.new) }
+            → OnErr result ((next : Option (List ℕ)) × IsTriedBy last entry.now next × IsKept D.reads D.may_leave front ps next self.new) }
         // After Ok a crash leaves a file that is opened with the entry.
         ensures recorded { (config : Configuration) (unit : ℕ) (es : List Entry) (tried : Option Entry)
             → IsJournal D.reads D.may_leave config unit es tried self.old → MayFollow config unit es entry.now
@@ -121,16 +121,20 @@ impl<D: Disk + Drop> Journal<D> {
 }
 
 impl<D: Disk + Drop> Recorder for Journal<D> {
-    ghost use Rattle.std.specs.Prelude.{false};
-    ghost use Rattle.journal_disk.specs.Recording.{recorded_in, IsFit};
+    ghost use Rattle.std.specs.Prelude.{true, false};
+    ghost use Rattle.journal_disk.specs.Recording.{recorded_in, front_in, IsFit};
 
     const EAGER: bool = true;
+
+    ghost EAGER = { true };
 
     ghost recorded = { λ j. recorded_in j.start j.gate (D.reads j.disk) };
 
     ghost record_faults = { λ j. D.disk_faults j.disk };
 
     ghost absent = { λ _. false };
+
+    ghost front = { λ j. front_in j.start (D.reads j.disk) };
 
     ghost fits = { λ j e. IsFit D.reads D.may_leave j e };
 

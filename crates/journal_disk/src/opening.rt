@@ -164,6 +164,8 @@ impl<D: Disk + Drop> Journal<D> {
         ensures recorded { (file : List ℕ) → D.reads disk ≡ Some file
             → IfOk result (λ r. ⟦<Journal<D> as Recorder>⟧.recorded r.0 ≡ Some r.1.entries) }
         ensures fits { IfOk result (λ r. (e : Entry) → ⟦<Journal<D> as Recorder>⟧.fits r.0 e) }
+        ensures front { (file : List ℕ) → D.reads disk ≡ Some file
+            → IfOk result (λ r. ⟦<Journal<D> as Recorder>⟧.front r.0 ≡ Some (front_bytes config.now unit)) }
         ensures within { IfOk result (λ r. IfSome (D.reads r.0.disk) (λ bytes. r.0.gate < length bytes)) }
         ensures untold { D.reads disk ≡ None → IfOk result (λ r. D.reads r.0.disk ≡ None) }
 

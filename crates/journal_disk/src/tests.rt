@@ -3,6 +3,7 @@ ghost use Rattle.std.specs.Prelude.{◌≡◌, ◌<◌, length, IfOk, IfSome};
 ghost use Rattle.cm_history.specs.declared.act.Act.{Act};
 ghost use Rattle.cm_history.specs.declared.act.Entry.{Entry};
 ghost use Rattle.recorder.specs.Text.{HasShortLists};
+ghost use Rattle.journal_disk.specs.Journal.{IsGood};
 
 use super::*;
 use cm_base::{CallList, Config, Payload, UnitConfig, UnitList};
@@ -155,6 +156,33 @@ fn image_opens(
     Ok(found == Outcome::Entries(count) || found == Outcome::Entries(count.saturating_add(1)))
 }
 
+/// An empty disk, of which nothing is bad.
+fn empty_disk(alloc: Global, config: &Config) -> MemoryDisk
+    ensures { IsGood ⟦<MemoryDisk as Disk>⟧.reads ⟦<MemoryDisk as Disk>⟧.may_leave config.now 0 result }
+{
+    let _units = config;
+    MemoryDisk::new(alloc, CallList::empty(alloc))
+}
+
+/// A crash leaves a file that is opened; the disk of its journal is given back.
+fn opened_behind(
+    alloc: Global,
+    config: &Config,
+    disk: &MemoryDisk,
+    pick: u64,
+) -> Result<MemoryDisk, Fail>
+    requires units { length config.now.units ≡ 1 }
+    requires good { IsGood ⟦<MemoryDisk as Disk>⟧.reads ⟦<MemoryDisk as Disk>⟧.may_leave config.now 0 disk.now }
+    ensures { IfOk result (λ d. IsGood ⟦<MemoryDisk as Disk>⟧.reads ⟦<MemoryDisk as Disk>⟧.may_leave config.now 0 d) }
+{
+    let image = disk.crash(pick)?;
+    match Journal::open(alloc, image, config, 0) {
+        Ok((journal, _)) => Ok(journal.into_disk()),
+        Err((_, OpenFault::BadJournal { .. })) => unreachable!(),
+        Err(_) => Err(Fail::new("not opened")),
+    }
+}
+
 /// A journal of two entries.
 fn two_records(alloc: Global, config: &Config) -> Result<MemoryDisk, Fail>
     requires { length config.now.units ≡ 1 }
@@ -225,6 +253,19 @@ fn calls_of_the_disk_fail(rt: HostRuntime) -> Result<(), Fail> {
             );
         }
     }
+    Ok(())
+}
+
+/// What a crash leaves of an empty disk, and of what was opened behind it, is never bad.
+#[test]
+fn a_crash_leaves_nothing_bad(rt: HostRuntime) -> Result<(), Fail> {
+    let alloc = rt.alloc();
+    let config = one_unit(alloc)?;
+    let empty = empty_disk(alloc, &config);
+    let first = opened_behind(alloc, &config, &empty, 1)?;
+    let second = opened_behind(alloc, &config, &first, 5)?;
+    let disk = opened_behind(alloc, &config, &second, 7)?;
+    assert_eq!(rt; disk.as_slice().len(), NEW);
     Ok(())
 }
 

@@ -8,8 +8,10 @@ use Rattle.cm_history.specs.declared.act.Entry.{Entry}
 use Rattle.cm_history.specs.Deeds.{same_actor}
 use Rattle.cm_history.proofs.PublicLaws.{same_actor-self, Each-in, Each-by, Each-append, same_actor-is, In, Each}
 use Rattle.merged_history.proofs.Members.{In-append, In-append_right}
-use Rattle.merged_history.specs.Merged.{merged}
-use Rattle.merged_history.specs.Own.{IsBelow, IsOwn}
+use Rattle.merged_history.specs.Merged.{merged, rests}
+use Rattle.merged_history.specs.Own.{IsAsked, IsBelow, IsOwn}
+use Rattle.merged_history.specs.Resumed.{IsResumed}
+use Rattle.merged_history.proofs.Resumed.{resumed}
 use Rattle.pass_register.specs.Passes.{Joined, own_of}
 use Rattle.merged_history.specs.Passes.{AreJoined, of_unit, AreFrom, IsWhole}
 use Rattle.pass_register.specs.declared.known.Ticket.{Ticket}
@@ -22,14 +24,15 @@ use Rattle.merged_history.proofs.Given.{AreHistories}
 
 -- ---- the root of a new world
 
-pub root-new : (config : Configuration) (seen kept : List (List Entry)) → ((unit : ℕ) → of_unit kept unit ≡ []) → IsRoot config 0 seen kept [] []
-root-new config seen kept none = record {
+pub root-new : (config : Configuration) (made : ℕ) (seen kept : List (List Entry)) → ((unit : ℕ) → of_unit kept unit ≡ []) → IsRoot config made seen kept [] []
+root-new config made seen kept none = record {
   passes = joined-none config;
   stands = λ actor. tt;
   goes_on = tt;
   apart = tt;
   free = record { no_pass = λ n low. tt; no_entry = λ n low. refl };
   covered = λ unit. rw (none unit) tt;
+  held = λ actor. tt;
 }
 
 -- ---- the root sees more
@@ -42,6 +45,7 @@ root-sees config made seen after kept out joined is longer = record {
   apart = is.apart;
   free = is.free;
   covered = is.covered;
+  held = is.held;
 }
 
 -- ---- a pass is made
@@ -73,6 +77,7 @@ root-makes config made seen kept out joined actor is may = record {
   apart = apart-push out (ticket_of actor joined) is.apart (no-other actor made out joined may is.free);
   free = free-after actor made out joined may is.free;
   covered = is.covered;
+  held = is.held;
 }
 
 is-new : (actor : Actor) (made : ℕ) (out : List Ticket) (joined : List Joined) → MayPass actor made out → AreFree made out joined → IsNew actor (own_of actor joined)
@@ -141,6 +146,8 @@ own_of-mine joined j e i = subst (In e) (sym (own_of-append j.actor joined (j �
 -- what the joined seats have made on a unit, with what the new one made there
 pub record IsJoinedTo (config : Configuration) (kept after : List (List Entry)) (own : List Entry) : Type 0 where
   pub more : (unit : ℕ) → Each (λ (e : Entry). In e (of_unit kept unit) ⊎ In e own) (of_unit after unit)
+  pub stays : (unit : ℕ) (e : Entry) → In e (of_unit kept unit) → In e (of_unit after unit)
+  pub comes : AreSeen after own
 
 module _ (config : Configuration) (made : ℕ) (seen after kept kept_after owns pass_seen : List (List Entry)) (front : List Ticket) (t : Ticket) (back : List Ticket) (joined : List Joined)
     (is : IsRoot config made seen kept (front ++ t ∷ back) joined) (pass : IsPass config t owns pass_seen) (longer : AreLonger seen after) (longer_pass : AreLonger pass_seen after) (more : IsJoinedTo config kept kept_after (merged owns)) where
@@ -170,6 +177,14 @@ module _ (config : Configuration) (made : ℕ) (seen after kept kept_after owns 
       rw (own_of-append actor joined (j ∷ []), e, append-nil (merged owns))
       (Each-append _ (own_of actor joined) (merged owns) (seen-longer seen after (own_of actor joined) longer (is.stands actor)) (seen-longer pass_seen after (merged owns) longer_pass pass.stands))
 
+  still : (own : List Entry) → AreSeen kept own → AreSeen kept_after own
+  still own all = Each-by _ own (λ e i. more.stays e.unit e (Each-in (λ (o : Entry). In o (of_unit kept o.unit)) own e all i))
+
+  holds : (actor : Actor) (b : Bool) → same_actor t.actor actor ≡ b → AreSeen kept_after (own_of actor (joined ++ j ∷ []))
+  holds actor false e = rw (own_of-other actor joined j (λ same. let yes = ap (same_actor t.actor) (sym same) ∙ same_actor-self t.actor in let no = sym e ∙ yes in cc)) (still (own_of actor joined) (is.held actor))
+  holds actor true e =
+      rw (own_of-append actor joined (j ∷ []), e, append-nil (merged owns)) (Each-append _ (own_of actor joined) (merged owns) (still (own_of actor joined) (is.held actor)) more.comes)
+
   cover : (unit : ℕ) (e : Entry) → In e (of_unit kept unit) ⊎ In e (merged owns) → In e (own_of e.actor (joined ++ j ∷ []))
   cover unit e (inl i) = own_of-more e.actor joined j e (Each-in (λ (o : Entry). In o (own_of o.actor joined)) (of_unit kept unit) e (is.covered unit) i)
   cover unit e (inr i) = subst (λ a. In e (own_of a (joined ++ j ∷ []))) (sym (Each-in (λ (o : Entry). o.actor ≡ t.actor) (merged owns) e pass.own.mine i)) (own_of-mine joined j e i)
@@ -187,6 +202,7 @@ module _ (config : Configuration) (made : ℕ) (seen after kept kept_after owns 
       no_entry = λ n low. own_of-other (Nexus n) joined j (Each-in (λ (o : Ticket). o.actor ≡ Nexus n → ⊥) (front ++ t ∷ back) t (is.free.no_pass n low) mine) ∙ is.free.no_entry n low;
     };
     covered = λ unit. Each-by _ (of_unit kept_after unit) (λ e i. cover unit e (Each-in (λ (o : Entry). In o (of_unit kept unit) ⊎ In o (merged owns)) (of_unit kept_after unit) e (more.more unit) i));
+    held = λ actor. holds actor (same_actor t.actor actor) refl;
   }
 
 -- ---- the world is closed
@@ -197,4 +213,16 @@ pub root-closes : (config : Configuration) (made : ℕ) (histories kept : List (
 root-closes config made histories kept joined is are all = whole config histories are joined is.passes record {
   stands = is.stands;
   made = λ unit. Each-by _ (of_unit histories unit) (λ e i. Each-in (λ (o : Entry). In o (own_of o.actor joined)) (of_unit kept unit) e (is.covered unit) (Each-in (λ (o : Entry). In o (of_unit kept unit)) (of_unit histories unit) e (all unit) i));
+}
+
+-- the same where so many of the first entries were there at the opening, and joined seats have made the later ones
+pub root-resumes : (config : Configuration) (made : ℕ) (openings : List ℕ) (histories kept : List (List Entry)) (joined : List Joined) → IsRoot config made histories kept [] joined → AreHistories config histories
+    → ((unit : ℕ) → Each (λ (e : Entry). In e (of_unit kept unit)) (of_unit (rests openings histories) unit)) → ((unit : ℕ) → Each (λ (e : Entry). In e (of_unit (rests openings histories) unit)) (of_unit kept unit))
+    → ((unit : ℕ) → Each (IsAsked config) (of_unit histories unit)) → IsResumed config openings histories joined
+root-resumes config made openings histories kept joined is are later there asked = resumed config openings histories joined are is.passes record {
+  stands = λ actor. Each-by _ (own_of actor joined) (λ e i.
+      Each-in (λ (o : Entry). In o (of_unit (rests openings histories) e.unit)) (of_unit kept e.unit) e (there e.unit) (Each-in (λ (o : Entry). In o (of_unit kept o.unit)) (own_of actor joined) e (is.held actor) i));
+  made = λ unit. Each-by _ (of_unit (rests openings histories) unit) (λ e i.
+      Each-in (λ (o : Entry). In o (own_of o.actor joined)) (of_unit kept unit) e (is.covered unit) (Each-in (λ (o : Entry). In o (of_unit kept unit)) (of_unit (rests openings histories) unit) e (later unit) i));
+  asked = asked;
 }

@@ -2,10 +2,10 @@
 pub use Rattle.merged_history.proofs.Members.{In-append, In-split}
 pub use Rattle.merged_history.proofs.Sorted.{in-merged}
 pub use Rattle.merged_history.proofs.OfActor.{rises-append}
-pub use Rattle.merged_history.proofs.Whole.{all-in}
+pub use Rattle.merged_history.proofs.Whole.{all-in, unit-stands}
 pub use Rattle.merged_history.proofs.Heads.{map-at}
 pub use Rattle.merged_history.proofs.Steps.{of-from}
 pub use Rattle.merged_history.proofs.Passing.{longer-set, pass-makes, pass-sees, pump-unit, set-at}
-pub use Rattle.merged_history.proofs.Joining.{IsJoinedTo, own_of-other, own_of-own, pass-new, root-closes, root-joins, root-makes, root-new, root-sees}
+pub use Rattle.merged_history.proofs.Joining.{IsJoinedTo, own_of-other, own_of-own, pass-new, root-closes, root-joins, root-makes, root-new, root-resumes, root-sees}
 pub use Rattle.merged_history.proofs.Resumed.{resumed}
 pub use Rattle.merged_history.proofs.Given.{AreHistories, AreMadeBy, MayMake}

@@ -10,8 +10,9 @@ use Rattle.cm_history.specs.Limits.{within_limits}
 use Rattle.cm_history.proofs.PublicLaws.{Each, Each-in, Each-by, Each-all, In}
 use Rattle.merged_history.proofs.Members.{Pairs, Pairs-all}
 use Rattle.merged_history.specs.Merged.{merged}
+use Rattle.merged_history.specs.Resumed.{IsOrdered, IsResumed}
 use Rattle.merged_history.specs.Own.{by, IsAsked}
-use Rattle.merged_history.specs.inner.Merging.{rests}
+use Rattle.merged_history.specs.Merged.{rests}
 use Rattle.pass_register.specs.Passes.{Joined, own_of}
 use Rattle.merged_history.specs.Passes.{AreJoined, of_unit}
 use Rattle.merged_history.proofs.Sorted.{Before, Sorted}
@@ -19,24 +20,11 @@ use Rattle.merged_history.proofs.Whole.{sorted, stands-on, part, of_actor}
 use Rattle.merged_history.proofs.Steps.{rises-drop, each-drop}
 use Rattle.merged_history.proofs.Given.{AreHistories}
 
--- legal but for the seqs of one actor
-pub record IsOrdered (config : Configuration) (entries : List Entry) : Type 0 where
-  pub configured : All (λ (e : Entry). e.unit < length config.units) entries
-  pub limits : All (λ (e : Entry). IsTrue (within_limits config e.unit e.act)) entries
-  pub asked : All (λ (e : Entry). IsTrue (may_ask e.unit e.actor e.act)) entries
-  pub rising : AllPairs (λ (a b : Entry). a.unit ≡ b.unit → a.stamp < b.stamp) entries
-
 -- the first entries of each unit were there before, and each later one was made by a joined pass
 pub record AreMadeAfter (config : Configuration) (openings : List ℕ) (histories : List (List Entry)) (joined : List Joined) : Type 0 where
   pub stands : (actor : Actor) → Each (λ (e : Entry). In e (of_unit (rests openings histories) e.unit)) (own_of actor joined)
   pub made : (unit : ℕ) → Each (λ (e : Entry). In e (own_of e.actor joined)) (of_unit (rests openings histories) unit)
   pub asked : (unit : ℕ) → Each (IsAsked config) (of_unit histories unit)
-
--- what `IsWhole` is of a resumed world
-pub record IsResumed (config : Configuration) (openings : List ℕ) (histories : List (List Entry)) (joined : List Joined) : Type 0 where
-  pub ordered : IsOrdered config (merged histories)
-  pub parts : (unit : ℕ) → on unit (merged histories) ≡ of_unit histories unit
-  pub actors : (actor : Actor) → by actor (merged (rests openings histories)) ≡ own_of actor joined
 
 rests-long : (at : List ℕ) (hs : List (List Entry)) → length (rests at hs) ≡ length hs
 rests-long [] hs = refl

@@ -7,7 +7,8 @@ use Rattle.merged_history.proofs.Members.{In-append, In-append_right, In-split}
 use Rattle.merged_history.specs.Merged.{is_earlier, put_in_order, all_of, merged}
 use Rattle.merged_history.specs.Own.{Rises}
 use Rattle.merged_history.specs.Passes.{of_unit, AreFrom}
-use Rattle.merged_history.specs.inner.Merging.{rests, head, AreDone, IsLeast}
+use Rattle.merged_history.specs.Merged.{rests}
+use Rattle.merged_history.specs.inner.Merging.{head, AreDone, IsLeast}
 use Rattle.merged_history.proofs.Sorted.{Before, earlier-before, merged-sorted, merged-in, in-merged, before-later, sorted-same}
 use Rattle.merged_history.proofs.OfActor.{rises-above}
 use Rattle.merged_history.proofs.Whole.{from-apart, in-unit}

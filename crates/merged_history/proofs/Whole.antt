@@ -72,6 +72,13 @@ in-unit unit (h ∷ hs) e all i = go (In-split h (all_of hs) e i) (λ j. in-unit
     go (inl j) rest = let here = Each-in _ h e all.0 j in (0, omega (arith, here), j)
     go (inr j) rest = let r = rest j in (suc r.0, omega (arith, r.1), r.2)
 
+-- and one of the merged lists
+pub unit-stands : (hs : List (List Entry)) (e : Entry) → AreFrom 0 hs → In e (merged hs) → In e (of_unit hs e.unit)
+unit-stands hs e from i =
+    let at = in-unit 0 hs e from (merged-in hs e i) in
+    let same : at.0 ≡ e.unit = omega (arith, at.1) in
+    subst (λ u. In e (of_unit hs u)) same at.2
+
 -- ---- the merged history
 
 module _ (config : Configuration) (hs : List (List Entry)) (are : AreHistories config hs) where
@@ -80,10 +87,7 @@ module _ (config : Configuration) (hs : List (List Entry)) (are : AreHistories c
 
   -- an entry of the merged history stands in its unit's history
   pub stands-on : (e : Entry) → In e (merged hs) → In e (of_unit hs e.unit)
-  stands-on e i =
-      let at = in-unit 0 hs e (histories-from config hs are) (merged-in hs e i) in
-      let same : at.0 ≡ e.unit = omega (arith, at.1) in
-      subst (λ u. In e (of_unit hs u)) same at.2
+  stands-on e i = unit-stands hs e (histories-from config hs are) i
 
   on-sound : (unit : ℕ) (e : Entry) → In e (on unit (merged hs)) → In e (of_unit hs unit)
   on-sound unit e i =

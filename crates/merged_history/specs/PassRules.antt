@@ -61,6 +61,7 @@ pub record IsRoot (config : Configuration) (made : ℕ) (seen kept : List (List 
   pub apart : AreApart out
   pub free : AreFree made out joined
   pub covered : (unit : ℕ) → Each (λ (e : Entry). In e (own_of e.actor joined)) (of_unit kept unit)
+  pub held : (actor : Actor) → AreSeen kept (own_of actor joined)
 
 -- ---- a pass is made
 

@@ -43,8 +43,8 @@ entries_of-push (p ∷ ps) o = ap (λ l. p.entry ∷ l) (entries_of-push ps o)
 abbrev pub asking : Actor → ℕ → ℕ → ℕ → Act → AskedAct
 asking actor seq last moment act = record { actor = actor; seq = seq; stamp = last; moment = moment; act = act }
 
-abbrev pub kin_with : Configuration → ℕ → RecorderFacts → UnitKin
-kin_with config unit opening = record { config = config; unit = unit; opening = opening }
+abbrev pub kin_with : Configuration → ℕ → UnitKin → UnitKin
+kin_with config unit given = record given { config = config; unit = unit }
 
 pub record IsDone (config : Configuration) (pass : PassState) (seats : List UnitSeat) (actor : Actor) (seq : ℕ) (unit : ℕ) (after : UnitSeat) (moment : ℕ) (act : Act) (a : Answer) (stamp : ℕ) : Type 0 where
   pub keeps : KeepsPass (config_of (gates_of (slice_set seats unit after))) pass.ticket (slice_set seats unit after) actor (seq + 1) stamp
@@ -52,9 +52,9 @@ pub record IsDone (config : Configuration) (pass : PassState) (seats : List Unit
   pub answered : WasAnswered (pass_view config pass seats) (pass_view (config_of (gates_of (slice_set seats unit after))) pass (slice_set seats unit after)) unit moment act a
 
 module _ (pass : PassState) (seats : List UnitSeat) (actor : Actor) (seq last : ℕ) (keeps : KeepsPass (config_of (gates_of seats)) pass.ticket seats actor seq last)
-    (unit : ℕ) (before after : UnitSeat) (low : unit < length seats) (at : before ≡ slice_index_or seats unit before) (opening : RecorderFacts) (moment : ℕ) (act : Act) (acted : Acted)
+    (unit : ℕ) (before after : UnitSeat) (low : unit < length seats) (at : before ≡ slice_index_or seats unit before) (given : UnitKin) (moment : ℕ) (act : Act) (acted : Acted)
     (limits : within_limits (config_of (gates_of seats)) unit act ≡ true) (asked : may_ask unit pass.ticket.actor act ≡ true)
-    (did : HasActed (kin_with (config_of (gates_of seats)) unit opening) before after (asking actor seq last moment act) acted) where
+    (did : HasActed (kin_with (config_of (gates_of seats)) unit given) before after (asking actor seq last moment act) acted) where
   abbrev config : Configuration
   config = config_of (gates_of seats)
 
@@ -65,11 +65,11 @@ module _ (pass : PassState) (seats : List UnitSeat) (actor : Actor) (seq last : 
   e = entry_of (pass_view config pass seats) unit did.history moment act
 
   -- the entry as the pass's contract has it
-  entry-is : entry_at_gate (kin_with config unit opening) did.history (asking actor seq last moment act) ≡ e
+  entry-is : entry_at_gate (kin_with config unit given) did.history (asking actor seq last moment act) ≡ e
   entry-is =
-      ap (λ x. entry_at_gate (kin_with config unit opening) did.history (asking x seq last moment act)) keeps.actor_is
-      ∙ ap (λ x. entry_at_gate (kin_with config unit opening) did.history (asking pass.ticket.actor x last moment act)) keeps.seq_is
-      ∙ ap (λ x. entry_at_gate (kin_with config unit opening) did.history (asking pass.ticket.actor (length pass.ticket.before + length own) x moment act)) keeps.last_is
+      ap (λ x. entry_at_gate (kin_with config unit given) did.history (asking x seq last moment act)) keeps.actor_is
+      ∙ ap (λ x. entry_at_gate (kin_with config unit given) did.history (asking pass.ticket.actor x last moment act)) keeps.seq_is
+      ∙ ap (λ x. entry_at_gate (kin_with config unit given) did.history (asking pass.ticket.actor (length pass.ticket.before + length own) x moment act)) keeps.last_is
 
   seat-is : after ≡ record (counted (record before { seen = did.history }) e) { misses = after.misses; marks = after.marks }
   seat-is = did.seat ∙ ap (λ x. record (counted (record before { seen = did.history }) x) { misses = after.misses; marks = after.marks }) entry-is

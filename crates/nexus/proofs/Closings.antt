@@ -5,12 +5,14 @@ use Rattle.std.proofs.lemmas.List.{length-map}
 use Rattle.cm_base.specs.Configuration.{Configuration}
 use Rattle.cm_history.specs.declared.act.Entry.{Entry}
 use Rattle.cm_history.specs.Record.{Record}
-use Rattle.cm_history.proofs.PublicLaws.{Each, In}
-use Rattle.merged_history.specs.Merged.{merged}
+use Rattle.cm_history.proofs.PublicLaws.{Each, Each-by, Each-in, In}
+use Rattle.merged_history.specs.Merged.{merged, rests}
+use Rattle.merged_history.specs.Own.{IsAsked}
+use Rattle.merged_history.specs.Resumed.{IsResumed}
 use Rattle.merged_history.specs.Passes.{of_unit, AreFrom}
 use Rattle.merged_history.specs.PassRules.{AreLonger, IsRoot}
-use Rattle.merged_history.proofs.PublicLaws.{of-from, root-closes, root-sees}
-use Rattle.pass_register.specs.Passes.{RootState}
+use Rattle.merged_history.proofs.PublicLaws.{of-from, root-closes, root-resumes, root-sees}
+use Rattle.pass_register.specs.Passes.{RootState, own_of}
 use Rattle.unit_gate.specs.declared.kin.RecorderFacts.{RecorderFacts}
 use Rattle.unit_gate.specs.declared.kin.UnitKin.{UnitKin}
 use Rattle.unit_gate.specs.declared.recorded_unit.ClosedUnit.{ClosedUnit}
@@ -19,11 +21,12 @@ use Rattle.unit_gate.specs.SeatActs.{UnitSeat}
 use Rattle.nexus.specs.Worlds.{UnitGate}
 use Rattle.nexus.specs.inner.Gates.{IsGateOf, config_of}
 use Rattle.nexus.specs.Roots.{AreAtMost}
-use Rattle.nexus.specs.Closing.{HasNoRecorder, IsLeftOf, AreLeftOf, kept_of, marks_left, WasClosed, WasHandedBack}
-use Rattle.nexus.specs.inner.Keeping.{AreGates, KeepsRoot, gates_of, seens, kepts, entries_joined, root_view}
+use Rattle.nexus.specs.Closing.{AreNone, HasNoRecorder, IsLeftOf, AreLeftOf, kept_of, marks_left, WasClosed, WasHandedBack}
+use Rattle.nexus.specs.inner.Keeping.{AreGates, IsOpened, KeepsRoot, gates_of, openings, seens, kepts, entries_joined, root_view}
 use Rattle.nexus.specs.inner.Closing.{IsAlone, AreAlone, IsReady, AreReady, AreEntered, AreHeld, AreClosed, given_back}
 use Rattle.nexus.proofs.Entering.{map-entered, each-entered, entered-gates, entered-held, entered-long, entered-longer, entered-above, entered-from, kept_in}
 use Rattle.merged_history.proofs.PublicLaws.{AreHistories}
+use Rattle.nexus.proofs.Opened.{each-parts, opened-longer}
 
 -- ---- the root's seats, with no pass out
 
@@ -31,9 +34,9 @@ pub are-alone : (seats : List UnitSeat) → Each (λ (s : UnitSeat). s.holds ≡
 are-alone [] a b c = tt
 are-alone (s ∷ ss) a b c = (record { first = c.0; out = b.0; free = a.0 }, are-alone ss a.1 b.1 c.1)
 
-are-ready : (seats : List UnitSeat) → Each (λ (s : UnitSeat). s.first ≡ true) seats → Each (λ (s : UnitSeat). s.out ≡ 0) seats → Each (λ (s : UnitSeat). s.own ≡ []) seats → Each (λ (s : UnitSeat). s.opening ≡ 0) seats → AreReady seats
-are-ready [] a b c d = tt
-are-ready (s ∷ ss) a b c d = (record { first = a.0; out = b.0; nothing = c.0; opening = d.0 }, are-ready ss a.1 b.1 c.1 d.1)
+are-ready : (seats : List UnitSeat) → Each (λ (s : UnitSeat). s.first ≡ true) seats → Each (λ (s : UnitSeat). s.out ≡ 0) seats → Each (λ (s : UnitSeat). s.own ≡ []) seats → AreReady seats
+are-ready [] a b c = tt
+are-ready (s ∷ ss) a b c = (record { first = a.0; out = b.0; nothing = c.0 }, are-ready ss a.1 b.1 c.1)
 
 map-back : {Y : Type 0} (f : UnitSeat → Y) → ((s : UnitSeat) → f (given_back s) ≡ f s) → (seats : List UnitSeat) → map f (map given_back seats) ≡ map f seats
 map-back f keep [] = refl
@@ -79,6 +82,12 @@ module _ (made : ℕ) (seqs : List ℕ) (root : RootState) (old now : List UnitS
   root-looks : IsRoot config made (seens now) (kepts now) root.out root.joined
   root-looks = rw kepts-now (root-sees config made (seens old) (seens now) (kepts old) root.out root.joined keeps.is (entered-longer old now units entered))
 
+  openings-now : openings now ≡ openings old
+  openings-now = map-entered (λ (s : UnitSeat). s.opening) (λ b a u has. ap (λ (s : UnitSeat). s.opening) has.taken.seat) old now units entered
+
+  opened-now : Each (IsOpened config) now
+  opened-now = each-entered (IsOpened config) (IsOpened config) (λ b a u has is. opened-longer config b a (ap (λ (s : UnitSeat). s.opening) has.taken.seat) has.taken.turn.longer is) old now units entered keeps.openings
+
   -- ---- want of memory: all turns are given back
 
   gates-back : gates_of back ≡ gates_of old
@@ -89,6 +98,9 @@ module _ (made : ℕ) (seqs : List ℕ) (root : RootState) (old now : List UnitS
 
   kepts-back : kepts back ≡ kepts now
   kepts-back = map-back (λ (s : UnitSeat). entries_joined s.joined) (λ s. refl) now
+
+  openings-back : openings back ≡ openings old
+  openings-back = map-back (λ (s : UnitSeat). s.opening) (λ s. refl) now ∙ openings-now
 
   long-back : length back ≡ length old
   long-back = length-map now given_back ∙ long
@@ -106,8 +118,7 @@ module _ (made : ℕ) (seqs : List ℕ) (root : RootState) (old now : List UnitS
         (each-entered (λ (s : UnitSeat). s.out ≡ length root.out) (λ (s : UnitSeat). s.out ≡ length root.out) (λ b a u has is. ap (λ (s : UnitSeat). s.out) has.taken.seat ∙ is) old now units entered keeps.outs);
     nothing = each-back (λ (s : UnitSeat). s.own ≡ []) (λ (s : UnitSeat). s.own ≡ []) (λ s is. is) now
         (each-entered (λ (s : UnitSeat). s.own ≡ []) (λ (s : UnitSeat). s.own ≡ []) (λ b a u has is. ap (λ (s : UnitSeat). s.own) has.taken.seat ∙ is) old now units entered keeps.nothing);
-    openings = each-back (λ (s : UnitSeat). s.opening ≡ 0) (λ (s : UnitSeat). s.opening ≡ 0) (λ s is. is) now
-        (each-entered (λ (s : UnitSeat). s.opening ≡ 0) (λ (s : UnitSeat). s.opening ≡ 0) (λ b a u has is. ap (λ (s : UnitSeat). s.opening) has.taken.seat ∙ is) old now units entered keeps.openings);
+    openings = each-back (IsOpened config) (IsOpened config) (λ s is. record { low = is.low; asked = is.asked }) now opened-now;
     seqs_are = rw long-back keeps.seqs_are;
   }
 
@@ -118,7 +129,7 @@ module _ (made : ℕ) (seqs : List ℕ) (root : RootState) (old now : List UnitS
   handed-back = record {
     longer = rw seens-back (entered-longer old now units entered);
     marks = rw (map-back (λ (s : UnitSeat). s.marks) (λ s. refl) now) (entered-above old now units entered);
-    root = rw gates-back refl;
+    root = rw (gates-back, openings-back) refl;
   }
 
   -- ---- all gates are closed
@@ -128,7 +139,6 @@ module _ (made : ℕ) (seqs : List ℕ) (root : RootState) (old now : List UnitS
       (each-entered (λ (s : UnitSeat). s.first ≡ true) (λ (s : UnitSeat). s.first ≡ true) (λ b a u has is. ap (λ (s : UnitSeat). s.first) has.taken.seat ∙ is) old now units entered keeps.firsts)
       (each-entered (λ (s : UnitSeat). s.out ≡ length root.out) (λ (s : UnitSeat). s.out ≡ 0) (λ b a u has is. ap (λ (s : UnitSeat). s.out) has.taken.seat ∙ is ∙ ap length none) old now units entered keeps.outs)
       (each-entered (λ (s : UnitSeat). s.own ≡ []) (λ (s : UnitSeat). s.own ≡ []) (λ b a u has is. ap (λ (s : UnitSeat). s.own) has.taken.seat ∙ is) old now units entered keeps.nothing)
-      (each-entered (λ (s : UnitSeat). s.opening ≡ 0) (λ (s : UnitSeat). s.opening ≡ 0) (λ b a u has is. ap (λ (s : UnitSeat). s.opening) has.taken.seat ∙ is) old now units entered keeps.openings)
 
   histories : AreHistories config (seens now)
   histories = record {
@@ -138,12 +148,43 @@ module _ (made : ℕ) (seqs : List ℕ) (root : RootState) (old now : List UnitS
   }
 
   module _ {R : Type 0} (facts : R → RecorderFacts) (fits : R → Entry → Type 0) where
-    closed-made : (seats : List UnitSeat) (us : List RecordedState) (left : List (ClosedUnit R)) → AreClosed facts fits seats us left → (unit : ℕ) → Each (λ (e : Entry). In e (of_unit (kepts seats) unit)) (of_unit (seens seats) unit)
+    -- the entries behind the opening ones are those that joined seats have made
+    closed-made : (seats : List UnitSeat) (us : List RecordedState) (left : List (ClosedUnit R)) → AreClosed facts fits seats us left → (unit : ℕ)
+        → Each (λ (e : Entry). In e (of_unit (kepts seats) unit)) (of_unit (rests (openings seats) (seens seats)) unit)
     closed-made [] us left all unit = tt
     closed-made (s ∷ ss) [] left all unit = absurd all
     closed-made (s ∷ ss) (u ∷ us) [] all unit = absurd all
     closed-made (s ∷ ss) (u ∷ us) (l ∷ ls) all zero = all.0.made
     closed-made (s ∷ ss) (u ∷ us) (l ∷ ls) all (suc unit) = closed-made ss us ls all.1 unit
+
+    closed-later : (seats : List UnitSeat) (us : List RecordedState) (left : List (ClosedUnit R)) → AreClosed facts fits seats us left → (unit : ℕ)
+        → Each (λ (e : Entry). In e (of_unit (rests (openings seats) (seens seats)) unit)) (of_unit (kepts seats) unit)
+    closed-later [] us left all unit = tt
+    closed-later (s ∷ ss) [] left all unit = absurd all
+    closed-later (s ∷ ss) (u ∷ us) [] all unit = absurd all
+    closed-later (s ∷ ss) (u ∷ us) (l ∷ ls) all zero = all.0.later
+    closed-later (s ∷ ss) (u ∷ us) (l ∷ ls) all (suc unit) = closed-later ss us ls all.1 unit
+
+    -- all of them, where there were none at the opening
+    closed-whole : (seats : List UnitSeat) (us : List RecordedState) (left : List (ClosedUnit R)) → AreClosed facts fits seats us left → AreNone (openings seats) → (unit : ℕ)
+        → Each (λ (e : Entry). In e (of_unit (kepts seats) unit)) (of_unit (seens seats) unit)
+    closed-whole [] us left all none unit = tt
+    closed-whole (s ∷ ss) [] left all none unit = absurd all
+    closed-whole (s ∷ ss) (u ∷ us) [] all none unit = absurd all
+    closed-whole (s ∷ ss) (u ∷ us) (l ∷ ls) all none zero = subst (λ n. Each (λ (e : Entry). In e (entries_joined s.joined)) (drop n s.seen)) none.0 all.0.made
+    closed-whole (s ∷ ss) (u ∷ us) (l ∷ ls) all none (suc unit) = closed-whole ss us ls all.1 none.1 unit
+
+    -- each entry might be asked: those at the opening, and those that joined seats have made
+    closed-asked : (seats : List UnitSeat) (us : List RecordedState) (left : List (ClosedUnit R)) → AreClosed facts fits seats us left → Each (IsOpened config) seats
+        → ((unit : ℕ) → Each (IsAsked config) (of_unit (kepts seats) unit)) → (unit : ℕ) → Each (IsAsked config) (of_unit (seens seats) unit)
+    closed-asked [] us left all opened asked unit = tt
+    closed-asked (s ∷ ss) [] left all opened asked unit = absurd all
+    closed-asked (s ∷ ss) (u ∷ us) [] all opened asked unit = absurd all
+    closed-asked (s ∷ ss) (u ∷ us) (l ∷ ls) all opened asked zero =
+        each-parts (IsAsked config) s.opening s.seen opened.0.asked
+        (Each-by (IsAsked config) (drop s.opening s.seen) (λ e i.
+        Each-in (IsAsked config) (entries_joined s.joined) e (asked zero) (Each-in (λ (x : Entry). In x (entries_joined s.joined)) (drop s.opening s.seen) e all.0.made i)))
+    closed-asked (s ∷ ss) (u ∷ us) (l ∷ ls) all opened asked (suc unit) = closed-asked ss us ls all.1 opened.1 (λ n. asked (suc n)) unit
 
     closed-kept : (seats : List UnitSeat) (us : List RecordedState) (left : List (ClosedUnit R)) → AreClosed facts fits seats us left → kept_of facts fits left ≡ kept_in us
     closed-kept [] [] [] all = refl
@@ -180,15 +221,27 @@ module _ (made : ℕ) (seqs : List ℕ) (root : RootState) (old now : List UnitS
     kept-whole (s ∷ ss) (u ∷ us) [] held all none = absurd all
     kept-whole (s ∷ ss) (u ∷ us) (l ∷ ls) held all none =
         let same : kin_of u ≡ none.0.kin = (let x = held.0.kin_is in let y = none.0.has in let z : Some (kin_of u) ≡ Some none.0.kin = sym x ∙ y in cc) in
-        let zero : l.folded ≡ 0 = all.0.left_of.unfolded (ap (λ (k : UnitKin). k.opening.absent) same ∙ none.0.absent) in
+        let zero : l.folded ≡ 0 = all.0.left_of.unfolded (ap (λ (k : UnitKin). k.opening.absent) same ∙ none.0.absent) ∙ ap (λ (k : UnitKin). k.folded) same ∙ none.0.unfolded in
         ap (λ x. x ∷ kept_of facts fits ls) (all.0.left_of.kept ∙ ap (λ n. drop n s.seen) zero) ∙ ap (λ x. s.seen ∷ x) (kept-whole ss us ls held.1 all.1 none.1)
+
+    looks : root.out ≡ [] → IsRoot config made (seens now) (kepts now) [] root.joined
+    looks none = subst (λ l. IsRoot config made (seens now) (kepts now) l root.joined) none root-looks
+
+    kept-asked : root.out ≡ [] → (unit : ℕ) → Each (IsAsked config) (of_unit (kepts now) unit)
+    kept-asked none unit =
+        let is = looks none in
+        Each-by (IsAsked config) (of_unit (kepts now) unit) (λ e i.
+        Each-in (IsAsked config) (own_of e.actor root.joined) e (is.passes e.actor).asked (Each-in (λ (x : Entry). In x (own_of x.actor root.joined)) (of_unit (kepts now) unit) e (is.covered unit) i))
 
     pub was-closed : (left : List (ClosedUnit R)) (merged_kept : Record) → root.out ≡ [] → AreClosed facts fits now units left → merged_kept.entries ≡ merged (kept_in units)
         → WasClosed facts fits (root_view config made root old) left merged_kept
     was-closed left merged_kept none closed is = record {
       histories = seens now;
       longer = entered-longer old now units entered;
-      whole = root-closes config made (seens now) (kepts now) root.joined (subst (λ l. IsRoot config made (seens now) (kepts now) l root.joined) none root-looks) histories (closed-made now units left closed);
+      resumed = subst (λ ns. IsResumed config ns (seens now) root.joined) openings-now
+          (root-resumes config made (openings now) (seens now) (kepts now) root.joined (looks none) histories (closed-made now units left closed) (closed-later now units left closed)
+          (closed-asked now units left closed opened-now (kept-asked none)));
+      whole = λ nothing. root-closes config made (seens now) (kepts now) root.joined (looks none) histories (closed-whole now units left closed (subst AreNone (sym openings-now) nothing));
       left = subst (λ g. AreLeftOf facts fits g (seens now) left) gates-now (closed-left now units left held closed);
       marks = rw (closed-marks now units left held closed) (entered-above old now units entered);
       merged_is = is ∙ sym (ap merged (closed-kept now units left closed));

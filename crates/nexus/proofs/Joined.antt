@@ -11,7 +11,7 @@ use Rattle.cm_history.proofs.PublicLaws.{Each, Each-by, Each-in, In}
 use Rattle.merged_history.specs.Merged.{merged}
 use Rattle.merged_history.specs.Passes.{of_unit}
 use Rattle.merged_history.specs.PassRules.{IsRoot, AreLonger}
-use Rattle.merged_history.proofs.PublicLaws.{In-split, in-merged, all-in, root-joins, IsJoinedTo, own_of-other, own_of-own}
+use Rattle.merged_history.proofs.PublicLaws.{In-append, In-split, in-merged, all-in, unit-stands, root-joins, IsJoinedTo, own_of-other, own_of-own}
 use Rattle.pass_register.specs.declared.known.Ticket.{Ticket}
 use Rattle.pass_register.specs.Passes.{Joined, RootState, PassState, own_of, IsJoined}
 use Rattle.turn_gate.specs.declared.view.Own.{Own}
@@ -21,7 +21,9 @@ use Rattle.nexus.specs.Worlds.{UnitGate}
 use Rattle.nexus.specs.inner.Gates.{config_of}
 use Rattle.nexus.specs.Roots.{AreAtMost, WasTaken}
 use Rattle.nexus.specs.inner.Seats.{AllFree, WasJoined, AreJoinedTo}
-use Rattle.nexus.specs.inner.Keeping.{gates_of, entries_of, entries_joined, owns, seens, kepts, pass_view, root_view, KeepsPass, KeepsRoot, AreSeqs, seqs_after}
+use Rattle.nexus.specs.inner.Keeping.{IsOpened, gates_of, entries_of, entries_joined, openings, owns, seens, kepts, pass_view, root_view, KeepsPass, KeepsRoot, AreSeqs, seqs_after}
+use Rattle.nexus.proofs.Members.{In-right}
+use Rattle.nexus.proofs.Opened.{opened-longer}
 
 map-joined : {Y : Type 0} (f : UnitSeat → Y) → ((b p a : UnitSeat) → WasJoined b p a → f a ≡ f b) → (old passed now : List UnitSeat) → AreJoinedTo old passed now 0 → map f now ≡ map f old
 map-joined f keep [] passed now so = ap (map f) so
@@ -81,6 +83,25 @@ kept-or-made (b ∷ bs) (p ∷ ps) (a ∷ al) zero e so i =
     In-split (entries_joined b.joined) (entries_of p.own) e
     (subst (In e) (ap (λ (s : UnitSeat). entries_joined s.joined) so.0.into ∙ entries_joined-push b.joined (record { own = p.own; seen = p.seen })) i)
 kept-or-made (b ∷ bs) (p ∷ ps) (a ∷ al) (suc unit) e so i = kept-or-made bs ps al unit e so.1 i
+
+-- both stand in what is kept now
+kept-still : (old passed now : List UnitSeat) (unit : ℕ) (e : Entry) → AreJoinedTo old passed now 0 → In e (of_unit (kepts old) unit) → In e (of_unit (kepts now) unit)
+kept-still [] passed now unit e so i = subst (λ l. In e (of_unit (kepts l) unit)) (sym so) i
+kept-still (b ∷ bs) [] now unit e so i = absurd so
+kept-still (b ∷ bs) (p ∷ ps) [] unit e so i = absurd so
+kept-still (b ∷ bs) (p ∷ ps) (a ∷ al) zero e so i =
+    subst (In e) (sym (ap (λ (s : UnitSeat). entries_joined s.joined) so.0.into ∙ entries_joined-push b.joined (record { own = p.own; seen = p.seen })))
+    (In-append (entries_joined b.joined) (entries_of p.own) e i)
+kept-still (b ∷ bs) (p ∷ ps) (a ∷ al) (suc unit) e so i = kept-still bs ps al unit e so.1 i
+
+made-kept : (old passed now : List UnitSeat) (unit : ℕ) (e : Entry) → length passed ≡ length old → AreJoinedTo old passed now 0 → In e (of_unit (owns passed) unit) → In e (of_unit (kepts now) unit)
+made-kept old [] now unit e long so i = absurd i
+made-kept [] (p ∷ ps) now unit e long so i = absurd (omega (arith, long))
+made-kept (b ∷ bs) (p ∷ ps) [] unit e long so i = absurd so
+made-kept (b ∷ bs) (p ∷ ps) (a ∷ al) zero e long so i =
+    subst (In e) (sym (ap (λ (s : UnitSeat). entries_joined s.joined) so.0.into ∙ entries_joined-push b.joined (record { own = p.own; seen = p.seen })))
+    (In-right (entries_joined b.joined) (entries_of p.own) e i)
+made-kept (b ∷ bs) (p ∷ ps) (a ∷ al) (suc unit) e long so i = made-kept bs ps al unit e (omega (arith, long)) so.1 i
 
 -- ---- the next seq of each pump
 
@@ -144,8 +165,15 @@ module _ (made : ℕ) (seqs : List ℕ) (root after : RootState) (pass : PassSta
   pass-here : KeepsPass config pass.ticket passed actor seq last
   pass-here = subst (λ g. KeepsPass (config_of g) pass.ticket passed actor seq last) same keeps_pass
 
+  size : length passed ≡ length old
+  size = sym (length-map passed (λ (s : UnitSeat). s.gate)) ∙ ap length same ∙ length-map old (λ (s : UnitSeat). s.gate)
+
   more : IsJoinedTo config (kepts old) (kepts now) (merged (owns passed))
-  more = record { more = λ unit. Each-by _ (of_unit (kepts now) unit) (λ e i. go unit e (kept-or-made old passed now unit e joined i)) }
+  more = record {
+    more = λ unit. Each-by _ (of_unit (kepts now) unit) (λ e i. go unit e (kept-or-made old passed now unit e joined i));
+    stays = λ unit e i. kept-still old passed now unit e joined i;
+    comes = Each-by _ (merged (owns passed)) (λ e i. made-kept old passed now e.unit e size joined (unit-stands (owns passed) e pass-here.is.parts i));
+  }
     where
       go : (unit : ℕ) (e : Entry) → In e (of_unit (kepts old) unit) ⊎ In e (of_unit (owns passed) unit) → In e (of_unit (kepts old) unit) ⊎ In e (merged (owns passed))
       go unit e (inl i) = inl i
@@ -154,8 +182,8 @@ module _ (made : ℕ) (seqs : List ℕ) (root after : RootState) (pass : PassSta
   gates-now : gates_of now ≡ gates_of old
   gates-now = map-joined (λ (s : UnitSeat). s.gate) (λ b p a was. ap (λ (s : UnitSeat). s.gate) was.into) old passed now joined
 
-  size : length passed ≡ length old
-  size = sym (length-map passed (λ (s : UnitSeat). s.gate)) ∙ ap length same ∙ length-map old (λ (s : UnitSeat). s.gate)
+  openings-now : openings now ≡ openings old
+  openings-now = map-joined (λ (s : UnitSeat). s.opening) (λ b p a was. ap (λ (s : UnitSeat). s.opening) was.into) old passed now joined
 
   size-now : length now ≡ length old
   size-now = sym (length-map now (λ (s : UnitSeat). s.gate)) ∙ ap length gates-now ∙ length-map old (λ (s : UnitSeat). s.gate)
@@ -195,7 +223,7 @@ module _ (made : ℕ) (seqs : List ℕ) (root after : RootState) (pass : PassSta
     outs = each-joined (λ (s : UnitSeat). s.out ≡ length root.out) (λ (s : UnitSeat). s.out ≡ length (back.front ++ back.back))
         (λ b p a was is. let fewer = was.fewer in omega (arith, fewer, is, count)) old passed now joined keeps.outs;
     nothing = each-joined (λ (s : UnitSeat). s.own ≡ []) (λ (s : UnitSeat). s.own ≡ []) (λ b p a was is. ap (λ (s : UnitSeat). s.own) was.into ∙ is) old passed now joined keeps.nothing;
-    openings = each-joined (λ (s : UnitSeat). s.opening ≡ 0) (λ (s : UnitSeat). s.opening ≡ 0) (λ b p a was is. ap (λ (s : UnitSeat). s.opening) was.into ∙ is) old passed now joined keeps.openings;
+    openings = each-joined (IsOpened config) (IsOpened config) (λ b p a was is. opened-longer config b a (ap (λ (s : UnitSeat). s.opening) was.into) was.longer is) old passed now joined keeps.openings;
     seqs_are = seqs-now;
   }
 
@@ -212,7 +240,7 @@ module _ (made : ℕ) (seqs : List ℕ) (root after : RootState) (pass : PassSta
     longer_pass = longer-pass;
     marks = above-old old passed now joined;
     marks_pass = above-passed old passed now size joined;
-    root = rw (gates-now, back.root) refl;
+    root = rw (gates-now, openings-now, back.root) refl;
   }
 
 pub all-free : (seats : List UnitSeat) → All (λ h. h ≡ false) (map (λ (s : UnitSeat). s.holds) seats) → AllFree seats

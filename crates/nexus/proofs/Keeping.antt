@@ -38,7 +38,7 @@ module _ (pass : PassState) (seats : List UnitSeat) (actor : Actor) (seq last : 
 
   -- ---- the turn was taken by this pass
 
-  module _ (opening : RecorderFacts) (took : HasTakenTurn (kin_with config unit opening) before after) where
+  module _ (given : UnitKin) (took : HasTakenTurn (kin_with config unit given) before after) where
     longer : IsPrefix (of_unit (seens seats) unit) after.seen
     longer = subst (λ l. IsPrefix l after.seen) (sym (seen-at seats unit before after low at)) took.turn.longer
 
@@ -138,7 +138,7 @@ pub record IsSeatAt (gate : UnitGate) (seats : List UnitSeat) (before : UnitSeat
   pub gate_is : before.gate ≡ gate
   pub kin : UnitKin
   pub has : gate.kin ≡ Some kin
-  pub kin_is : kin ≡ kin_with (config_of (gates_of seats)) unit kin.opening
+  pub kin_is : kin ≡ kin_with (config_of (gates_of seats)) unit kin
 
 pub seat-at : (gates : List UnitGate) (register : TableId) (gate : UnitGate) (pass : PassState) (seats : List UnitSeat) (before : UnitSeat) (actor : Actor) (seq last : ℕ) (unit index : ℕ) (world : WorldView) (shown : PassView)
     → record { config = config_of gates; gates = gates; register = register } ≡ world → pass_view (config_of (gates_of seats)) pass seats ≡ shown

@@ -3,6 +3,7 @@ pub mod Members
 pub mod Splitting
 pub mod Taking
 pub mod Making
+pub mod Opened
 pub mod Joined
 pub mod Last
 pub mod Turning
@@ -11,6 +12,7 @@ pub mod NotDone
 pub mod Staying
 pub mod Keeping
 pub mod Opening
+pub mod GoingOn
 pub mod Made
 pub mod Entering
 pub mod Leaving

@@ -18,7 +18,8 @@ use Rattle.nexus.specs.Worlds.{UnitGate}
 use Rattle.nexus.specs.inner.Gates.{config_of}
 use Rattle.nexus.specs.Roots.{WasMade}
 use Rattle.nexus.specs.inner.Seats.{AreSplit}
-use Rattle.nexus.specs.inner.Keeping.{gates_of, entries_of, entries_joined, owns, seens, kepts, pass_view, root_view, IsPumpOf, KeepsPass, KeepsRoot, AreSeqs}
+use Rattle.nexus.specs.inner.Keeping.{gates_of, entries_of, entries_joined, openings, owns, seens, kepts, pass_view, root_view, IsOpened, IsPumpOf, KeepsPass, KeepsRoot, AreSeqs}
+use Rattle.nexus.proofs.Opened.{opened-longer, prefix-same}
 use Rattle.nexus.proofs.Splitting.{map-now, map-fresh, split-long, each-now}
 
 nothing-from : (unit : ℕ) (seats : List UnitSeat) → AreFrom unit (map (λ (s : UnitSeat). []) seats)
@@ -66,6 +67,9 @@ module _ (made : ℕ) (seqs : List ℕ) (root : RootState) (old now fresh : List
 
   seens-fresh : seens fresh ≡ seens old
   seens-fresh = map-fresh (λ (s : UnitSeat). s.seen) (λ (s : UnitSeat). s.seen) (λ b a x was. ap (λ (s : UnitSeat). s.seen) was.new) old now fresh split
+
+  openings-now : openings now ≡ openings old
+  openings-now = map-now (λ (s : UnitSeat). s.opening) (λ b a x was. ap (λ (s : UnitSeat). s.opening) was.seat) old now fresh split
 
   marks-now : map (λ (s : UnitSeat). s.marks) now ≡ map (λ (s : UnitSeat). s.marks) old
   marks-now = map-now (λ (s : UnitSeat). s.marks) (λ b a x was. ap (λ (s : UnitSeat). s.marks) was.seat) old now fresh split
@@ -115,7 +119,8 @@ module _ (made : ℕ) (seqs : List ℕ) (root : RootState) (old now fresh : List
       outs = each-now (λ (s : UnitSeat). s.out ≡ length root.out) (λ (s : UnitSeat). s.out ≡ length (root.out ++ ticket ∷ []))
           (λ b a x was is. ap (λ (s : UnitSeat). s.out) was.seat ∙ ap (λ n. n + 1) is ∙ sym one-out) old now fresh split keeps.outs;
       nothing = each-now (λ (s : UnitSeat). s.own ≡ []) (λ (s : UnitSeat). s.own ≡ []) (λ b a x was is. ap (λ (s : UnitSeat). s.own) was.seat ∙ is) old now fresh split keeps.nothing;
-      openings = each-now (λ (s : UnitSeat). s.opening ≡ 0) (λ (s : UnitSeat). s.opening ≡ 0) (λ b a x was is. ap (λ (s : UnitSeat). s.opening) was.seat ∙ is) old now fresh split keeps.openings;
+      openings = each-now (IsOpened config) (IsOpened config) (λ b a x was is.
+          opened-longer config b a (ap (λ (s : UnitSeat). s.opening) was.seat) (prefix-same b.seen a.seen (ap (λ (s : UnitSeat). s.seen) was.seat)) is) old now fresh split keeps.openings;
       seqs_are = rw long keeps.seqs_are;
     }
 
@@ -124,6 +129,6 @@ module _ (made : ℕ) (seqs : List ℕ) (root : RootState) (old now fresh : List
 
     pub was-made : WasMade (root_view config made root old) (root_view (config_of (gates_of now)) (made_after actor made) root_after now) (pass_view (config_of (gates_of fresh)) pass fresh) actor
     was-made = record {
-      root = rw (gates-now, seens-now, marks-now) refl;
+      root = rw (gates-now, seens-now, marks-now, openings-now) refl;
       new = rw (gates-fresh, none, seens-fresh, marks-fresh, holds-fresh, misses-fresh) refl;
     }

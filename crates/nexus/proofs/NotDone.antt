@@ -1,5 +1,5 @@
 -- A turn in which no entry was made
-use Rattle.std.proofs.Common.{◌<◌, ◌≤◌, ◌≡◌, ℕ, ◌+◌, List, [], ◌∷◌, length, map, refl, ap, sym, ◌∙◌, subst, arith, true, inl, inr, Some}
+use Rattle.std.proofs.Common.{◌<◌, ◌≤◌, ◌≡◌, ℕ, ◌+◌, List, [], ◌∷◌, length, map, refl, ap, sym, ◌∙◌, subst, arith, true, false, Bool, inl, inr, Some}
 use Rattle.std.specs.Prelude.{◌⊎◌, slice_set, slice_get, slice_index, slice_index_or}
 use Rattle.std.proofs.lemmas.List.{length-set, length-map}
 use mathlib.Core.List.{IsPrefix}
@@ -21,8 +21,8 @@ use Rattle.unit_gate.specs.declared.kin.RecorderFacts.{RecorderFacts}
 use Rattle.unit_gate.specs.declared.kin.UnitKin.{UnitKin}
 use Rattle.unit_gate.specs.declared.refused.TryRefused.{TryRefused}
 use Rattle.unit_gate.specs.Asking.{IsServed as IsServedAt}
-use Rattle.unit_gate.specs.SeatActs.{UnitSeat, IfAct, HasSeen, IsRefused, IsTryRefused, Missed, folded_of, faults_of, WasFolded as WasFoldedAt}
-use Rattle.nexus.specs.Worlds.{PassView, last_stamp_of, HasLooked, HasNone, WasFolded, FoundTaken, IsServed, NotDone, NotTaken, faults_at, folded_at}
+use Rattle.unit_gate.specs.SeatActs.{UnitSeat, IfAct, HasSeen, IsRefused, IsTryRefused, Missed, folded_of, faults_of, WasFolded as WasFoldedAt, WasSaved as WasSavedAt, IsSaved as IsSavedAt}
+use Rattle.nexus.specs.Worlds.{UnitGate, PassView, last_stamp_of, HasLooked, HasNone, HasSome, WasFolded, WasSaved, IsSaved, FoundTaken, IsServed, NotDone, NotTaken, faults_at, folded_at}
 use Rattle.nexus.specs.inner.Gates.{config_of}
 use Rattle.nexus.specs.inner.Keeping.{gates_of, entries_of, owns, seens, pass_view, KeepsPass}
 use Rattle.nexus.proofs.Acted.{asking, kin_with}
@@ -71,7 +71,7 @@ module _ (pass : PassState) (seats : List UnitSeat) (actor : Actor) (seq last : 
 
   -- ---- the history was seen
 
-  module _ (opening : RecorderFacts) (saw : HasSeen (kin_with config unit opening) before after) where
+  module _ (given : UnitKin) (saw : HasSeen (kin_with config unit given) before after) where
     seat-is : after ≡ record before { seen = after.seen; misses = after.misses; marks = after.marks }
     seat-is = saw.looked.seat
 
@@ -122,7 +122,7 @@ module _ (pass : PassState) (seats : List UnitSeat) (actor : Actor) (seq last : 
     none-here : (kin : UnitKin) → before.gate.kin ≡ Some kin → kin.opening.absent ≡ true → HasNone (gates_of seats) unit
     none-here kin has absent = record { gate = before.gate; at = map-get (λ (s : UnitSeat). s.gate) seats unit before low at; kin = kin; has = has; absent = absent }
 
-    folded : (kin : UnitKin) → before.gate.kin ≡ Some kin → kin.opening ≡ opening → WasFoldedAt (kin_with config unit opening) before after
+    folded : (kin : UnitKin) → before.gate.kin ≡ Some kin → kin.opening ≡ given.opening → WasFoldedAt (kin_with config unit given) before after
         → WasFolded (pass_view config pass seats) (pass_view (config_of (gates_of (slice_set seats unit after))) pass (slice_set seats unit after)) unit
     folded kin has same (inl all) = inl (folded-here ∙ all ∙ ap length (sym seen-here))
     folded kin has same (inr (inl none)) = inr (inl (none-here kin has (ap (λ (o : RecorderFacts). o.absent) same ∙ none)))
@@ -133,42 +133,61 @@ module _ (pass : PassState) (seats : List UnitSeat) (actor : Actor) (seq last : 
     abbrev after_view : PassView
     after_view = pass_view (config_of (gates_of (slice_set seats unit after))) pass (slice_set seats unit after)
 
-    pub refused : (e : ActRefused) → IsRefused (kin_with config unit kin.opening) before after (asking actor seq last moment act) e → NotDone (pass_view config pass seats) after_view unit act e
-    refused ActRefused.OutOfMemory r = looked kin.opening r
+    pub refused : (e : ActRefused) → IsRefused (kin_with config unit kin) before after (asking actor seq last moment act) e → NotDone (pass_view config pass seats) after_view unit act e
+    refused ActRefused.OutOfMemory r = looked kin r
     refused ActRefused.Full r = (
-      looked kin.opening r.0,
-      ap (λ n. is_full (unit_of config unit) n (past_of config unit (of_unit (seens (slice_set seats unit after)) unit)) pass.ticket.actor (last_stamp_of (merged (owns seats))) act) (folded-here kin.opening r.0)
-          ∙ ap (λ l. is_full (unit_of config unit) (folded_of after) (past_of config unit l) pass.ticket.actor (last_stamp_of (merged (owns seats))) act) (seen-here kin.opening r.0)
+      looked kin r.0,
+      ap (λ n. is_full (unit_of config unit) n (past_of config unit (of_unit (seens (slice_set seats unit after)) unit)) pass.ticket.actor (last_stamp_of (merged (owns seats))) act) (folded-here kin r.0)
+          ∙ ap (λ l. is_full (unit_of config unit) (folded_of after) (past_of config unit l) pass.ticket.actor (last_stamp_of (merged (owns seats))) act) (seen-here kin r.0)
           ∙ ap (λ x. is_full (unit_of config unit) (folded_of after) (past_of config unit after.seen) x (last_stamp_of (merged (owns seats))) act) (sym keeps.actor_is)
           ∙ ap (λ x. is_full (unit_of config unit) (folded_of after) (past_of config unit after.seen) actor x act) (sym keeps.last_is)
           ∙ r.1,
-      folded kin.opening r.0 kin has refl r.2,
+      folded kin r.0 kin has refl r.2,
     )
 
-    pub refused-keeps : (e : ActRefused) → IsRefused (kin_with config unit kin.opening) before after (asking actor seq last moment act) e
+    pub refused-keeps : (e : ActRefused) → IsRefused (kin_with config unit kin) before after (asking actor seq last moment act) e
         → KeepsPass (config_of (gates_of (slice_set seats unit after))) pass.ticket (slice_set seats unit after) actor seq last
-    refused-keeps ActRefused.OutOfMemory r = saw-keeps kin.opening r
-    refused-keeps ActRefused.Full r = saw-keeps kin.opening r.0
+    refused-keeps ActRefused.OutOfMemory r = saw-keeps kin r
+    refused-keeps ActRefused.Full r = saw-keeps kin r.0
 
     seen-now : of_unit (seens (slice_set seats unit after)) unit ≡ after.seen
     seen-now = ap (λ l. of_unit l unit) (seens-set seats unit before after low at) ∙ set-at (seens seats) unit after.seen (let m = length-map seats (λ (s : UnitSeat). s.seen) in omega (arith, low, m))
 
-    pub served : (e : ActRefused) → IsServedAt (kin_with config unit kin.opening) after.seen (asking actor seq last moment act) e → IsServed (pass_view config pass seats) after_view unit act e
+    pub served : (e : ActRefused) → IsServedAt (kin_with config unit kin) after.seen (asking actor seq last moment act) e → IsServed (pass_view config pass seats) after_view unit act e
     served e is =
-        let own = subst (λ n. IsServedAt (kin_with config unit kin.opening) after.seen (asking actor seq n moment act) e) keeps.last_is is in
-        let mine = subst (λ x. IsServedAt (kin_with config unit kin.opening) after.seen (asking x seq (last_stamp_of (merged (owns seats))) moment act) e) keeps.actor_is own in
-        let here = subst (λ l. IsServedAt (kin_with config unit kin.opening) l (asking pass.ticket.actor seq (last_stamp_of (merged (owns seats))) moment act) e) (sym seen-now) mine in
+        let own = subst (λ n. IsServedAt (kin_with config unit kin) after.seen (asking actor seq n moment act) e) keeps.last_is is in
+        let mine = subst (λ x. IsServedAt (kin_with config unit kin) after.seen (asking x seq (last_stamp_of (merged (owns seats))) moment act) e) keeps.actor_is own in
+        let here = subst (λ l. IsServedAt (kin_with config unit kin) l (asking pass.ticket.actor seq (last_stamp_of (merged (owns seats))) moment act) e) (sym seen-now) mine in
         record { serving = λ full serves. here.serving full serves; ending = λ ends. here.ending ends }
 
-    pub served-there : (e : TryRefused) → IfAct e (IsServedAt (kin_with config unit kin.opening) after.seen (asking actor seq last moment act)) → IfAct e (IsServed (pass_view config pass seats) after_view unit act)
+    pub served-there : (e : TryRefused) → IfAct e (IsServedAt (kin_with config unit kin) after.seen (asking actor seq last moment act)) → IfAct e (IsServed (pass_view config pass seats) after_view unit act)
     served-there (TryRefused.Held handed) is = is
     served-there (TryRefused.Act e) is = served e is
 
-    pub not-taken : (e : TryRefused) → IsTryRefused (kin_with config unit kin.opening) before after (asking actor seq last moment act) e → NotTaken (pass_view config pass seats) after_view unit act e
+    -- from an eager recorder the entry was recorded, or that failed, or wanted memory
+    pub saved : (eager : Bool) → IsSavedAt eager kin before after → IsSaved eager (pass_view config pass seats) after_view unit
+    saved eager is = λ on some. go (is on (present some))
+      where
+        present : HasSome (gates_of seats) unit → kin.opening.absent ≡ false
+        present some =
+            let gates : Some before.gate ≡ Some some.gate = sym (map-get (λ (s : UnitSeat). s.gate) seats unit before low at) ∙ some.at in
+            let gate : before.gate ≡ some.gate = cc in
+            let kins : Some kin ≡ Some some.kin = sym has ∙ ap (λ (g : UnitGate). g.kin) gate ∙ some.has in
+            let same : kin ≡ some.kin = cc in
+            ap (λ (k : UnitKin). k.opening.absent) same ∙ some.present
+
+        go : WasSavedAt before after → WasSaved (pass_view config pass seats) after_view unit
+        go (inl all) = inl (ap (λ l. slice_index_or l 1 0) (marks-here seats unit before after low at) ∙ all ∙ ap length (sym seen-now))
+        go (inr (inl rose)) =
+            inr (inl (rw (ap (λ l. slice_index_or l 0 0) (marks-before seats unit before after low at), ap (λ l. slice_index_or l 0 0) (marks-here seats unit before after low at)) rose))
+        go (inr (inr rose)) =
+            inr (inr (rw (ap (λ l. slice_index_or l 2 0) (marks-before seats unit before after low at), ap (λ l. slice_index_or l 2 0) (marks-here seats unit before after low at)) rose))
+
+    pub not-taken : (e : TryRefused) → IsTryRefused (kin_with config unit kin) before after (asking actor seq last moment act) e → NotTaken (pass_view config pass seats) after_view unit act e
     not-taken (TryRefused.Held handed) r = (r.0, missed-found r.1)
     not-taken (TryRefused.Act e) r = refused e r.0
 
-    pub not-taken-keeps : (e : TryRefused) → IsTryRefused (kin_with config unit kin.opening) before after (asking actor seq last moment act) e
+    pub not-taken-keeps : (e : TryRefused) → IsTryRefused (kin_with config unit kin) before after (asking actor seq last moment act) e
         → KeepsPass (config_of (gates_of (slice_set seats unit after))) pass.ticket (slice_set seats unit after) actor seq last
     not-taken-keeps (TryRefused.Held handed) r = missed-keeps r.1
     not-taken-keeps (TryRefused.Act e) r = refused-keeps e r.0

@@ -1,10 +1,11 @@
 -- A world is made
-use Rattle.std.proofs.Common.{◌<◌, ◌≤◌, ◌≡◌, ℕ, zero, suc, ◌+◌, List, [], ◌∷◌, ◌++◌, length, map, refl, ap, sym, ◌∙◌, subst, arith, true, false, Some, length-append, append_assoc, append-nil, add-one}
-use Rattle.std.specs.Prelude.{slice_get, slice_index}
+use Rattle.std.proofs.Common.{◌<◌, ◌≤◌, ◌≡◌, ℕ, zero, suc, ◌+◌, List, [], ◌∷◌, ◌++◌, length, map, take, refl, ap, sym, ◌∙◌, subst, arith, true, false, Some, length-append, append_assoc, append-nil, add-one, take_all}
+use Rattle.std.specs.Prelude.{slice_get, slice_index, Option}
 use Rattle.std.proofs.lemmas.List.{length-map}
 use Rattle.cm_base.specs.Configuration.{Configuration}
 use Rattle.cm_history.specs.declared.act.Entry.{Entry}
 use Rattle.cm_history.proofs.PublicLaws.{Each}
+use Rattle.merged_history.specs.Own.{IsAsked}
 use Rattle.merged_history.specs.Passes.{of_unit}
 use Rattle.merged_history.proofs.PublicLaws.{root-new}
 use Rattle.pass_register.specs.Passes.{RootState}
@@ -12,35 +13,20 @@ use Rattle.atomic_table.specs.Seated.{TableId}
 use Rattle.turn_gate.specs.inner.Seats.{first_seat}
 use Rattle.unit_gate.specs.declared.kin.RecorderFacts.{RecorderFacts}
 use Rattle.unit_gate.specs.declared.kin.UnitKin.{UnitKin}
+use Rattle.unit_gate.specs.Opening.{opening_entries}
+use Rattle.unit_gate.specs.Recorded.{RecordedState, StandsFor, kin_of, marks_of, without_last}
 use Rattle.unit_gate.specs.SeatActs.{UnitSeat}
-use Rattle.nexus.specs.Worlds.{UnitGate}
+use Rattle.unit_gate.proofs.PublicLaws.{stands-asked, without-none}
+use Rattle.nexus.specs.Worlds.{UnitGate, WorldView}
+use Rattle.nexus.specs.Roots.{RootView}
 use Rattle.nexus.specs.inner.Gates.{IsGateOf, config_of, config_in}
-use Rattle.nexus.specs.Opening.{kins_from, IsBegun}
-use Rattle.nexus.specs.inner.Building.{marks_in, begun, BuiltSoFar}
-use Rattle.nexus.specs.inner.Keeping.{AreGates, KeepsWorld, KeepsRoot, gates_of, kepts, seens, entries_joined, root_view}
+use Rattle.nexus.specs.Opening.{kins_from, IsBegun, StoredUnit, kins_stored, entries_stored, GoesOn}
+use Rattle.nexus.specs.inner.Building.{BegunState, entries_begun, IsBegunUnit, AreBegunUnits, IsBegunOf, AreBegunOf, BegunSoFar, NewSoFar, IsSeatOf, AreSeatsOf, BuiltSoFar, IsBegunWith}
+use Rattle.nexus.specs.inner.Keeping.{AreGates, IsOpened, KeepsWorld, KeepsRoot, gates_of, kepts, openings, seens, entries_joined, root_view}
 
 map-push : {X Y : Type 0} (f : X → Y) (xs : List X) (x : X) → map f (xs ++ x ∷ []) ≡ map f xs ++ f x ∷ []
 map-push f [] x = refl
 map-push f (y ∷ ys) x = ap (λ l. f y ∷ l) (map-push f ys x)
-
-map-twice : {X Y Z : Type 0} (f : Y → Z) (h : X → Y) (xs : List X) → map f (map h xs) ≡ map (λ (x : X). f (h x)) xs
-map-twice f h [] = refl
-map-twice f h (x ∷ xs) = ap (λ l. f (h x) ∷ l) (map-twice f h xs)
-
-map-self : (gates : List UnitGate) → map (λ (g : UnitGate). (begun g).gate) gates ≡ gates
-map-self [] = refl
-map-self (g ∷ gs) = ap (λ l. g ∷ l) (map-self gs)
-
-kins-push : (config : Configuration) (unit : ℕ) (rs : List RecorderFacts) (r : RecorderFacts) → kins_from config unit (rs ++ r ∷ []) ≡ kins_from config unit rs ++ Some (record { config = config; unit = unit + length rs; opening = r }) ∷ []
-kins-push config unit [] r = let e : unit ≡ unit + 0 = omega arith in ap (λ u. Some (record { config = config; unit = u; opening = r }) ∷ []) e
-kins-push config unit (x ∷ xs) r =
-    let shift : suc unit + length xs ≡ unit + suc (length xs) = omega arith in
-    ap (λ l. Some (record { config = config; unit = unit; opening = x }) ∷ l)
-    (kins-push config (suc unit) xs r ∙ ap (λ u. kins_from config (suc unit) xs ++ Some (record { config = config; unit = u; opening = r }) ∷ []) shift)
-
-each-next : {X : Type 0} (P : X → Type 0) (gone more : List X) (r : X) → Each P (gone ++ r ∷ more) → P r
-each-next P [] more r all = all.0
-each-next P (g ∷ gs) more r all = each-next P gs more r all.1
 
 pub map-same : {X Y Z : Type 0} (f : X → Z) (z : Z) → ((x : X) → f x ≡ z) → (xs : List X) (ys : List Y) → length xs ≡ length ys → map f xs ≡ map (λ (y : Y). z) ys
 map-same f z is [] [] long = refl
@@ -48,146 +34,361 @@ map-same f z is [] (y ∷ ys) long = absurd (omega (arith, long))
 map-same f z is (x ∷ xs) [] long = absurd (omega (arith, long))
 map-same f z is (x ∷ xs) (y ∷ ys) long = ap (λ v. v ∷ map f xs) (is x) ∙ ap (λ l. z ∷ l) (map-same f z is xs ys (omega (arith, long)))
 
--- what is true of all recorders is true of the next one
-pub next-fits : {R : Type 0} (facts : R → RecorderFacts) (config : Configuration) (all rest more : List R) (gates : List UnitGate) (seats : List UnitSeat) (seqs : List ℕ) (n : ℕ) (r : R) (P : R → Type 0)
-    → BuiltSoFar facts config all rest gates seats seqs n → rest ≡ r ∷ more → Each P all → P r
-next-fits facts config all rest more gates seats seqs n r P so next fits = each-next P so.gone more r (subst (Each P) (sym so.whole ∙ ap (λ l. so.gone ++ l) next) fits)
-
-module _ {R : Type 0} (facts : R → RecorderFacts) (config : Configuration) (all : List R) where
-  pub built-none : BuiltSoFar facts config all all [] [] [] 0
-  built-none = record { gone = []; whole = refl; count = refl; kins = refl; seats_are = refl; seqs_are = refl }
-
-  pub built-more : (rest more : List R) (gates : List UnitGate) (seats : List UnitSeat) (seqs : List ℕ) (n : ℕ) (r : R) (g : UnitGate) (s : UnitSeat) → BuiltSoFar facts config all rest gates seats seqs n → rest ≡ r ∷ more
-      → g.kin ≡ Some (record { config = config; unit = n; opening = facts r }) → s ≡ first_seat g [] ((facts r).faults ∷ 0 ∷ []) → BuiltSoFar facts config all more (gates ++ g ∷ []) (seats ++ s ∷ []) (seqs ++ 0 ∷ []) (suc n)
-  built-more rest more gates seats seqs n r g s so next kin seat = record {
-    gone = so.gone ++ r ∷ [];
-    whole = append_assoc so.gone (r ∷ []) more ∙ ap (λ l. so.gone ++ l) (sym next) ∙ so.whole;
-    count = length-append so.gone (r ∷ []) ∙ ap (λ k. k + 1) so.count ∙ add-one n;
-    kins =
-        let count : 0 + length (map facts so.gone) ≡ n = (let a = length-map so.gone facts in let b = so.count in omega (arith, a, b)) in
-        map-push (λ (x : UnitGate). x.kin) gates g
-        ∙ ap (λ l. l ++ g.kin ∷ []) so.kins
-        ∙ ap (λ k. kins_from config 0 (map facts so.gone) ++ k ∷ []) (kin ∙ ap (λ u. Some (record { config = config; unit = u; opening = facts r })) (sym count))
-        ∙ sym (kins-push config 0 (map facts so.gone) (facts r))
-        ∙ ap (kins_from config 0) (sym (map-push facts so.gone r));
-    seats_are =
-        let here : s ≡ begun g = seat ∙ ap (λ k. first_seat g [] (marks_in k)) (sym kin) in
-        ap (λ l. l ++ s ∷ []) so.seats_are ∙ ap (λ x. map begun gates ++ x ∷ []) here ∙ sym (map-push begun gates g);
-    seqs_are = ap (λ l. l ++ 0 ∷ []) so.seqs_are ∙ sym (map-push (λ (x : UnitGate). 0) gates g);
-  }
-
 none-left : {X : Type 0} (gone rest all : List X) → gone ++ rest ≡ all → length gone ≡ length all → gone ≡ all
 none-left gone [] all whole long = sym (append-nil gone) ∙ whole
 none-left gone (r ∷ rs) all whole long = let a = ap length whole in let b = length-append gone (r ∷ rs) in absurd (omega (arith, a, b, long))
 
-kins-long : (config : Configuration) (unit : ℕ) (rs : List RecorderFacts) → length (kins_from config unit rs) ≡ length rs
-kins-long config unit [] = refl
-kins-long config unit (r ∷ rs) = ap suc (kins-long config (suc unit) rs)
+-- ---- the gates of units, and the seats at them
 
-kins-gates : (config : Configuration) (from : ℕ) (rs : List RecorderFacts) (gates : List UnitGate) → map (λ (g : UnitGate). g.kin) gates ≡ kins_from config from rs
-    → (i : ℕ) (g : UnitGate) → slice_get gates i ≡ Some g → IsGateOf config (from + i) g
-kins-gates config from rs [] is i g at = cc
-kins-gates config from [] (h ∷ hs) is i g at = cc
-kins-gates config from (r ∷ rs) (h ∷ hs) is zero g at =
+seats-push : (gs : List UnitGate) (ss : List UnitSeat) (bs : List BegunState) (g : UnitGate) (s : UnitSeat) (b : BegunState) → AreSeatsOf gs ss bs → IsSeatOf g s b → AreSeatsOf (gs ++ g ∷ []) (ss ++ s ∷ []) (bs ++ b ∷ [])
+seats-push [] [] [] g s b all is = (is, tt)
+seats-push [] [] (c ∷ bs) g s b all is = absurd all
+seats-push [] (t ∷ ss) bs g s b all is = absurd all
+seats-push (h ∷ gs) [] bs g s b all is = absurd all
+seats-push (h ∷ gs) (t ∷ ss) [] g s b all is = absurd all
+seats-push (h ∷ gs) (t ∷ ss) (c ∷ bs) g s b all is = (all.0, seats-push gs ss bs g s b all.1 is)
+
+seated-gates : (gs : List UnitGate) (ss : List UnitSeat) (bs : List BegunState) → AreSeatsOf gs ss bs → gates_of ss ≡ gs
+seated-gates [] [] bs all = refl
+seated-gates [] (t ∷ ss) bs all = absurd all
+seated-gates (h ∷ gs) [] bs all = absurd all
+seated-gates (h ∷ gs) (t ∷ ss) [] all = absurd all
+seated-gates (h ∷ gs) (t ∷ ss) (c ∷ bs) all = ap (λ (s : UnitSeat). s.gate ∷ gates_of ss) all.0.seat_is ∙ ap (λ l. h ∷ l) (seated-gates gs ss bs all.1)
+
+seated-long : (gs : List UnitGate) (ss : List UnitSeat) (bs : List BegunState) → AreSeatsOf gs ss bs → (length gs ≡ length bs) × (length ss ≡ length bs)
+seated-long [] [] [] all = (refl, refl)
+seated-long [] [] (c ∷ bs) all = absurd all
+seated-long [] (t ∷ ss) bs all = absurd all
+seated-long (h ∷ gs) [] bs all = absurd all
+seated-long (h ∷ gs) (t ∷ ss) [] all = absurd all
+seated-long (h ∷ gs) (t ∷ ss) (c ∷ bs) all = let rest = seated-long gs ss bs all.1 in (ap suc rest.0, ap suc rest.1)
+
+seated-kins : (gs : List UnitGate) (ss : List UnitSeat) (bs : List BegunState) → AreSeatsOf gs ss bs → map (λ (g : UnitGate). g.kin) gs ≡ map (λ (b : BegunState). Some (kin_of b.unit)) bs
+seated-kins [] [] [] all = refl
+seated-kins [] [] (c ∷ bs) all = absurd all
+seated-kins [] (t ∷ ss) bs all = absurd all
+seated-kins (h ∷ gs) [] bs all = absurd all
+seated-kins (h ∷ gs) (t ∷ ss) [] all = absurd all
+seated-kins (h ∷ gs) (t ∷ ss) (c ∷ bs) all = ap (λ k. k ∷ map (λ (g : UnitGate). g.kin) gs) all.0.kin ∙ ap (λ l. Some (kin_of c.unit) ∷ l) (seated-kins gs ss bs all.1)
+
+seated-map : {Y : Type 0} (f : UnitSeat → Y) (k : BegunState → Y) → ((g : UnitGate) (s : UnitSeat) (b : BegunState) → IsSeatOf g s b → f s ≡ k b)
+    → (gs : List UnitGate) (ss : List UnitSeat) (bs : List BegunState) → AreSeatsOf gs ss bs → map f ss ≡ map k bs
+seated-map f k is [] [] [] all = refl
+seated-map f k is [] [] (c ∷ bs) all = absurd all
+seated-map f k is [] (t ∷ ss) bs all = absurd all
+seated-map f k is (h ∷ gs) [] bs all = absurd all
+seated-map f k is (h ∷ gs) (t ∷ ss) [] all = absurd all
+seated-map f k is (h ∷ gs) (t ∷ ss) (c ∷ bs) all = ap (λ y. y ∷ map f ss) (is h t c all.0) ∙ ap (λ l. k c ∷ l) (seated-map f k is gs ss bs all.1)
+
+seated-each : (P : UnitSeat → Type 0) → ((g : UnitGate) (b : BegunState) → P (first_seat g (entries_begun b) (marks_of b.unit)))
+    → (gs : List UnitGate) (ss : List UnitSeat) (bs : List BegunState) → AreSeatsOf gs ss bs → Each P ss
+seated-each P is [] [] bs all = tt
+seated-each P is [] (t ∷ ss) bs all = absurd all
+seated-each P is (h ∷ gs) [] bs all = absurd all
+seated-each P is (h ∷ gs) (t ∷ ss) [] all = absurd all
+seated-each P is (h ∷ gs) (t ∷ ss) (c ∷ bs) all = (subst P (sym all.0.seat_is) (is h c), seated-each P is gs ss bs all.1)
+
+-- the entries with which it begins might be asked
+begun-asked : (config : Configuration) (n : ℕ) (b : BegunState) → n < length config.units → IsBegunUnit config n b → Each (IsAsked config) (entries_begun b)
+begun-asked config n b low is =
+    let few : b.unit.unit.unit < length b.unit.unit.config.units = subst (λ (c : Configuration). b.unit.unit.unit < length c.units) (sym is.config_is) (let u = is.unit_is in omega (arith, u, low)) in
+    subst (λ c. Each (IsAsked c) (entries_begun b)) is.config_is (stands-asked b.unit (entries_begun b) is.stands few)
+
+seated-opened : (config : Configuration) (n : ℕ) (gs : List UnitGate) (ss : List UnitSeat) (bs : List BegunState) → n + length bs ≤ length config.units → AreBegunUnits config n bs → AreSeatsOf gs ss bs → Each (IsOpened config) ss
+seated-opened config n [] [] bs low units all = tt
+seated-opened config n [] (t ∷ ss) bs low units all = absurd all
+seated-opened config n (h ∷ gs) [] bs low units all = absurd all
+seated-opened config n (h ∷ gs) (t ∷ ss) [] low units all = absurd all
+seated-opened config n (h ∷ gs) (t ∷ ss) (c ∷ bs) low units all =
+    let es = entries_begun c in
+    let asked : Each (IsAsked config) (take (length es) es) = subst (Each (IsAsked config)) (sym (take_all (length es) es (omega arith))) (begun-asked config n c (omega (arith, low)) units.0) in
+    let opened : IsOpened config (first_seat h es (marks_of c.unit)) = record { low = omega arith; asked = asked } in (
+      subst (IsOpened config) (sym all.0.seat_is) opened,
+      seated-opened config (suc n) gs ss bs (omega (arith, low)) units.1 all.1,
+    )
+
+seated-are : (config : Configuration) (n : ℕ) (gs : List UnitGate) (ss : List UnitSeat) (bs : List BegunState) → AreBegunUnits config n bs → AreSeatsOf gs ss bs
+    → (i : ℕ) (g : UnitGate) → slice_get gs i ≡ Some g → IsGateOf config (n + i) g
+seated-are config n [] ss bs units all i g at = cc
+seated-are config n (h ∷ gs) [] bs units all i g at = absurd all
+seated-are config n (h ∷ gs) (t ∷ ss) [] units all i g at = absurd all
+seated-are config n (h ∷ gs) (t ∷ ss) (c ∷ bs) units all zero g at =
     let same : h ≡ g = cc in
-    let kin : h.kin ≡ Some (record { config = config; unit = from; opening = r }) = cc in
-    let first : from ≡ from + 0 = omega arith in
-    record { kin = record { config = config; unit = from; opening = r }; has = ap (λ (x : UnitGate). x.kin) (sym same) ∙ kin; config_is = refl; unit_is = first }
-kins-gates config from (r ∷ rs) (h ∷ hs) is (suc i) g at =
-    let rest : map (λ (x : UnitGate). x.kin) hs ≡ kins_from config (suc from) rs = cc in
-    let next : suc from + i ≡ from + suc i = omega arith in
-    subst (λ u. IsGateOf config u g) next (kins-gates config (suc from) rs hs rest i g at)
+    let first : n ≡ n + 0 = omega arith in
+    record { kin = kin_of c.unit; has = ap (λ (x : UnitGate). x.kin) (sym same) ∙ all.0.kin; config_is = units.0.config_is; unit_is = units.0.unit_is ∙ first }
+seated-are config n (h ∷ gs) (t ∷ ss) (c ∷ bs) units all (suc i) g at =
+    let next : suc n + i ≡ n + suc i = omega arith in
+    subst (λ u. IsGateOf config u g) next (seated-are config (suc n) gs ss bs units.1 all.1 i g at)
 
-config-is : (config : Configuration) (rs : List RecorderFacts) (gates : List UnitGate) → map (λ (g : UnitGate). g.kin) gates ≡ kins_from config 0 rs → 1 ≤ length rs → config_of gates ≡ config
-config-is config [] gates is some = absurd (omega (arith, some))
-config-is config (r ∷ rs) [] is some = cc
-config-is config (r ∷ rs) (g ∷ gs) is some =
-    let kin : g.kin ≡ Some (record { config = config; unit = 0; opening = r }) = cc in
-    ap config_in kin
+config-is : (config : Configuration) (gs : List UnitGate) (ss : List UnitSeat) (bs : List BegunState) → AreBegunUnits config 0 bs → AreSeatsOf gs ss bs → 1 ≤ length bs → config_of gs ≡ config
+config-is config [] [] [] units all some = absurd (omega (arith, some))
+config-is config [] [] (c ∷ bs) units all some = absurd all
+config-is config [] (t ∷ ss) bs units all some = absurd all
+config-is config (h ∷ gs) [] bs units all some = absurd all
+config-is config (h ∷ gs) (t ∷ ss) [] units all some = absurd all
+config-is config (h ∷ gs) (t ∷ ss) (c ∷ bs) units all some = ap config_in all.0.kin ∙ units.0.config_is
 
-each-begun : (P : UnitSeat → Type 0) → ((g : UnitGate) → P (begun g)) → (gates : List UnitGate) → Each P (map begun gates)
-each-begun P all [] = tt
-each-begun P all (g ∷ gs) = (all g, each-begun P all gs)
-
-kept-none : (gates : List UnitGate) (unit : ℕ) → of_unit (kepts (map begun gates)) unit ≡ []
+kept-none : (bs : List BegunState) (unit : ℕ) → of_unit (map (λ (b : BegunState). []) bs) unit ≡ []
 kept-none [] unit = refl
-kept-none (g ∷ gs) zero = refl
-kept-none (g ∷ gs) (suc unit) = kept-none gs unit
+kept-none (b ∷ bs) zero = refl
+kept-none (b ∷ bs) (suc unit) = kept-none bs unit
 
 seq-none : (gates : List UnitGate) (unit : ℕ) → slice_index (map (λ (g : UnitGate). 0) gates) unit ≡ 0
 seq-none [] unit = refl
 seq-none (g ∷ gs) zero = refl
 seq-none (g ∷ gs) (suc unit) = seq-none gs unit
 
-seen-none : (gates : List UnitGate) (rs : List RecorderFacts) → length gates ≡ length rs → map (λ (g : UnitGate). (begun g).seen) gates ≡ map (λ (r : RecorderFacts). []) rs
-seen-none [] [] long = refl
-seen-none [] (r ∷ rs) long = absurd (omega (arith, long))
-seen-none (g ∷ gs) [] long = absurd (omega (arith, long))
-seen-none (g ∷ gs) (r ∷ rs) long = ap (λ l. [] ∷ l) (seen-none gs rs (omega (arith, long)))
+-- ---- one after the other
 
-marks-from : (config : Configuration) (unit : ℕ) (rs : List RecorderFacts) (gates : List UnitGate) → map (λ (g : UnitGate). g.kin) gates ≡ kins_from config unit rs
-    → map (λ (g : UnitGate). marks_in g.kin) gates ≡ map (λ (r : RecorderFacts). r.faults ∷ 0 ∷ []) rs
-marks-from config unit [] [] is = refl
-marks-from config unit [] (g ∷ gs) is = cc
-marks-from config unit (r ∷ rs) [] is = cc
-marks-from config unit (r ∷ rs) (g ∷ gs) is =
-    let kin : g.kin ≡ Some (record { config = config; unit = unit; opening = r }) = cc in
-    let rest : map (λ (x : UnitGate). x.kin) gs ≡ kins_from config (suc unit) rs = cc in
-    ap (λ k. marks_in k ∷ map (λ (x : UnitGate). marks_in x.kin) gs) kin ∙ ap (λ l. (r.faults ∷ 0 ∷ []) ∷ l) (marks-from config (suc unit) rs gs rest)
+module _ (all : List BegunState) where
+  pub built-none : BuiltSoFar all all [] [] [] 0
+  built-none = record { gone = []; whole = refl; count = refl; seated = tt; seqs_are = refl }
 
-module _ {R : Type 0} (facts : R → RecorderFacts) (config : Configuration) (all rest : List R) (gates : List UnitGate) (seats : List UnitSeat) (seqs : List ℕ) (n : ℕ)
-    (so : BuiltSoFar facts config all rest gates seats seqs n) (one_each : length all ≡ length config.units) (some : 1 ≤ length config.units) (last : n ≡ length config.units) (register : TableId) where
+  pub built-more : (rest more : List BegunState) (gates : List UnitGate) (seats : List UnitSeat) (seqs : List ℕ) (n : ℕ) (b : BegunState) (g : UnitGate) (s : UnitSeat) → BuiltSoFar all rest gates seats seqs n → rest ≡ b ∷ more
+      → g.kin ≡ Some (kin_of b.unit) → s ≡ first_seat g (entries_begun b) (marks_of b.unit) → BuiltSoFar all more (gates ++ g ∷ []) (seats ++ s ∷ []) (seqs ++ 0 ∷ []) (suc n)
+  built-more rest more gates seats seqs n b g s so next kin seat = record {
+    gone = so.gone ++ b ∷ [];
+    whole = append_assoc so.gone (b ∷ []) more ∙ ap (λ l. so.gone ++ l) (sym next) ∙ so.whole;
+    count = length-append so.gone (b ∷ []) ∙ ap (λ k. k + 1) so.count ∙ add-one n;
+    seated = seats-push gates seats so.gone g s b so.seated (record { kin = kin; seat_is = seat });
+    seqs_are = ap (λ l. l ++ 0 ∷ []) so.seqs_are ∙ sym (map-push (λ (x : UnitGate). 0) gates g);
+  }
+
+units-next : (config : Configuration) (n : ℕ) (gone more : List BegunState) (b : BegunState) → AreBegunUnits config n (gone ++ b ∷ more) → StandsFor b.unit (entries_begun b)
+units-next config n [] more b all = all.0.stands
+units-next config n (c ∷ gone) more b all = units-next config (suc n) gone more b all.1
+
+-- the next unit stands for the entries with which it begins
+pub next-stands : (config : Configuration) (all rest more : List BegunState) (gates : List UnitGate) (seats : List UnitSeat) (seqs : List ℕ) (n : ℕ) (b : BegunState)
+    → BuiltSoFar all rest gates seats seqs n → rest ≡ b ∷ more → AreBegunUnits config 0 all → StandsFor b.unit (entries_begun b)
+next-stands config all rest more gates seats seqs n b so next units = units-next config 0 so.gone more b (subst (AreBegunUnits config 0) (sym so.whole ∙ ap (λ l. so.gone ++ l) next) units)
+
+module _ (config : Configuration) (all rest : List BegunState) (gates : List UnitGate) (seats : List UnitSeat) (seqs : List ℕ) (n : ℕ) (so : BuiltSoFar all rest gates seats seqs n)
+    (units : AreBegunUnits config 0 all) (one_each : length all ≡ length config.units) (some : 1 ≤ length config.units) (last : n ≡ length config.units) (register : TableId) (made : ℕ) where
   abbrev slip : RootState
   slip = record { register = register; out = []; joined = [] }
 
   gone-all : so.gone ≡ all
   gone-all = none-left so.gone rest all so.whole (so.count ∙ last ∙ sym one_each)
 
-  kins : map (λ (g : UnitGate). g.kin) gates ≡ kins_from config 0 (map facts all)
-  kins = so.kins ∙ ap (λ l. kins_from config 0 (map facts l)) gone-all
-
-  count : length (map facts all) ≡ length config.units
-  count = length-map all facts ∙ one_each
+  seated : AreSeatsOf gates seats all
+  seated = subst (AreSeatsOf gates seats) gone-all so.seated
 
   gates-long : length gates ≡ length config.units
-  gates-long = sym (length-map gates (λ (g : UnitGate). g.kin)) ∙ ap length kins ∙ kins-long config 0 (map facts all) ∙ count
+  gates-long = (seated-long gates seats all seated).0 ∙ one_each
+
+  seats-long : length seats ≡ length config.units
+  seats-long = (seated-long gates seats all seated).1 ∙ one_each
 
   config-here : config_of gates ≡ config
-  config-here = config-is config (map facts all) gates kins (omega (arith, some, count))
+  config-here = config-is config gates seats all units seated (omega (arith, some, one_each))
 
   are : AreGates config gates
-  are = λ unit g at. let e : 0 + unit ≡ unit = omega arith in subst (λ u. IsGateOf config u g) e (kins-gates config 0 (map facts all) gates kins unit g at)
+  are = λ unit g at. let e : 0 + unit ≡ unit = omega arith in subst (λ u. IsGateOf config u g) e (seated-are config 0 gates seats all units seated unit g at)
 
   pub world-keeps : KeepsWorld gates
   world-keeps = record { units = gates-long ∙ sym (ap (λ (k : Configuration). length k.units) config-here); gates_are = subst (λ k. AreGates k gates) (sym config-here) are }
 
   gates-same : gates_of seats ≡ gates
-  gates-same = ap gates_of so.seats_are ∙ map-twice (λ (s : UnitSeat). s.gate) begun gates ∙ map-self gates
+  gates-same = seated-gates gates seats all seated
 
-  seats-long : length seats ≡ length gates
-  seats-long = ap length so.seats_are ∙ length-map gates begun
+  kept-nothing : (unit : ℕ) → of_unit (kepts seats) unit ≡ []
+  kept-nothing unit =
+      ap (λ l. of_unit l unit) (seated-map (λ (s : UnitSeat). entries_joined s.joined) (λ b. []) (λ g s b is. ap (λ (x : UnitSeat). entries_joined x.joined) is.seat_is) gates seats all seated) ∙ kept-none all unit
 
-  root-keeps-here : KeepsRoot config 0 seqs slip (map begun gates)
+  root-keeps-here : KeepsRoot config made seqs slip seats
   root-keeps-here = record {
-    is = root-new config (seens (map begun gates)) (kepts (map begun gates)) (kept-none gates);
-    gates_are = subst (AreGates config) (sym (map-twice (λ (s : UnitSeat). s.gate) begun gates ∙ map-self gates)) are;
-    units = length-map gates begun ∙ gates-long;
-    free = each-begun (λ (s : UnitSeat). s.holds ≡ false) (λ g. refl) gates;
-    firsts = each-begun (λ (s : UnitSeat). s.first ≡ true) (λ g. refl) gates;
-    outs = each-begun (λ (s : UnitSeat). s.out ≡ 0) (λ g. refl) gates;
-    nothing = each-begun (λ (s : UnitSeat). s.own ≡ []) (λ g. refl) gates;
-    openings = each-begun (λ (s : UnitSeat). s.opening ≡ 0) (λ g. refl) gates;
+    is = root-new config made (seens seats) (kepts seats) kept-nothing;
+    gates_are = subst (AreGates config) (sym gates-same) are;
+    units = seats-long;
+    free = seated-each (λ (s : UnitSeat). s.holds ≡ false) (λ g b. refl) gates seats all seated;
+    firsts = seated-each (λ (s : UnitSeat). s.first ≡ true) (λ g b. refl) gates seats all seated;
+    outs = seated-each (λ (s : UnitSeat). s.out ≡ 0) (λ g b. refl) gates seats all seated;
+    nothing = seated-each (λ (s : UnitSeat). s.own ≡ []) (λ g b. refl) gates seats all seated;
+    openings = seated-opened config 0 gates seats all (let e : 0 + length all ≡ length all = omega arith in omega (arith, e, one_each)) units seated;
     seqs_are = record {
-      long = ap length so.seqs_are ∙ length-map gates (λ (g : UnitGate). 0) ∙ sym (length-map gates begun);
+      long = ap length so.seqs_are ∙ length-map gates (λ (g : UnitGate). 0) ∙ gates-long ∙ sym seats-long;
       are = λ unit low. ap (λ l. slice_index l unit) so.seqs_are ∙ seq-none gates unit;
     };
   }
 
-  pub root-keeps : KeepsRoot (config_of (gates_of seats)) 0 seqs slip seats
-  root-keeps = subst (λ c. KeepsRoot c 0 seqs slip seats) (sym (ap config_of gates-same ∙ config-here)) (subst (λ s. KeepsRoot config 0 seqs slip s) (sym so.seats_are) root-keeps-here)
+  pub root-keeps : KeepsRoot (config_of (gates_of seats)) made seqs slip seats
+  root-keeps = subst (λ c. KeepsRoot c made seqs slip seats) (sym (ap config_of gates-same ∙ config-here)) root-keeps-here
 
-  pub is-begun : IsBegun config (map facts all) (record { config = config_of gates; gates = gates; register = register }) (root_view (config_of (gates_of seats)) 0 slip seats)
-  is-begun =
-      let seen = ap seens so.seats_are ∙ map-twice (λ (s : UnitSeat). s.seen) begun gates ∙ seen-none gates (map facts all) (gates-long ∙ sym count) in
-      let marks = ap (map (λ (s : UnitSeat). s.marks)) so.seats_are ∙ map-twice (λ (s : UnitSeat). s.marks) begun gates ∙ marks-from config 0 (map facts all) gates kins in
-      record { config_is = config-here; gates = kins; root_is = rw (gates-same, seen, marks) refl }
+  pub is-begun-with : IsBegunWith config all made (record { config = config_of gates; gates = gates; register = register }) (root_view (config_of (gates_of seats)) made slip seats)
+  is-begun-with =
+      let opened = seated-map (λ (s : UnitSeat). s.opening) (λ (b : BegunState). length (entries_begun b)) (λ g s b is. ap (λ (x : UnitSeat). x.opening) is.seat_is) gates seats all seated in
+      let seen = seated-map (λ (s : UnitSeat). s.seen) entries_begun (λ g s b is. ap (λ (x : UnitSeat). x.seen) is.seat_is) gates seats all seated in
+      let marks = seated-map (λ (s : UnitSeat). s.marks) (λ (b : BegunState). marks_of b.unit) (λ g s b is. ap (λ (x : UnitSeat). x.marks) is.seat_is) gates seats all seated in
+      record { config_is = config-here; gates = seated-kins gates seats all seated; root_is = rw (gates-same, opened, seen, marks) refl }
+
+-- ---- the units, by what they go on with
+
+entries-are : (config : Configuration) (n : ℕ) (s : StoredUnit) (b : BegunState) → IsBegunOf config n s b → entries_begun b ≡ opening_entries config n s.history
+entries-are config n s b is =
+    ap (λ (k : UnitKin). opening_entries k.config k.unit b.history) is.kin ∙ ap (opening_entries config n) is.history_is
+
+pub begun-units : (config : Configuration) (n : ℕ) (ss : List StoredUnit) (bs : List BegunState) → AreBegunOf config n ss bs → AreBegunUnits config n bs
+begun-units config n [] [] all = tt
+begun-units config n [] (b ∷ bs) all = absurd all
+begun-units config n (s ∷ ss) [] all = absurd all
+begun-units config n (s ∷ ss) (b ∷ bs) all = (
+  record {
+    config_is = ap (λ (k : UnitKin). k.config) all.0.kin;
+    unit_is = ap (λ (k : UnitKin). k.unit) all.0.kin;
+    stands = subst (StandsFor b.unit) (sym (entries-are config n s b all.0)) all.0.stands;
+  },
+  begun-units config (suc n) ss bs all.1,
+)
+
+pub begun-long : (config : Configuration) (n : ℕ) (ss : List StoredUnit) (bs : List BegunState) → AreBegunOf config n ss bs → length bs ≡ length ss
+begun-long config n [] [] all = refl
+begun-long config n [] (b ∷ bs) all = absurd all
+begun-long config n (s ∷ ss) [] all = absurd all
+begun-long config n (s ∷ ss) (b ∷ bs) all = ap suc (begun-long config (suc n) ss bs all.1)
+
+begun-push : (config : Configuration) (n : ℕ) (ss : List StoredUnit) (bs : List BegunState) (s : StoredUnit) (b : BegunState) → AreBegunOf config n ss bs → IsBegunOf config (n + length ss) s b → AreBegunOf config n (ss ++ s ∷ []) (bs ++ b ∷ [])
+begun-push config n [] [] s b all is = let e : n + 0 ≡ n = omega arith in (subst (λ k. IsBegunOf config k s b) e is, tt)
+begun-push config n [] (c ∷ bs) s b all is = absurd all
+begun-push config n (t ∷ ss) [] s b all is = absurd all
+begun-push config n (t ∷ ss) (c ∷ bs) s b all is =
+    let e : n + suc (length ss) ≡ suc n + length ss = omega arith in (all.0, begun-push config (suc n) ss bs s b all.1 (subst (λ k. IsBegunOf config k s b) e is))
+
+module _ {X : Type 0} (store_of : X → StoredUnit) (config : Configuration) (all : List X) where
+  pub begun-none : BegunSoFar store_of config all all [] 0
+  begun-none = record { gone = []; whole = refl; count = refl; are = tt }
+
+  pub begun-more : (rest more : List X) (begun : List BegunState) (n : ℕ) (x : X) (b : BegunState) → BegunSoFar store_of config all rest begun n → rest ≡ x ∷ more → IsBegunOf config n (store_of x) b
+      → BegunSoFar store_of config all more (begun ++ b ∷ []) (suc n)
+  begun-more rest more begun n x b so next is =
+      let count : n ≡ 0 + length (map store_of so.gone) = (let a = length-map so.gone store_of in let c = so.count in omega (arith, a, c)) in
+      record {
+        gone = so.gone ++ x ∷ [];
+        whole = append_assoc so.gone (x ∷ []) more ∙ ap (λ l. so.gone ++ l) (sym next) ∙ so.whole;
+        count = length-append so.gone (x ∷ []) ∙ ap (λ k. k + 1) so.count ∙ add-one n;
+        are = subst (λ l. AreBegunOf config 0 l (begun ++ b ∷ [])) (sym (map-push store_of so.gone x))
+            (begun-push config 0 (map store_of so.gone) begun (store_of x) b so.are (subst (λ k. IsBegunOf config k (store_of x) b) count is));
+      }
+
+  -- all are
+  pub begun-all : (rest : List X) (begun : List BegunState) (n : ℕ) → BegunSoFar store_of config all rest begun n → n ≡ length all → AreBegunOf config 0 (map store_of all) begun
+  begun-all rest begun n so last = subst (λ l. AreBegunOf config 0 (map store_of l) begun) (none-left so.gone rest all so.whole (so.count ∙ last)) so.are
+
+  -- while not all are, one is left
+  pub some-left : (rest : List X) (begun : List BegunState) (n : ℕ) → BegunSoFar store_of config all rest begun n → n < length all → rest ≡ [] → ⊥
+  some-left rest begun n so low none =
+      let a = ap length so.whole in
+      let b = length-append so.gone rest in
+      let c = ap length none in
+      let d = so.count in
+      omega (arith, a, b, c, d, low)
+
+each-left : {X : Type 0} (P : X → Type 0) (rest more : List X) (x : X) → rest ≡ x ∷ more → Each P rest → P x × Each P more
+each-left P rest more x next all = let both : Each P (x ∷ more) = subst (Each P) next all in (both.0, both.1)
+
+-- ---- units of which nothing was asked yet
+
+abbrev pub fresh : {R : Type 0} → (R → RecorderFacts) → R → StoredUnit
+fresh facts r = record { history = []; recorder = facts r }
+
+module _ {R : Type 0} (facts : R → RecorderFacts) (P : R → Type 0) (config : Configuration) (all : List R) where
+  pub new-none : Each P all → NewSoFar (fresh facts) P config all all [] 0
+  new-none fits = record { begun_are = begun-none (fresh facts) config all; fits_rest = fits }
+
+  pub new-fits : (rest more : List R) (begun : List BegunState) (n : ℕ) (r : R) → NewSoFar (fresh facts) P config all rest begun n → rest ≡ r ∷ more → P r
+  new-fits rest more begun n r so next = (each-left P rest more r next so.fits_rest).0
+
+  pub new-more : (rest more : List R) (begun : List BegunState) (n : ℕ) (r : R) (b : BegunState) → NewSoFar (fresh facts) P config all rest begun n → rest ≡ r ∷ more
+      → StandsFor b.unit [] → kin_of b.unit ≡ record { config = config; unit = n; opening = facts r; folded = 0 } → marks_of b.unit ≡ (facts r).faults ∷ 0 ∷ 0 ∷ [] → b.history ≡ []
+      → NewSoFar (fresh facts) P config all more (begun ++ b ∷ []) (suc n)
+  new-more rest more begun n r b so next stands kin marks none = record {
+    begun_are = begun-more (fresh facts) config all rest more begun n r b so.begun_are next record {
+      kin = kin ∙ ap (λ (o : RecorderFacts). record { config = config; unit = n; opening = o; folded = 0 }) (sym (without-none (facts r)));
+      history_is = none;
+      stands = stands;
+      marks = marks;
+    };
+    fits_rest = (each-left P rest more r next so.fits_rest).1;
+  }
+
+-- ---- what contracts see of the world
+
+kins-are : (config : Configuration) (n : ℕ) (ss : List StoredUnit) (bs : List BegunState) → AreBegunOf config n ss bs → map (λ (b : BegunState). Some (kin_of b.unit)) bs ≡ kins_stored config n ss
+kins-are config n [] [] all = refl
+kins-are config n [] (b ∷ bs) all = absurd all
+kins-are config n (s ∷ ss) [] all = absurd all
+kins-are config n (s ∷ ss) (b ∷ bs) all =
+    ap (λ k. Some k ∷ map (λ (c : BegunState). Some (kin_of c.unit)) bs) all.0.kin
+    ∙ ap (λ l. Some (record { config = config; unit = n; opening = without_last (length s.history) s.recorder; folded = length s.history }) ∷ l) (kins-are config (suc n) ss bs all.1)
+
+seen-are : (config : Configuration) (n : ℕ) (ss : List StoredUnit) (bs : List BegunState) → AreBegunOf config n ss bs → map entries_begun bs ≡ entries_stored config n ss
+seen-are config n [] [] all = refl
+seen-are config n [] (b ∷ bs) all = absurd all
+seen-are config n (s ∷ ss) [] all = absurd all
+seen-are config n (s ∷ ss) (b ∷ bs) all =
+    ap (λ x. x ∷ map entries_begun bs) (entries-are config n s b all.0) ∙ ap (λ l. opening_entries config n s.history ∷ l) (seen-are config (suc n) ss bs all.1)
+
+opened-are : (config : Configuration) (n : ℕ) (ss : List StoredUnit) (bs : List BegunState) → AreBegunOf config n ss bs → map (λ (b : BegunState). length (entries_begun b)) bs ≡ map (λ (es : List Entry). length es) (entries_stored config n ss)
+opened-are config n [] [] all = refl
+opened-are config n [] (b ∷ bs) all = absurd all
+opened-are config n (s ∷ ss) [] all = absurd all
+opened-are config n (s ∷ ss) (b ∷ bs) all =
+    ap (λ (x : List Entry). length x ∷ map (λ (c : BegunState). length (entries_begun c)) bs) (entries-are config n s b all.0)
+    ∙ ap (λ l. length (opening_entries config n s.history) ∷ l) (opened-are config (suc n) ss bs all.1)
+
+marks-are : (config : Configuration) (n : ℕ) (ss : List StoredUnit) (bs : List BegunState) → AreBegunOf config n ss bs
+    → map (λ (b : BegunState). marks_of b.unit) bs ≡ map (λ (s : StoredUnit). s.recorder.faults ∷ length s.history ∷ 0 ∷ []) ss
+marks-are config n [] [] all = refl
+marks-are config n [] (b ∷ bs) all = absurd all
+marks-are config n (s ∷ ss) [] all = absurd all
+marks-are config n (s ∷ ss) (b ∷ bs) all =
+    ap (λ m. m ∷ map (λ (c : BegunState). marks_of c.unit) bs) all.0.marks ∙ ap (λ l. (s.recorder.faults ∷ length s.history ∷ 0 ∷ []) ∷ l) (marks-are config (suc n) ss bs all.1)
+
+abbrev view_of : WorldView → ℕ → List ℕ → List (List Entry) → List (List ℕ) → RootView
+view_of world made openings seen marks =
+    record { config = world.config; gates = world.gates; register = world.register; made = made; out = []; joined = []; openings = openings; seen = seen; marks = marks }
+
+same-view : (world : WorldView) (made : ℕ) (os qs : List ℕ) (es fs : List (List Entry)) (ms ns : List (List ℕ)) → os ≡ qs → es ≡ fs → ms ≡ ns → view_of world made os es ms ≡ view_of world made qs fs ns
+same-view world made os qs es fs ms ns a b c = ap (λ x. view_of world made x es ms) a ∙ ap (λ x. view_of world made qs x ms) b ∙ ap (view_of world made qs fs) c
+
+pub goes-on : (config : Configuration) (ss : List StoredUnit) (bs : List BegunState) (made : ℕ) (world : WorldView) (root : RootView) → AreBegunOf config 0 ss bs → IsBegunWith config bs made world root → GoesOn config ss made world root
+goes-on config ss bs made world root all is = record {
+  config_is = is.config_is;
+  gates = is.gates ∙ kins-are config 0 ss bs all;
+  root_is = is.root_is
+      ∙ same-view world made (map (λ (b : BegunState). length (entries_begun b)) bs) (map (λ (es : List Entry). length es) (entries_stored config 0 ss)) (map entries_begun bs) (entries_stored config 0 ss)
+      (map (λ (b : BegunState). marks_of b.unit) bs) (map (λ (s : StoredUnit). s.recorder.faults ∷ length s.history ∷ 0 ∷ []) ss)
+      (opened-are config 0 ss bs all) (seen-are config 0 ss bs all) (marks-are config 0 ss bs all);
+}
+
+module _ {R : Type 0} (facts : R → RecorderFacts) (config : Configuration) where
+  kins-fresh : (n : ℕ) (rs : List R) → kins_stored config n (map (fresh facts) rs) ≡ kins_from config n (map facts rs)
+  kins-fresh n [] = refl
+  kins-fresh n (r ∷ rs) =
+      ap (λ (o : RecorderFacts). Some (record { config = config; unit = n; opening = o; folded = 0 }) ∷ kins_stored config (suc n) (map (fresh facts) rs)) (without-none (facts r))
+      ∙ ap (λ l. Some (record { config = config; unit = n; opening = facts r; folded = 0 }) ∷ l) (kins-fresh (suc n) rs)
+
+  seen-fresh : (n : ℕ) (rs : List R) → entries_stored config n (map (fresh facts) rs) ≡ map (λ (r : RecorderFacts). []) (map facts rs)
+  seen-fresh n [] = refl
+  seen-fresh n (r ∷ rs) = ap (λ l. [] ∷ l) (seen-fresh (suc n) rs)
+
+  opened-fresh : (n : ℕ) (rs : List R) → map (λ (es : List Entry). length es) (entries_stored config n (map (fresh facts) rs)) ≡ map (λ (r : RecorderFacts). 0) (map facts rs)
+  opened-fresh n [] = refl
+  opened-fresh n (r ∷ rs) = ap (λ l. 0 ∷ l) (opened-fresh (suc n) rs)
+
+  marks-fresh : (rs : List R) → map (λ (s : StoredUnit). s.recorder.faults ∷ length s.history ∷ 0 ∷ []) (map (fresh facts) rs) ≡ map (λ (r : RecorderFacts). r.faults ∷ 0 ∷ 0 ∷ []) (map facts rs)
+  marks-fresh [] = refl
+  marks-fresh (r ∷ rs) = ap (λ l. ((facts r).faults ∷ 0 ∷ 0 ∷ []) ∷ l) (marks-fresh rs)
+
+  pub is-begun : (rs : List R) (bs : List BegunState) (world : WorldView) (root : RootView) → AreBegunOf config 0 (map (fresh facts) rs) bs → IsBegunWith config bs 0 world root → IsBegun config (map facts rs) world root
+  is-begun rs bs world root all is =
+      let on = goes-on config (map (fresh facts) rs) bs 0 world root all is in
+      record {
+        config_is = on.config_is;
+        gates = on.gates ∙ kins-fresh 0 rs;
+        root_is = on.root_is
+            ∙ same-view world 0 (map (λ (es : List Entry). length es) (entries_stored config 0 (map (fresh facts) rs))) (map (λ (r : RecorderFacts). 0) (map facts rs))
+            (entries_stored config 0 (map (fresh facts) rs)) (map (λ (r : RecorderFacts). []) (map facts rs))
+            (map (λ (s : StoredUnit). s.recorder.faults ∷ length s.history ∷ 0 ∷ []) (map (fresh facts) rs)) (map (λ (r : RecorderFacts). r.faults ∷ 0 ∷ 0 ∷ []) (map facts rs))
+            (opened-fresh 0 rs) (seen-fresh 0 rs) (marks-fresh rs);
+      }

@@ -40,12 +40,12 @@ pub record IsPlace (gate : UnitGate) (seats : List UnitSeat) (before : UnitSeat)
   pub gate_is : before.gate ≡ gate
   pub kin : UnitKin
   pub has : gate.kin ≡ Some kin
-  pub kin_is : kin ≡ record { config = config_of (gates_of seats); unit = unit; opening = kin.opening }
+  pub kin_is : kin ≡ record kin { config = config_of (gates_of seats); unit = unit }
   pub limits : within_limits (config_of (gates_of seats)) unit act ≡ true
   pub asked : may_ask unit actor act ≡ true
 
-pub kin-is : (kin : UnitKin) (config : Configuration) (unit : ℕ) → kin.config ≡ config → kin.unit ≡ unit → kin ≡ record { config = config; unit = unit; opening = kin.opening }
-kin-is kin config unit c u = ap (λ x. record { config = x; unit = kin.unit; opening = kin.opening }) c ∙ ap (λ x. record { config = config; unit = x; opening = kin.opening }) u
+pub kin-is : (kin : UnitKin) (config : Configuration) (unit : ℕ) → kin.config ≡ config → kin.unit ≡ unit → kin ≡ record kin { config = config; unit = unit }
+kin-is kin config unit c u = ap (λ x. record kin { config = x }) c ∙ ap (λ x. record kin { config = config; unit = x }) u
 
 pub place : (gates : List UnitGate) (register : TableId) (gate : UnitGate) (pass : PassState) (seats : List UnitSeat) (before : UnitSeat) (actor : Actor) (seq last : ℕ) (act : Act) (unit index : ℕ) (world : WorldView) (shown : PassView)
     → record { config = config_of gates; gates = gates; register = register } ≡ world → pass_view (config_of (gates_of seats)) pass seats ≡ shown

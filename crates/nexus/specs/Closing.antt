@@ -9,6 +9,7 @@ use Rattle.cm_history.specs.Record.{Record}
 use Rattle.cm_history.proofs.PublicLaws.{Each}
 use Rattle.merged_history.specs.Merged.{merged}
 use Rattle.merged_history.specs.Passes.{IsWhole}
+use Rattle.merged_history.specs.Resumed.{IsResumed}
 use Rattle.merged_history.specs.PassRules.{AreLonger}
 use Rattle.recorder.specs.Recording.{FirstFits, with_more}
 use Rattle.unit_gate.specs.declared.kin.RecorderFacts.{RecorderFacts}
@@ -17,11 +18,16 @@ use Rattle.unit_gate.specs.declared.recorded_unit.ClosedUnit.{ClosedUnit}
 use Rattle.nexus.specs.Worlds.{UnitGate}
 use Rattle.nexus.specs.Roots.{RootView, AreAtMost}
 
--- the unit behind the gate has no recorder
+-- the unit behind the gate has no recorder, nor were entries of it recorded before
 pub record HasNoRecorder (gate : UnitGate) : Type 0 where
   pub kin : UnitKin
   pub has : gate.kin ≡ Some kin
   pub absent : kin.opening.absent ≡ true
+  pub unfolded : kin.folded ≡ 0
+
+-- no unit had an entry at the opening
+abbrev pub AreNone : List ℕ → Type 0
+AreNone openings = Each (λ n. n ≡ 0) openings
 
 module _ {R : Type 0} (facts : R → RecorderFacts) (fits : R → Entry → Type 0) where
   -- What is left of a unit after this history: its later entries, of which the first may be recorded next, while the
@@ -29,9 +35,10 @@ module _ {R : Type 0} (facts : R → RecorderFacts) (fits : R → Entry → Type
   pub record IsLeftOf (kin : UnitKin) (history : List Entry) (left : ClosedUnit R) : Type 0 where
     pub few : left.folded ≤ length history
     -- without a recorder no entry is dropped
-    pub unfolded : kin.opening.absent ≡ true → left.folded ≡ 0
+    pub unfolded : kin.opening.absent ≡ true → left.folded ≡ kin.folded
     pub kept : left.history.entries ≡ drop left.folded history
     pub absent : (facts left.recorder).absent ≡ kin.opening.absent
+    pub front : (facts left.recorder).front ≡ kin.opening.front
     pub recorded : (facts left.recorder).recorded ≡ with_more kin.opening.recorded (take left.folded history)
     pub fits_next : FirstFits (fits left.recorder) left.history.entries
     pub steps : left.count.steps ≡ length history
@@ -45,17 +52,19 @@ module _ {R : Type 0} (facts : R → RecorderFacts) (fits : R → Entry → Type
   AreLeftOf _ _ _ = ⊥
 
   abbrev pub marks_left : List (ClosedUnit R) → List (List ℕ)
-  marks_left units = map (λ (u : ClosedUnit R). (facts u.recorder).faults ∷ u.folded ∷ []) units
+  marks_left units = map (λ (u : ClosedUnit R). (facts u.recorder).faults ∷ u.folded ∷ u.late ∷ []) units
 
   abbrev pub kept_of : List (ClosedUnit R) → List (List Entry)
   kept_of units = map (λ (u : ClosedUnit R). u.history.entries) units
 
   -- The world is closed. The histories of its units, merged, are one legal history: its part on each unit is the unit's,
-  -- and the entries of each actor in it are those of its joined passes, in the order of joining.
+  -- and the entries of each actor in it are those of its joined passes, in the order of joining. Where units had entries
+  -- at the opening, this is so of the later ones, and the history is legal but for the numbers of one actor's entries.
   pub record WasClosed (root : RootView) (units : List (ClosedUnit R)) (merged_kept : Record) : Type 0 where
     pub histories : List (List Entry)
     pub longer : AreLonger root.seen histories
-    pub whole : IsWhole root.config histories root.joined (merged histories)
+    pub resumed : IsResumed root.config root.openings histories root.joined
+    pub whole : AreNone root.openings → IsWhole root.config histories root.joined (merged histories)
     pub left : AreLeftOf root.gates histories units
     pub marks : AreAtMost root.marks (marks_left units)
     pub merged_is : merged_kept.entries ≡ merged (kept_of units)

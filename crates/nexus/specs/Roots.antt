@@ -14,15 +14,18 @@ pub record RootView : Type 0 where
   pub config : Configuration
   pub gates : List UnitGate
   pub register : TableId
-  -- how many passes of nexuses were made
+  -- the number of the next nexus that gets a pass
   pub made : ℕ
   -- the passes that are made and not joined, in the order of making
   pub out : List Ticket
   -- those that were joined, in the order of joining
   pub joined : List Joined
+  -- for each unit how many entries its history had at the opening of the world
+  pub openings : List ℕ
   -- for each unit a beginning of its history
   pub seen : List (List Entry)
-  -- for each unit how many records had failed, and how many entries were recorded and dropped, as far as the root knows
+  -- for each unit how many records had failed, how many entries were recorded and dropped, and how often they were not for
+  -- want of memory, as far as the root knows
   pub marks : List (List ℕ)
 
 -- the root is the one of this world

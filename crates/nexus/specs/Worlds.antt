@@ -50,7 +50,8 @@ pub record PassView : Type 0 where
   pub holds : List Bool
   -- for each unit how often it found the turn taken
   pub misses : List ℕ
-  -- for each unit how many records had failed, and how many entries were recorded and dropped, in the last turn
+  -- for each unit how many records had failed, how many entries were recorded and dropped, and how often they were not for
+  -- want of memory, in the last turn
   pub marks : List (List ℕ)
 
 -- the pass is one of this world
@@ -133,6 +134,28 @@ faults_at pass unit = slice_index_or (slice_index_or pass.marks unit []) 0 0
 
 abbrev pub folded_at : PassView → ℕ → ℕ
 folded_at pass unit = slice_index_or (slice_index_or pass.marks unit []) 1 0
+
+abbrev pub late_at : PassView → ℕ → ℕ
+late_at pass unit = slice_index_or (slice_index_or pass.marks unit []) 2 0
+
+-- the unit has a recorder
+pub record HasSome (gates : List UnitGate) (unit : ℕ) : Type 0 where
+  pub gate : UnitGate
+  pub at : slice_get gates unit ≡ Some gate
+  pub kin : UnitKin
+  pub has : gate.kin ≡ Some kin
+  pub present : kin.opening.absent ≡ false
+
+-- all entries of the unit that were seen are recorded and dropped, or that failed in this call, or wanted memory in it
+abbrev pub WasSaved : PassView → PassView → ℕ → Type 0
+WasSaved before after unit =
+    (folded_at after unit ≡ length (of_unit after.seen unit))
+    ⊎ Rose (faults_at before unit) (faults_at after unit)
+    ⊎ Rose (late_at before unit) (late_at after unit)
+
+-- it is so where entries are recorded as soon as they are made, and the unit has a recorder
+abbrev pub IsSaved : Bool → PassView → PassView → ℕ → Type 0
+IsSaved eager before after unit = eager ≡ true → HasSome before.gates unit → WasSaved before after unit
 
 -- all entries of the unit that were seen are recorded and dropped, or it has no recorder, or that failed in this call
 abbrev pub WasFolded : PassView → PassView → ℕ → Type 0

@@ -1,9 +1,9 @@
 // What a pass does on one unit.
-ghost use Rattle.std.specs.Prelude.{◌≡◌, ◌<◌, ◌+◌, length, slice_index_or, IfOk, IfErr, true, false};
+ghost use Rattle.std.specs.Prelude.{◌≡◌, ◌<◌, ◌+◌, length, slice_index_or, IfOk, IfErr, OnOk, true, false};
 ghost use Rattle.cm_history.specs.Legal.{may_ask};
 ghost use Rattle.cm_history.specs.Limits.{within_limits};
 ghost use Rattle.unit_gate.specs.SeatActs.{IfAct};
-ghost use Rattle.nexus.specs.Worlds.{IsOf, WasAnswered, NotDone, NotTaken, IsServed, Stays};
+ghost use Rattle.nexus.specs.Worlds.{IsOf, WasAnswered, IsSaved, NotDone, NotTaken, IsServed, Stays};
 
 use crate::pass::Pass;
 use crate::world::World;
@@ -24,7 +24,8 @@ fn next_seq(seq: u64, stamp: u64) -> u64
 impl<R: Recorder + Drop> World<R> {
     /// Has an act done on a unit, in a turn of its own, and sleeps while the turn is taken. The act is answered
     /// over the unit's whole history in that turn, and comes to its end, and to the end of what the pass has made.
-    /// Where the unit's record is full its entries are recorded first. `Full` and `OutOfMemory` leave the history;
+    /// Where the unit's record is full its entries are recorded first. By an eager recorder the entry was recorded then,
+    /// unless that failed or wanted memory. `Full` and `OutOfMemory` leave the history;
     /// the pass has seen it. Neither comes where the act ends a running operation, and no `Full` where it serves one,
     /// while there are stamps.
     pub fn act<W: Wait>(
@@ -41,6 +42,7 @@ impl<R: Recorder + Drop> World<R> {
         requires limits { within_limits self.now.config unit act ≡ true }
         requires asked { may_ask unit pass.old.ticket.actor act ≡ true }
         ensures done { IfOk result (λ a. WasAnswered pass.old pass.new unit moment act a) }
+        ensures saved { OnOk result (IsSaved R.EAGER pass.old pass.new unit) }
         ensures refused { IfErr result (λ e. NotDone pass.old pass.new unit act e) }
         ensures served { IfErr result (λ e. IsServed pass.old pass.new unit act e) }
         ensures stays { Stays pass.old pass.new }
@@ -80,6 +82,7 @@ impl<R: Recorder + Drop> World<R> {
         requires limits { within_limits self.now.config unit act ≡ true }
         requires asked { may_ask unit pass.old.ticket.actor act ≡ true }
         ensures done { IfOk result (λ a. WasAnswered pass.old pass.new unit moment act a) }
+        ensures saved { OnOk result (IsSaved R.EAGER pass.old pass.new unit) }
         ensures refused { IfErr result (λ e. NotTaken pass.old pass.new unit act e) }
         ensures served { IfErr result (λ e. IfAct e (IsServed pass.old pass.new unit act)) }
         ensures stays { Stays pass.old pass.new }

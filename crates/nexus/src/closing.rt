@@ -96,7 +96,7 @@ fn close_one<R: Recorder + Drop>(
     requires gate { seat.gate ≡ gate }
     requires ready { IsReady seat }
     requires held { IsHeldBy seat.gate.kin seat held }
-    ensures { IsClosed (facts R.recorded R.record_faults R.absent) R.fits seat held result }
+    ensures { IsClosed (facts R.recorded R.record_faults R.absent R.front) R.fits seat held result }
 {
     let HeldUnit { turn } = held;
     gate.close_held(seat, turn).into_closed()
@@ -114,7 +114,7 @@ pub(crate) fn close_all<R: Recorder + Drop>(
     requires held { AreHeld seats.items turns.items }
     requires none { units.old.items ≡ [] }
     requires room { length gates.items ≤ vec_capacity units.old }
-    ensures { AreClosed (facts R.recorded R.record_faults R.absent) R.fits seats.items turns.items units.new.items }
+    ensures { AreClosed (facts R.recorded R.record_faults R.absent R.front) R.fits seats.items turns.items units.new.items }
 {
     let mut gates = gates.into_iter();
     let mut seats = seats.into_iter();
@@ -138,7 +138,7 @@ impl<R: Recorder + Drop> World<R> {
     pub fn close(self, alloc: Global, root: Root<R>) -> Result<Closed<R>, (World<R>, Root<R>)>
         requires root { IsRootOf self root }
         requires none { length root.out ≡ 0 }
-        ensures closed { IfOk result (λ c. WasClosed (facts R.recorded R.record_faults R.absent) R.fits
+        ensures closed { IfOk result (λ c. WasClosed (facts R.recorded R.record_faults R.absent R.front) R.fits
             root c.units.items c.merged) }
         ensures world { IfErr result (λ b. b.0 ≡ self) }
         ensures root { IfErr result (λ b. WasHandedBack root b.1) }

@@ -7,6 +7,7 @@ mod beginning;
 mod closing;
 mod holding;
 mod pass;
+mod resuming;
 mod root;
 mod seats;
 mod world;
@@ -14,6 +15,7 @@ mod world;
 pub use closing::Closed;
 pub use holding::Hold;
 pub use pass::Pass;
+pub use resuming::Store;
 pub use root::Root;
 pub use world::World;
 

@@ -1,14 +1,18 @@
-ghost use Rattle.std.specs.Prelude.{◌≡◌, ◌<◌, length, IfOk};
+ghost use Rattle.std.specs.Prelude.{◌≡◌, ◌<◌, [], ◌∷◌, length, map, IfOk, true};
+ghost use Rattle.cm_history.specs.declared.act.Act.{Act};
+ghost use Rattle.cm_history.specs.declared.act.Actor.{Actor};
+ghost use Rattle.cm_history.specs.Limits.{within_limits};
+ghost use Rattle.nexus.specs.Opening.{AreStored, no_recorder, stored};
 ghost use Rattle.nexus.specs.Worlds.{IsFreePass};
 
 use super::*;
 use cm_base::{Config, UnitConfig, UnitList};
-use cm_history::{Act, History, within_limits};
+use cm_history::{Act, Actor, Entry, History, within_limits};
 use recorder::NoRecorder;
 use std::alloc::Global;
 use std::test::Fail;
 use std::thread::{Threads, join};
-use unit_gate::TryRefused;
+use unit_gate::{ResumeRefused, TryRefused};
 
 /// A machine of two units of 100 blocks of 512 bytes.
 fn machine(alloc: Global) -> Result<Config, Fail>
@@ -192,5 +196,86 @@ fn a_held_unit_keeps_others_out(rt: HostRuntime) -> Result<(), Fail> {
     };
     assert!(rt; (held, done, later) == (Told::Held, Told::Done, Told::Done));
     assert!(rt; closed.merged.len() == 2);
+    Ok(())
+}
+
+/// What a unit goes on with: a copy that the nexus opened, and has still to end.
+fn store_of(alloc: Global, unit: u16, number: u32) -> Result<Store<NoRecorder>, Fail>
+    ensures { IfOk result (λ s. s.history.entries
+        ≡ record { stamp = 1; unit = unit; actor = Actor.Nexus number; seq = 0; moment = 0; act = Act.Open 3 } ∷ []) }
+{
+    let mut history = History::empty(alloc);
+    history.push(Entry {
+        stamp: 1,
+        unit,
+        actor: Actor::Nexus(number),
+        seq: 0,
+        moment: 0,
+        act: Act::Open { id: 3 },
+    })?;
+    Ok(Store {
+        history,
+        recorder: NoRecorder,
+    })
+}
+
+/// What the machine's units go on with, by nexuses of these numbers.
+fn stores_of(
+    alloc: Global,
+    config: &Config,
+    first: u32,
+    second: u32,
+) -> Result<Vec<Store<NoRecorder>>, Fail>
+    requires { length config.now.units ≡ 2 }
+    ensures long { IfOk result (λ l. length l.items ≡ 2) }
+    ensures stored { IfOk result (λ l. AreStored config.now 0 (map (stored (λ _. no_recorder)) l.items)) }
+{
+    let open = Act::Open { id: 3 };
+    if !within_limits(config, 0, &open) {
+        return Err("past the limits".into());
+    }
+    if !within_limits(config, 1, &open) {
+        return Err("past the limits".into());
+    }
+    let lower = store_of(alloc, 0, first)?;
+    let upper = store_of(alloc, 1, second)?;
+    let mut stores = Vec::new(alloc);
+    stores.push(lower)?;
+    stores.push(upper)?;
+    Ok(stores)
+}
+
+/// Each copy that was open is ended: the ends are kept, and what was recorded is not.
+#[test]
+fn a_world_goes_on_with_histories(rt: HostRuntime) -> Result<(), Fail> {
+    let alloc = rt.alloc();
+    let config = machine(alloc)?;
+    let stores = stores_of(alloc, &config, 7, 8)?;
+    let Ok((world, root)) = World::resume(alloc, &config, stores) else {
+        return Err("the histories were refused".into());
+    };
+    let Ok(closed) = world.close(alloc, root) else {
+        return Err("no memory for the merged history".into());
+    };
+    let order = order_of(alloc, &closed.merged)?;
+    let wanted = [(0, 2), (1, 2)];
+    assert_eq!(rt; order.as_slice(), wanted.as_slice());
+    for unit in &closed.units {
+        assert!(rt; unit.folded == 1 && unit.count.steps == 2);
+    }
+    Ok(())
+}
+
+/// A history that is bad is told with its unit and its entry, and the stores come back.
+#[test]
+fn a_bad_history_is_told(rt: HostRuntime) -> Result<(), Fail> {
+    let alloc = rt.alloc();
+    let config = machine(alloc)?;
+    let stores = stores_of(alloc, &config, 7, 4_294_967_039)?;
+    let Err((stores, refused)) = World::resume(alloc, &config, stores) else {
+        return Err("the bad history was taken".into());
+    };
+    assert!(rt; refused == ResumeRefused::BadHistory { unit: 1, entry: 0 });
+    assert!(rt; stores.len() == 2);
     Ok(())
 }

@@ -104,5 +104,6 @@ module _ (job : CopyJob) (w v : World) (outcome : Result Copied CopyFault) where
           (subst (λ q. RanIn r.u.config r.u.nexus (program r.u.config q) between.history h bytes) asked.0
           (subst (λ l. RanIn r.u.config r.u.nexus (program r.u.config t.request) between.history l bytes) r.history ran))))
       go (Ok (Reply.Check sense)) is more ends = by-outcome (Err (CopyFault.Refused step (Reply.Check sense))) ts more ends tt
+      go (Ok Reply.Conflict) is more ends = by-outcome (Err (CopyFault.Refused step Reply.Conflict)) ts more ends tt
       go (Ok Reply.Busy) is more ends = by-outcome (Err (CopyFault.Refused step Reply.Busy)) ts more ends tt
       go (Ok Reply.Full) is more ends = by-outcome (Err (CopyFault.Refused step Reply.Full)) ts more ends tt

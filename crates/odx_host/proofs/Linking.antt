@@ -11,7 +11,7 @@ use Rattle.cm_base.specs.declared.parsed.Parsed.TheVariants.{Whole, Short, Bad}
 use Rattle.cm_frame.specs.declared.frame.Request.{Request}
 use Rattle.cm_frame.specs.declared.frame.Reply.{Reply}
 use Rattle.cm_frame.specs.Grammar.{request_bytes, data_limit}
-use Rattle.cm_frame.specs.Reading.{read_reply, read_good, read_check, is_status, is_sense, sense_in}
+use Rattle.cm_frame.specs.Reading.{read_reply, bare_reply, read_good, read_check, is_status, is_sense, sense_in}
 use Rattle.odx_host.specs.declared.port.PortFault.{PortFault}
 use Rattle.odx_host.specs.declared.port.PortFault.TheVariants.{OutOfMemory, ReadFault, WriteFault, Ended, BadReply}
 use Rattle.odx_host.specs.Linked.{Linked, LinkState, IsPushed, IsRead, EndsThere, IsCounted, IsSpoken}
@@ -70,7 +70,7 @@ limit-low false = omega arith
 pub short-few : (bytes : List ℕ) → read_reply bytes ≡ Short → length bytes < 8_388_614
 short-few bytes e = few-by (nat_lt (length bytes) 6) (not (is_status (byte bytes 0))) (not (byte bytes 1 == cond (byte bytes 0 == 0x02) 0x12 0))
     (nat_lt (cond (byte bytes 0 == 0x00) data_limit 0) (field bytes 2 5)) (byte bytes 0 == 0x00) (byte bytes 0 == 0x02) (read_good bytes) (read_check bytes)
-    (Whole (cond (byte bytes 0 == 0x08) Reply.Busy Reply.Full) 6) (cond (byte bytes 0 == 0x00) data_limit 0) (field bytes 2 5) (length bytes)
+    (Whole (bare_reply (byte bytes 0)) 6) (cond (byte bytes 0 == 0x00) data_limit 0) (field bytes 2 5) (length bytes)
     (is-below (length bytes) 6) (is-not-below (cond (byte bytes 0 == 0x00) data_limit 0) (field bytes 2 5)) (good-few bytes) (check-few bytes) (λ is. cc) (limit-low (byte bytes 0 == 0x00)) e
 
 -- ---- replies

@@ -43,6 +43,7 @@ ask-reach request step go_on copied r = go r.talk r.asked r.ended
         by (Err fault) a o = absurd (not-err _ copied ts a o)
         by (Ok (Reply.Good bytes)) a o = (bytes, record { talk = ts; asked = a; ended = o })
         by (Ok (Reply.Check sense)) a o = absurd (not-err _ copied ts a o)
+        by (Ok Reply.Conflict) a o = absurd (not-err _ copied ts a o)
         by (Ok Reply.Busy) a o = absurd (not-err _ copied ts a o)
         by (Ok Reply.Full) a o = absurd (not-err _ copied ts a o)
 

@@ -12,6 +12,7 @@ use Rattle.cm_history.specs.declared.act.Act.{Act}
 use Rattle.cm_history.specs.declared.act.Entry.{Entry}
 use Rattle.cm_history.specs.declared.answer.OpState.{OpState}
 use Rattle.cm_history.specs.declared.answer.OpReport.{OpReport}
+use Rattle.cm_history.specs.Reserving.{reservations, bars_act}
 use Rattle.cm_history.specs.Answers.{deed, answer_after, report_of}
 use Rattle.cm_history.specs.Deeds.{Deed}
 use Rattle.cm_history.specs.History.{past_of}
@@ -62,7 +63,8 @@ module _ (v : World) (unit id : ℕ) (ranges : List Range) (rod : HeldBlocks) (w
     act_is = ap (λ (d : Deed). d.entry.act) made ∙ asks
 
     told_is : report_of o ≡ record { populate = false; background = true; state = state_of o (Act.Start id true ranges rod); count = length (written o); serial = None }
-    told_is = start-report o id ranges rod (unit_of v.config unit) (past_of v.config unit front) e.actor act_is
+    told_is = start-report o id ranges rod (unit_of v.config unit) (past_of v.config unit front) e.actor
+        (bars_act (reservations (past_of v.config unit front)) e.actor (Act.Start id true ranges rod)) act_is
         (ap (λ (d : Deed). d.answer) made ∙ ap (λ a. answer_after v.config unit (past_of v.config unit front) e.actor e.moment a) asks)
 
     listed : length (list_of o.made.entry.act) ≡ total ranges

@@ -13,6 +13,7 @@ use Rattle.cm_history.specs.declared.act.Entry.{Entry}
 use Rattle.cm_history.specs.declared.answer.Answer.{Answer}
 use Rattle.cm_history.specs.declared.answer.OpState.{OpState}
 use Rattle.cm_history.specs.declared.answer.OpReport.{OpReport}
+use Rattle.cm_history.specs.Reserving.{reservations, bars_act}
 use Rattle.cm_history.specs.Answers.{answer_after, answer_populate, report_of}
 use Rattle.cm_history.specs.Deeds.{Deed, is_refusal}
 use Rattle.cm_history.specs.History.{answer, past_of}
@@ -71,9 +72,10 @@ module _ (job : CopyJob) (w v : World) (outcome : Result Copied CopyFault) (n un
   token-told front e h h2 bytes l rep =
       let past = past_of v.config unit front in
       let serial = length (tokens past) in
-      let asked : answer v.config front unit e.actor e.moment e.act ≡ answer_populate (unit_of v.config unit) past e.actor id ranges =
+      let barred = bars_act (reservations past) e.actor (Act.Populate id token_timeout ranges) in
+      let asked : answer v.config front unit e.actor e.moment e.act ≡ cond barred Answer.Conflict (answer_populate (unit_of v.config unit) past e.actor id ranges) =
       ap (λ a. answer_after v.config unit past e.actor e.moment a) l.asks in
-      let found = populate-answer (unit_of v.config unit) past e.actor id ranges (sym (ap is_refusal asked) ∙ l.answered) in
+      let found = populate-answer (unit_of v.config unit) past e.actor id ranges barred (sym (ap is_refusal asked) ∙ l.answered) in
       let made : answer v.config front unit e.actor e.moment e.act ≡ Answer.Made serial = asked ∙ found.0 in
       let r : OpReport = record { populate = true; background = false; state = OpState.Done; count = total ranges; serial = Some serial } in
       let told_is : report_of rep.operation ≡ r = populate-report rep.operation id token_timeout serial ranges

@@ -37,6 +37,7 @@ ran-in config nexus (GivesUp last reply) all cs before bytes runs g = tt
 pub not-refused : (config : Configuration) (nexus : ℕ) (rest : Program) (told : Answer) (all before : List Entry) (bytes : List ℕ)
     → RanIn config nexus (unless_refused rest told) all before bytes → (is_refusal told ≡ false) × RanIn config nexus rest all before bytes
 not-refused config nexus rest (Answer.Refused sense) all before bytes ran = let no = ran.0 in cc
+not-refused config nexus rest Answer.Conflict all before bytes ran = let no = ran.0 in cc
 not-refused config nexus rest _ all before bytes ran = (refl, ran)
 
 -- a refusal is not GOOD

@@ -108,9 +108,11 @@ abbrev populate_by : ℕ → Bool → Bool → Bool → Answer
 populate_by n a b c = cond a (Answer.Refused operation_in_progress) (cond b (Answer.Refused lba_out_of_range) (cond c (Answer.Refused insufficient_resources) (Answer.Made n)))
 
 -- a Populate that is not refused is answered with the next serial
-pub populate-answer : (u : UnitConfig) (past : List Deed) (actor : Actor) (id : ℕ) (ranges : List Range) → is_refusal (answer_populate u past actor id ranges) ≡ false
-    → (answer_populate u past actor id ranges ≡ Answer.Made (length (tokens past))) × (length (tokens past) < 2 ^ 48)
-populate-answer u past actor id ranges e =
+pub populate-answer : (u : UnitConfig) (past : List Deed) (actor : Actor) (id : ℕ) (ranges : List Range) (barred : Bool)
+    → is_refusal (cond barred Answer.Conflict (answer_populate u past actor id ranges)) ≡ false
+    → (cond barred Answer.Conflict (answer_populate u past actor id ranges) ≡ Answer.Made (length (tokens past))) × (length (tokens past) < 2 ^ 48)
+populate-answer u past actor id ranges true e = cc
+populate-answer u past actor id ranges false e =
     go (is_busy past actor OfToken id) (not (is_within u.blocks ranges)) (nat_le (2 ^ 48) (length (tokens past))) refl e
   where
     go : (a b c : Bool) → nat_le (2 ^ 48) (length (tokens past)) ≡ c → is_refusal (populate_by (length (tokens past)) a b c) ≡ false → (populate_by (length (tokens past)) a b c ≡ Answer.Made (length (tokens past))) × (length (tokens past) < 2 ^ 48)
@@ -137,10 +139,14 @@ start-serial u past actor id ranges rod = go (is_busy past actor OfToken id) (no
     go false false true = refl
     go false false false = refl
 
-pub start-report : (o : Operation) (id : ℕ) (ranges : List Range) (rod : HeldBlocks) (u : UnitConfig) (past : List Deed) (actor : Actor) → o.made.entry.act ≡ Act.Start id true ranges rod
-    → o.made.answer ≡ answer_start u past actor id ranges rod
+barred-serial : (barred : Bool) (a : Answer) → serial_made a ≡ None → serial_made (cond barred Answer.Conflict a) ≡ None
+barred-serial true a none = refl
+barred-serial false a none = none
+
+pub start-report : (o : Operation) (id : ℕ) (ranges : List Range) (rod : HeldBlocks) (u : UnitConfig) (past : List Deed) (actor : Actor) (barred : Bool) → o.made.entry.act ≡ Act.Start id true ranges rod
+    → o.made.answer ≡ cond barred Answer.Conflict (answer_start u past actor id ranges rod)
     → report_of o ≡ record { populate = false; background = true; state = state_of o (Act.Start id true ranges rod); count = length (written o); serial = None }
-start-report o id ranges rod u past actor act answer =
+start-report o id ranges rod u past actor barred act answer =
     ap (λ a. record { populate = is_populate a; background = is_background a; state = state_of o a; count = count_of (written o) a; serial = serial_made o.made.answer }) act
     ∙ ap (λ s. record { populate = false; background = true; state = state_of o (Act.Start id true ranges rod); count = length (written o); serial = s })
-    (ap serial_made answer ∙ start-serial u past actor id ranges rod)
+    (ap serial_made answer ∙ barred-serial barred (answer_start u past actor id ranges rod) (start-serial u past actor id ranges rod))

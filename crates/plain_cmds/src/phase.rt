@@ -1,6 +1,7 @@
 use crate::blocks::{blocks_told, write, write_asked};
 use crate::fixed::{inquiry, read_capacity10, report_luns, request_sense, told};
 use crate::map_status::runs_told;
+use crate::reserving::{ReservePhase, reserve_in, reserve_out};
 use crate::unmap::{unmap, unmap_asked};
 use cm_base::{Config, OutOfMemory, Payload};
 use cm_frame::{Reply, Request};
@@ -47,6 +48,7 @@ pub enum PlainPhase {
         allocation: u32,
         runs: StatusList,
     },
+    Reserving(ReservePhase),
     /// The command ends GOOD with this data.
     Ready {
         bytes: Payload,
@@ -92,6 +94,15 @@ impl Phase for PlainPhase {
             })),
             Cdb::ReportLuns { length } => report_luns(alloc, config, length),
             Cdb::CopyParameters { length } => told(alloc, length, &copy_parameters()),
+            Cdb::PersistentIn { action, length } => {
+                Ok(CommandOf::At(reserve_in(unit, action, length)))
+            }
+            Cdb::PersistentOut {
+                action,
+                scope,
+                kind,
+                length: _,
+            } => Ok(reserve_out(unit, action, scope, kind, out.as_slice())),
             _ => unreachable!(),
         }
     }
@@ -118,6 +129,7 @@ impl Phase for PlainPhase {
                 act: Act::MapStatus { lba: *lba },
             }),
             PlainPhase::Mapped { allocation, runs } => runs_told(alloc, *allocation, runs),
+            PlainPhase::Reserving(phase) => phase.step(alloc),
             PlainPhase::Ready { bytes } => Ok(Step::Done(Reply::Good(bytes.clone()?))),
         }
     }
@@ -128,6 +140,7 @@ impl Phase for PlainPhase {
             PlainPhase::Reading { .. } => match answer {
                 Answer::Blocks(list) => CommandOf::At(PlainPhase::Read { list }),
                 Answer::Refused(sense) => CommandOf::Ended(Ended::Refused(sense)),
+                Answer::Conflict => CommandOf::Ended(Ended::Conflict),
                 _ => unreachable!(),
             },
             PlainPhase::Writing { .. } | PlainPhase::Unmapping { .. } => {
@@ -136,8 +149,10 @@ impl Phase for PlainPhase {
             PlainPhase::Mapping { allocation, .. } => match answer {
                 Answer::Status(runs) => CommandOf::At(PlainPhase::Mapped { allocation, runs }),
                 Answer::Refused(sense) => CommandOf::Ended(Ended::Refused(sense)),
+                Answer::Conflict => CommandOf::Ended(Ended::Conflict),
                 _ => unreachable!(),
             },
+            PlainPhase::Reserving(phase) => phase.after(answer),
             told => CommandOf::At(told),
         }
     }

@@ -22,9 +22,13 @@ use Rattle.cm_history.specs.Limits.{within_limits}
 use Rattle.cm_history.specs.Tokens.{Token, Fate, Live, Expired, Evicted, Deleted, tokens, is_populate}
 use Rattle.cm_history.specs.Redeeming.{are_alike, redeemed, answer_by_fate, fate_at, named_token}
 use Rattle.cm_history.specs.Operations.{Operation, Form, OfToken, OfCopy, form_of, same_form, id_of, has_key, is_making, makes_operation, made_operation, operation_after, operations, kept, written, count_of, list_of, state_of}
-use Rattle.cm_history.specs.Answers.{answer_after, answer_report, is_busy, is_crowded, serial_made}
-use Rattle.cm_history.specs.Forms.{HasForm}
-use Rattle.cm_history.proofs.PublicLaws.{after-kind, In, Each, Each-in, Each-by, Each-map, Each-append, find-in, get-in, IsPast, IsBegun, begun, made-after, kept_in, Has, IsMade, all-made, and_first, and_second, find-passes, few-written, start-few, start-length, populate-few, same_form-is}
+use Rattle.cm_history.specs.Answers.{answer_after, answer_unbarred, answer_report, is_busy, is_crowded, serial_made}
+use Rattle.pr_keys.specs.declared.registrants.Registrant.{Registrant}
+use Rattle.pr_keys.specs.Reservations.{keys_of}
+use Rattle.pr_keys.specs.Actions.{most_registrants}
+use Rattle.cm_history.specs.Reserving.{reservations, bars_act}
+use Rattle.cm_history.specs.Forms.{HasForm, MayConflict}
+use Rattle.cm_history.proofs.PublicLaws.{unbarred-kind, barred-kind, free-answer, free-answered, reservations-sound, In, Each, Each-in, Each-by, Each-map, Each-append, find-in, get-in, IsPast, IsBegun, begun, made-after, kept_in, Has, IsMade, all-made, and_first, and_second, find-passes, few-written, start-few, start-length, populate-few, same_form-is}
 use Rattle.plain_model.specs.inner.Fitting.{Fits, AllFit}
 
 -- ---- blocks, and runs of them
@@ -102,8 +106,8 @@ redeem-formed config unit past now text target asked = go (named_token past text
 abbrev pub HasSerial : Answer → Type 0
 HasSerial answer = IfSome (serial_made answer) (λ serial. serial < 2 ^ 48)
 
-serial-low : (config : Configuration) (unit : ℕ) (past : List Deed) (actor : Actor) (now : ℕ) (act : Act) → is_making act ≡ true → HasSerial (answer_after config unit past actor now act)
-serial-low config unit past actor now (Act.Populate id timeout ranges) e =
+unbarred-low : (config : Configuration) (unit : ℕ) (past : List Deed) (actor : Actor) (now : ℕ) (act : Act) → is_making act ≡ true → HasSerial (answer_unbarred config unit past actor now act)
+unbarred-low config unit past actor now (Act.Populate id timeout ranges) e =
     go (is_busy past actor OfToken id) (not (is_within (unit_of config unit).blocks ranges)) (nat_le (2 ^ 48) (length (tokens past))) refl
   where
     go : (a b c : Bool) → nat_le (2 ^ 48) (length (tokens past)) ≡ c
@@ -112,7 +116,7 @@ serial-low config unit past actor now (Act.Populate id timeout ranges) e =
     go false true c e = tt
     go false false true e = tt
     go false false false e = grind (arith, nat_tests)
-serial-low config unit past actor now (Act.Start id background ranges rod) e =
+unbarred-low config unit past actor now (Act.Start id background ranges rod) e =
     go (is_busy past actor OfToken id) (not (is_within (unit_of config unit).blocks ranges)) (is_crowded past) (length rod.items == 0)
   where
     go : (a b c d : Bool)
@@ -121,13 +125,20 @@ serial-low config unit past actor now (Act.Start id background ranges rod) e =
     go false true c d = tt
     go false false true d = tt
     go false false false d = tt
-serial-low config unit past actor now (Act.Open id) e = go (is_busy past actor OfCopy id) (is_crowded past)
+unbarred-low config unit past actor now (Act.Open id) e = go (is_busy past actor OfCopy id) (is_crowded past)
   where
     go : (a b : Bool) → HasSerial (if a then Answer.Refused operation_in_progress else if b then Answer.Refused insufficient_resources else Answer.Done)
     go true b = tt
     go false true = tt
     go false false = tt
-serial-low config unit past actor now _ e = cc
+unbarred-low config unit past actor now _ e = cc
+
+serial-low : (config : Configuration) (unit : ℕ) (past : List Deed) (actor : Actor) (now : ℕ) (act : Act) → is_making act ≡ true → HasSerial (answer_after config unit past actor now act)
+serial-low config unit past actor now act e = go (bars_act (reservations past) actor act)
+  where
+    go : (t : Bool) → HasSerial (if t then Answer.Conflict else answer_unbarred config unit past actor now act)
+    go true = tt
+    go false = unbarred-low config unit past actor now act e
 
 all-low : (config : Configuration) (unit : ℕ) (past : List Deed) → IsPast config unit past → Each (λ (o : Operation). HasSerial o.made.answer) (operations past)
 all-low config unit [] is = tt
@@ -166,10 +177,9 @@ record IsMadeBy (config : Configuration) (unit : ℕ) (d : Deed) : Type 0 where
   pub makes : is_making d.entry.act ≡ true
   pub serial : is_some (serial_made d.answer) ≡ is_populate d.entry.act
 
--- a token is made by a Populate alone
-serial-made : (config : Configuration) (unit : ℕ) (past : List Deed) (actor : Actor) (now : ℕ) (act : Act) → is_making act ≡ true
-    → not (is_refusal (answer_after config unit past actor now act)) ≡ true → is_some (serial_made (answer_after config unit past actor now act)) ≡ is_populate act
-serial-made config unit past actor now (Act.Populate id timeout ranges) e answered =
+unbarred-made : (config : Configuration) (unit : ℕ) (past : List Deed) (actor : Actor) (now : ℕ) (act : Act) → is_making act ≡ true
+    → not (is_refusal (answer_unbarred config unit past actor now act)) ≡ true → is_some (serial_made (answer_unbarred config unit past actor now act)) ≡ is_populate act
+unbarred-made config unit past actor now (Act.Populate id timeout ranges) e answered =
     go (is_busy past actor OfToken id) (not (is_within (unit_of config unit).blocks ranges)) (nat_le (2 ^ 48) (length (tokens past))) answered
   where
     go : (a b c : Bool)
@@ -179,7 +189,7 @@ serial-made config unit past actor now (Act.Populate id timeout ranges) e answer
     go false true c h = cc
     go false false true h = cc
     go false false false h = refl
-serial-made config unit past actor now (Act.Start id background ranges rod) e answered =
+unbarred-made config unit past actor now (Act.Start id background ranges rod) e answered =
     go (is_busy past actor OfToken id) (not (is_within (unit_of config unit).blocks ranges)) (is_crowded past) (length rod.items == 0)
   where
     go : (a b c d : Bool)
@@ -188,13 +198,20 @@ serial-made config unit past actor now (Act.Start id background ranges rod) e an
     go false true c d = refl
     go false false true d = refl
     go false false false d = refl
-serial-made config unit past actor now (Act.Open id) e answered = go (is_busy past actor OfCopy id) (is_crowded past)
+unbarred-made config unit past actor now (Act.Open id) e answered = go (is_busy past actor OfCopy id) (is_crowded past)
   where
     go : (a b : Bool) → is_some (serial_made (if a then Answer.Refused operation_in_progress else if b then Answer.Refused insufficient_resources else Answer.Done)) ≡ false
     go true b = refl
     go false true = refl
     go false false = refl
-serial-made config unit past actor now _ e answered = cc
+unbarred-made config unit past actor now _ e answered = cc
+
+-- a token is made by a Populate alone
+serial-made : (config : Configuration) (unit : ℕ) (past : List Deed) (actor : Actor) (now : ℕ) (act : Act) → is_making act ≡ true
+    → not (is_refusal (answer_after config unit past actor now act)) ≡ true → is_some (serial_made (answer_after config unit past actor now act)) ≡ is_populate act
+serial-made config unit past actor now act e answered =
+    ap (λ a. is_some (serial_made a)) (free-answer (bars_act (reservations past) actor act) _ answered)
+    ∙ unbarred-made config unit past actor now act e (free-answered (bars_act (reservations past) actor act) _ answered)
 
 -- each operation was made by such a deed
 all-made_by : (config : Configuration) (unit : ℕ) (past : List Deed) → IsPast config unit past → AllFit config unit past
@@ -244,24 +261,44 @@ report-formed config unit past actor id is all = go (find (has_key actor OfToken
 
 -- ---- each answer
 
+keys-few : (past : List Deed) → length (keys_of (reservations past)) ≤ most_registrants
+keys-few past =
+    let sound = reservations-sound past in
+    omega (arith, sound.few, length-map (reservations past).registrants (λ (r : Registrant). r.key))
+
+unbarred-formed : (config : Configuration) (unit : ℕ) (past : List Deed) (actor : Actor) (at : ℕ) (act : Act) → IsPast config unit past → AllFit config unit past
+    → HasForm config unit act (answer_unbarred config unit past actor at act)
+unbarred-formed config unit past actor at (Act.Read lba count) is all = read-formed config unit (held past) lba count (nat_le (lba + count) (unit_of config unit).blocks)
+unbarred-formed config unit past actor at (Act.Capture lba count) is all = capture-formed config unit (held past) lba count (nat_le (lba + count) (unit_of config unit).blocks)
+unbarred-formed config unit past actor at (Act.MapStatus lba) is all =
+    status-formed config unit (held past) lba ((unit_of config unit).blocks - lba) (nat_lt lba (unit_of config unit).blocks)
+unbarred-formed config unit past actor at (Act.Redeem text target) is all = redeem-formed config unit past _ text target all
+unbarred-formed config unit past actor at (Act.Report id) is all = report-formed config unit past actor id is all
+unbarred-formed config unit past actor at (Act.Write lba list) is all = unbarred-kind config unit past actor at (Act.Write lba list)
+unbarred-formed config unit past actor at (Act.Put lba list) is all = unbarred-kind config unit past actor at (Act.Put lba list)
+unbarred-formed config unit past actor at (Act.Unmap ranges) is all = unbarred-kind config unit past actor at (Act.Unmap ranges)
+unbarred-formed config unit past actor at (Act.Populate id timeout ranges) is all = unbarred-kind config unit past actor at (Act.Populate id timeout ranges)
+unbarred-formed config unit past actor at (Act.Delete serial) is all = unbarred-kind config unit past actor at (Act.Delete serial)
+unbarred-formed config unit past actor at (Act.Start id background ranges rod) is all = unbarred-kind config unit past actor at (Act.Start id background ranges rod)
+unbarred-formed config unit past actor at (Act.Advance id) is all = unbarred-kind config unit past actor at (Act.Advance id)
+unbarred-formed config unit past actor at Act.Pump is all = unbarred-kind config unit past actor at Act.Pump
+unbarred-formed config unit past actor at (Act.End id) is all = unbarred-kind config unit past actor at (Act.End id)
+unbarred-formed config unit past actor at (Act.Abort id) is all = unbarred-kind config unit past actor at (Act.Abort id)
+unbarred-formed config unit past actor at (Act.Open id) is all = unbarred-kind config unit past actor at (Act.Open id)
+unbarred-formed config unit past actor at (Act.Close id result) is all = unbarred-kind config unit past actor at (Act.Close id result)
+unbarred-formed config unit past actor at (Act.Recall id) is all = unbarred-kind config unit past actor at (Act.Recall id)
+unbarred-formed config unit past actor at (Act.PrOut action scope kind key action_key) is all = unbarred-kind config unit past actor at (Act.PrOut action scope kind key action_key)
+unbarred-formed config unit past actor at Act.PrKeys is all = keys-few past
+unbarred-formed config unit past actor at Act.PrHolder is all = unbarred-kind config unit past actor at Act.PrHolder
+
+conflict-formed : (config : Configuration) (unit : ℕ) (act : Act) → MayConflict act → HasForm config unit act Answer.Conflict
+conflict-formed config unit (Act.Read lba count) may = may
+conflict-formed config unit act may = may
+
 pub after-formed : (config : Configuration) (unit : ℕ) (past : List Deed) (actor : Actor) (at : ℕ) (act : Act) → IsPast config unit past → AllFit config unit past
     → HasForm config unit act (answer_after config unit past actor at act)
-after-formed config unit past actor at (Act.Read lba count) is all = read-formed config unit (held past) lba count (nat_le (lba + count) (unit_of config unit).blocks)
-after-formed config unit past actor at (Act.Capture lba count) is all = capture-formed config unit (held past) lba count (nat_le (lba + count) (unit_of config unit).blocks)
-after-formed config unit past actor at (Act.MapStatus lba) is all =
-    status-formed config unit (held past) lba ((unit_of config unit).blocks - lba) (nat_lt lba (unit_of config unit).blocks)
-after-formed config unit past actor at (Act.Redeem text target) is all = redeem-formed config unit past _ text target all
-after-formed config unit past actor at (Act.Report id) is all = report-formed config unit past actor id is all
-after-formed config unit past actor at (Act.Write lba list) is all = after-kind config unit past actor at (Act.Write lba list)
-after-formed config unit past actor at (Act.Put lba list) is all = after-kind config unit past actor at (Act.Put lba list)
-after-formed config unit past actor at (Act.Unmap ranges) is all = after-kind config unit past actor at (Act.Unmap ranges)
-after-formed config unit past actor at (Act.Populate id timeout ranges) is all = after-kind config unit past actor at (Act.Populate id timeout ranges)
-after-formed config unit past actor at (Act.Delete serial) is all = after-kind config unit past actor at (Act.Delete serial)
-after-formed config unit past actor at (Act.Start id background ranges rod) is all = after-kind config unit past actor at (Act.Start id background ranges rod)
-after-formed config unit past actor at (Act.Advance id) is all = after-kind config unit past actor at (Act.Advance id)
-after-formed config unit past actor at Act.Pump is all = after-kind config unit past actor at Act.Pump
-after-formed config unit past actor at (Act.End id) is all = after-kind config unit past actor at (Act.End id)
-after-formed config unit past actor at (Act.Abort id) is all = after-kind config unit past actor at (Act.Abort id)
-after-formed config unit past actor at (Act.Open id) is all = after-kind config unit past actor at (Act.Open id)
-after-formed config unit past actor at (Act.Close id result) is all = after-kind config unit past actor at (Act.Close id result)
-after-formed config unit past actor at (Act.Recall id) is all = after-kind config unit past actor at (Act.Recall id)
+after-formed config unit past actor at act is all = go (bars_act (reservations past) actor act) refl
+  where
+    go : (t : Bool) → bars_act (reservations past) actor act ≡ t → HasForm config unit act (if t then Answer.Conflict else answer_unbarred config unit past actor at act)
+    go true e = conflict-formed config unit act (barred-kind (reservations past) actor act e)
+    go false e = unbarred-formed config unit past actor at act is all

@@ -2,6 +2,7 @@ pub mod Loops
 pub mod OneByOne
 pub mod Sizes
 pub mod Sound
+pub mod NewUnits
 pub mod Steps
 pub mod Within
 pub mod PublicLaws

@@ -17,10 +17,11 @@ use Rattle.cm_history.specs.Limits.{within_limits, fits_unit}
 use Rattle.scsi_sense.specs.Codes.{operation_in_progress, lba_out_of_range, insufficient_resources}
 use Rattle.cm_history.specs.Tokens.{tokens}
 use Rattle.cm_history.specs.Operations.{Operation, OfToken, operations, operation_after, made_operation, makes_operation, is_making, kept, list_of, written}
+use Rattle.cm_history.specs.Reserving.{reservations, bars_act}
 use Rattle.cm_history.specs.Answers.{answer_after, deed, is_busy, is_crowded}
 use Rattle.plain_model.specs.inner.Holds.{MadeSound, IsSoundAct, IsSoundOperation, AllSound, MayFollow}
 use Rattle.plain_model.specs.inner.Fitting.{Fits, AllFit}
-use Rattle.cm_history.proofs.PublicLaws.{In-map, Each, Each-in, Each-by, Each-map, Each-append, IsPast, IsBegun, begun, made-after, kept_in, and_first, and_second, populate-few as few-populated}
+use Rattle.cm_history.proofs.PublicLaws.{free-answered, In-map, Each, Each-in, Each-by, Each-map, Each-append, IsPast, IsBegun, begun, made-after, kept_in, and_first, and_second, populate-few as few-populated}
 
 numbers-within : (blocks : ℕ) (ranges : List Range) → blocks ≤ 2 ^ 64 → is_within blocks ranges ≡ true → IsTrue (is_within (2 ^ 64) ranges)
 numbers-within blocks ranges few inside = let far : is_within (2 ^ 64) ranges ≡ true = within-more blocks (2 ^ 64) ranges few inside in far
@@ -31,8 +32,11 @@ sound-act : (config : Configuration) (unit : ℕ) (past : List Deed) (actor : Ac
 sound-act config unit past actor now (Act.Populate id timeout ranges) few limits answered = few-populated config unit id timeout ranges limits
 sound-act config unit past actor now (Act.Start id background ranges rod) few limits answered =
     let short : nat_le (length rod.items) 1_048_576 ≡ true = and_second (not (is_overlapping ranges) && (total ranges == length rod.items)) _ (and_first _ (fits_unit config unit rod) limits) in
-    let small : length rod.items ≤ 1_048_576 = grind (arith, nat_tests) in
-    (small, numbers-within _ ranges few (go (is_busy past actor OfToken id) (is_within (unit_of config unit).blocks ranges) answered))
+    let small : length rod.items ≤ 1_048_576 = grind (arith, nat_tests) in (
+      small,
+      numbers-within _ ranges few (go (is_busy past actor OfToken id) (is_within (unit_of config unit).blocks ranges)
+          (free-answered (bars_act (reservations past) actor (Act.Start id background ranges rod)) _ answered)),
+    )
   where
     last : Answer
     last = if is_crowded past then Answer.Refused insufficient_resources else Answer.Progress (if length rod.items == 0 then OpState.Done else OpState.Running) 0
@@ -47,7 +51,7 @@ sound-act config unit past actor now _ few limits answered = tt
 made-sound : (config : Configuration) (unit : ℕ) (past : List Deed) (actor : Actor) (now : ℕ) (d : Deed) (act : Act) → (unit_of config unit).blocks ≤ 2 ^ 64 → within_limits config unit act ≡ true
     → is_answered d ≡ not (is_refusal (answer_after config unit past actor now act)) → MadeSound d (length (tokens past)) act
 made-sound config unit past actor now d (Act.Populate id timeout ranges) few limits same = λ answered.
-    let told = sym same ∙ answered in
+    let told = free-answered (bars_act (reservations past) actor (Act.Populate id timeout ranges)) _ (sym same ∙ answered) in
     let inside = go (is_busy past actor OfToken id) (is_within (unit_of config unit).blocks ranges) (nat_le (2 ^ 48) (length (tokens past))) told in
     let room : nat_le (2 ^ 48) (length (tokens past)) ≡ false = inside.1 in
     record { low = grind (arith, nat_tests); few = few-populated config unit id timeout ranges limits; numbers = numbers-within _ ranges few inside.0 }

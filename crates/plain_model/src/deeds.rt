@@ -37,7 +37,7 @@ impl Model for PlainDeed {
 pub(crate) fn is_refusal(answer: &Answer) -> bool
     ensures { result ≡ is_refusal answer.now }
 {
-    matches!(answer, Answer::Refused(_))
+    matches!(answer, Answer::Refused(_) | Answer::Conflict)
 }
 
 /// The answer says that a piece was not written.

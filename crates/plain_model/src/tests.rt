@@ -4,7 +4,7 @@ ghost use Rattle.cm_history.specs.Limits.{within_limits};
 ghost use Rattle.plain_model.specs.Holds.{AreWithin};
 
 use super::*;
-use cm_base::{Bytes, Config, Payload, UnitConfig, UnitList};
+use cm_base::{Bytes, Config, Holder, Payload, UnitConfig, UnitList};
 use cm_history::{Act, Actor, Answer, Entry, History, OpState, TokenText, within_limits};
 use lba_ranges::{BlockList, Fill, Piece, Range, RangeList};
 use scsi_sense::Sense;
@@ -76,8 +76,9 @@ fn four_writes(rt: &HostRuntime, config: &Config) -> Result<History, Fail>
     Ok(history)
 }
 
-/// What initiator 1 is answered at this moment.
-fn told(
+/// What an initiator is answered at this moment.
+fn told_to(
+    nexus: u32,
     rt: &HostRuntime,
     config: &Config,
     history: &History,
@@ -89,7 +90,22 @@ fn told(
 {
     allowed(config, act)?;
     let alloc = rt.alloc();
-    Ok(plain_answer(alloc, config, history, 0, Actor::Nexus(1), moment, act)?)
+    let actor = Actor::Nexus(nexus);
+    Ok(plain_answer(alloc, config, history, 0, actor, moment, act)?)
+}
+
+/// What initiator 1 is answered at this moment.
+fn told(
+    rt: &HostRuntime,
+    config: &Config,
+    history: &History,
+    moment: u64,
+    act: &Act,
+) -> Result<Answer, Fail>
+    requires one { 1 ≤ length config.now.units }
+    requires within { AreWithin config.now 0 history.now.entries }
+{
+    told_to(1, rt, config, history, moment, act)
 }
 
 /// The bytes of the blocks that a Read of all blocks is answered after four Writes.
@@ -251,5 +267,42 @@ fn an_operation_is_pumped(rt: HostRuntime) -> Result<(), Fail> {
     assert!(rt; is_report(&answer, 0, false));
     let answer = pumped(&rt, &config, 2)?;
     assert!(rt; is_report(&answer, 4, true));
+    Ok(())
+}
+
+/// A PERSISTENT RESERVE OUT by the key A1h, or one that brings this key.
+fn out(action: u8, kind: u8, key: u64, action_key: u64) -> Act {
+    Act::PrOut {
+        action,
+        scope: 0,
+        kind,
+        key,
+        action_key,
+    }
+}
+
+/// Initiator 1 registers, and reserves the unit for itself; then initiator 2 asks.
+fn told_the_other(rt: &HostRuntime, config: &Config, act: &Act) -> Result<Answer, Fail>
+    requires { 1 ≤ length config.now.units }
+{
+    let mut history = four_writes(rt, config)?;
+    ask(config, &mut history, 4, out(0x00, 0, 0, 0xa1))?;
+    ask(config, &mut history, 5, out(0x01, 3, 0xa1, 0))?;
+    told_to(2, rt, config, &history, 6, act)
+}
+
+/// Others may not read, also where no block is; they are told the keys and the holder, and may register.
+#[test]
+fn a_reservation_is_looked_at_first(rt: HostRuntime) -> Result<(), Fail> {
+    let config = one_unit(&rt)?;
+    let answer = told_the_other(&rt, &config, &Act::Read { lba: 9, count: 4 })?;
+    assert!(rt; matches!(&answer, Answer::Conflict));
+    let answer = told_the_other(&rt, &config, &Act::PrKeys)?;
+    assert!(rt; matches!(&answer, Answer::Keys { generation: 1, keys } if keys.len() == 1));
+    let answer = told_the_other(&rt, &config, &Act::PrHolder)?;
+    let holder = Holder { key: 0xa1, kind: 3 };
+    assert!(rt; matches!(&answer, Answer::Holder { holder: Some(told), .. } if *told == holder));
+    let answer = told_the_other(&rt, &config, &out(0x00, 0, 0, 0xb2))?;
+    assert!(rt; matches!(&answer, Answer::Done));
     Ok(())
 }

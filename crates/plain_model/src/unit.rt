@@ -3,11 +3,12 @@ ghost use Rattle.std.specs.Option.{option_copied};
 ghost use Rattle.cm_base.specs.Units.{unit_of};
 ghost use Rattle.lba_ranges.specs.Denoted.{blocks_of};
 ghost use Rattle.cm_history.specs.declared.act.Act.{Act};
-ghost use Rattle.cm_history.specs.Answers.{answer_after, answer_populate, answer_start, answer_open, progress, answer_end, done_if, answer_report, answer_recall, is_busy, is_crowded, piece_of, writings, deed};
+ghost use Rattle.cm_history.specs.Answers.{answer_after, answer_unbarred, answer_populate, answer_start, answer_open, progress, answer_end, done_if, answer_report, answer_recall, is_busy, is_crowded, piece_of, writings, deed};
 ghost use Rattle.cm_history.specs.Deeds.{moment};
 ghost use Rattle.cm_history.specs.Limits.{within_limits};
 ghost use Rattle.cm_history.specs.Operations.{OfToken, OfCopy, has_key, kept, operations, running, would_serve};
 ghost use Rattle.cm_history.specs.Redeeming.{redeemed, named_token};
+ghost use Rattle.cm_history.specs.Reserving.{reservations, reserved_by, bars_act};
 ghost use Rattle.cm_history.specs.Room.{reserved, need, need_to_serve, is_full};
 ghost use Rattle.plain_model.specs.inner.Amounts.{capped, IsShortAct};
 ghost use Rattle.plain_model.specs.inner.Forms.{as_form};
@@ -23,8 +24,11 @@ use crate::tokens::{PlainToken, tokens_after};
 use crate::writings::PlainWritings;
 use crate::{blocks, refusals};
 use cm_base::{Config, OutOfMemory, UnitConfig};
-use cm_history::{Act, Actor, Answer, Entry, OpState, pieces};
+use cm_history::{
+    Act, Actor, Answer, Entry, OpState, answer_holder, answer_keys, bars, pieces, reserve,
+};
 use lba_ranges::{BlockList, RangeList};
+use pr_keys::PrState;
 use std::alloc::Global;
 use std::marker::Model;
 
@@ -34,7 +38,7 @@ const RUNNING_OPERATIONS: usize = 64;
 /// Serials that a unit makes.
 const SERIALS: usize = 1 << 48;
 
-/// What a unit has done, with the tokens and the operations that come of it. Contracts see its deeds, the latest
+/// What a unit has done, with the tokens, the operations and the reservations that come of it. Contracts see its deeds, the latest
 /// first.
 #[derive(Drop)]
 pub(crate) struct PlainUnit {
@@ -42,6 +46,7 @@ pub(crate) struct PlainUnit {
     tokens: Vec<PlainToken>,
     operations: Vec<PlainOperation>,
     kept: Vec<PlainOperation>,
+    reservations: PrState,
 }
 
 impl Model for PlainUnit {
@@ -54,7 +59,7 @@ impl Model for PlainUnit {
 
     ghost view = { λ u. u.past };
 
-    ghost invariant = { λ u. ComesOf u.past u.tokens.items u.operations.items u.kept.items };
+    ghost invariant = { λ u. ComesOf u.past u.tokens.items u.operations.items u.kept.items u.reservations };
 }
 
 impl PlainUnit {
@@ -67,6 +72,7 @@ impl PlainUnit {
             tokens: Vec::new(alloc),
             operations: Vec::new(alloc),
             kept: Vec::new(alloc),
+            reservations: PrState::new(alloc),
         }
     }
 
@@ -240,7 +246,7 @@ impl PlainUnit {
 }
 
 impl PlainUnit {
-    /// What an act on tokens or operations is answered that writes no blocks.
+    /// What an act is answered that writes no blocks, where no reservation stands against it.
     fn told(
         &self,
         alloc: Global,
@@ -254,7 +260,7 @@ impl PlainUnit {
         requires limits { within_limits config.now number act.now ≡ true }
         requires sized { IsSizedPast (unit_of config.now number).block_length self.now }
         requires told { writes act.now ≡ false }
-        ensures { IfOk result (λ a. a ≡ answer_after config.now number self.now actor moment act.now) }
+        ensures { IfOk result (λ a. a ≡ answer_unbarred config.now number self.now actor moment act.now) }
     {
         let unit = config.unit(number);
         let served = self.would_serve(actor, act);
@@ -283,6 +289,19 @@ impl PlainUnit {
                 let found = self.kept(actor, PlainForm::OfCopy, u32::from(*id));
                 Ok(answer_recall(found))
             }
+            Act::PrOut {
+                action,
+                scope,
+                kind,
+                key,
+                action_key,
+            } => {
+                let unit = &self.reservations;
+                let done = reserve(unit, actor, *action, *scope, *kind, *key, *action_key)?;
+                Ok(done.answer)
+            }
+            Act::PrKeys => answer_keys(&self.reservations),
+            Act::PrHolder => Ok(answer_holder(&self.reservations)),
             _ => Ok(Answer::Done),
         }
     }
@@ -301,6 +320,34 @@ impl PlainUnit {
         requires limits { within_limits config.now number act.now ≡ true }
         requires sized { IsSizedPast (unit_of config.now number).block_length self.now }
         ensures { IfOk result (λ o. IsOutcome o (answer_after config.now number self.now actor moment act.now) (writings self.now actor act.now)) }
+    {
+        if self.is_barred(actor, act) {
+            return Ok(PlainOutcome::told(alloc, Answer::Conflict));
+        }
+        self.unbarred(alloc, config, number, actor, moment, act)
+    }
+
+    /// A reservation stands against the act.
+    fn is_barred(&self, actor: Actor, act: &Act) -> bool
+        ensures { result ≡ bars_act (reservations self.now) actor act.now }
+    {
+        bars(&self.reservations, actor, act)
+    }
+
+    /// What an act is answered, and what it writes, where no reservation stands against it.
+    fn unbarred(
+        &self,
+        alloc: Global,
+        config: &Config,
+        number: u16,
+        actor: Actor,
+        moment: u64,
+        act: &Act,
+    ) -> Result<PlainOutcome, OutOfMemory>
+        requires configured { number < length config.now.units }
+        requires limits { within_limits config.now number act.now ≡ true }
+        requires sized { IsSizedPast (unit_of config.now number).block_length self.now }
+        ensures { IfOk result (λ o. IsOutcome o (answer_unbarred config.now number self.now actor moment act.now) (writings self.now actor act.now)) }
     {
         let unit = config.unit(number);
         match act {
@@ -364,10 +411,12 @@ impl PlainUnit {
         let tokens = tokens_after(alloc, &self.tokens, &self.past, &deed)?;
         let operations = operations_after(alloc, &self.operations, &deed)?;
         let kept = kept_after(alloc, &self.kept, &deed)?;
+        let reservations = reservations_after(&self.reservations, deed.entry())?;
         self.past.push(deed)?;
         self.tokens = tokens;
         self.operations = operations;
         self.kept = kept;
+        self.reservations = reservations;
         Ok(())
     }
 
@@ -442,6 +491,26 @@ impl PlainUnit {
         stamp.max(self.past.last_stamp()) == u64::MAX
             || kept.saturating_add(self.need(actor, act)) > u64::from(unit.entries)
             || (is_write(act) && payload > u64::from(unit.payload))
+    }
+}
+
+/// The reservations after one more entry.
+fn reservations_after(reservations: &PrState, entry: &Entry) -> Result<PrState, OutOfMemory>
+    ensures { IfOk result (λ r. r ≡ reserved_by reservations.now entry.now.actor entry.now.act) }
+{
+    match entry.act {
+        Act::PrOut {
+            action,
+            scope,
+            kind,
+            key,
+            action_key,
+        } => {
+            let actor = entry.actor;
+            let done = reserve(reservations, actor, action, scope, kind, key, action_key)?;
+            Ok(done.reservations)
+        }
+        _ => reservations.copy(),
     }
 }
 

@@ -3,7 +3,7 @@ ghost use Rattle.std.specs.Prelude.{◌≡◌, ◌<◌, length, IfOk};
 ghost use Rattle.random_acts.specs.Asked.{IsOfNexus};
 
 use crate::numbers::Numbers;
-use cm_base::{Config, OutOfMemory, Payload};
+use cm_base::{Config, OutOfMemory, Payload, ReservationAction};
 use cm_history::{Act, CopyEnd, CopyState, TokenText};
 use lba_ranges::{BlockList, Fill, Piece, Range, RangeList};
 use std::alloc::Global;
@@ -221,6 +221,35 @@ fn act_on_copies(numbers: &mut Numbers) -> Act
     }
 }
 
+/// A service action of PERSISTENT RESERVE OUT, often a RESERVE.
+fn action(numbers: &mut Numbers) -> ReservationAction {
+    match numbers.below(8) {
+        0 => ReservationAction::Register,
+        1 | 2 => ReservationAction::RegisterAndIgnoreExistingKey,
+        3 => ReservationAction::Release,
+        4 => ReservationAction::Clear,
+        5 => ReservationAction::Preempt,
+        _ => ReservationAction::Reserve,
+    }
+}
+
+/// An act on reservations, by few keys, so that they often fit.
+fn act_on_reservations(numbers: &mut Numbers) -> Act
+    ensures { IsOfNexus result }
+{
+    match numbers.below(6) {
+        0 => Act::PrKeys,
+        1 => Act::PrHolder,
+        _ => Act::PrOut {
+            action: action(numbers).code(),
+            scope: u8::from(numbers.below(12) == 0),
+            kind: numbers.below(8) as u8,
+            key: u64::from(numbers.below(3)),
+            action_key: u64::from(numbers.below(3)),
+        },
+    }
+}
+
 /// An act of any kind.
 fn mixed_act(
     alloc: Global,
@@ -248,6 +277,8 @@ pub enum Style {
     Long,
     /// Writes and tokens of the same four blocks.
     Shown,
+    /// Acts on reservations, and of all other kinds.
+    Reserved,
 }
 
 /// An act of a nexus.
@@ -265,5 +296,12 @@ pub fn random_act(
         Style::Mixed => mixed_act(alloc, config, unit, numbers),
         Style::Long => act_on_long_operations(alloc, numbers),
         Style::Shown => act_on_shown_blocks(alloc, config, unit, numbers),
+        Style::Reserved => {
+            if numbers.below(2) == 0 {
+                Ok(act_on_reservations(numbers))
+            } else {
+                mixed_act(alloc, config, unit, numbers)
+            }
+        }
     }
 }

@@ -46,7 +46,9 @@ fn same_copy_state(a: CopyState, b: CopyState) -> bool {
 /// Whether two answers without blocks are the same.
 fn same_word(a: &Answer, b: &Answer) -> bool {
     match (a, b) {
-        (Answer::Done, Answer::Done) | (Answer::Idle, Answer::Idle) => true,
+        (Answer::Done, Answer::Done)
+        | (Answer::Idle, Answer::Idle)
+        | (Answer::Conflict, Answer::Conflict) => true,
         (Answer::Made { serial: a }, Answer::Made { serial: b }) => a == b,
         (Answer::Refused(a), Answer::Refused(b)) => same_sense(a, b),
         (Answer::Progress { state: a, count: m }, Answer::Progress { state: b, count: n }) => {
@@ -71,6 +73,33 @@ fn same_report(a: &Answer, b: &Answer) -> bool {
     }
 }
 
+/// Whether two answers on reservations are the same.
+fn same_reservation(a: &Answer, b: &Answer) -> bool {
+    match (a, b) {
+        (
+            Answer::Keys {
+                generation: a,
+                keys: of_a,
+            },
+            Answer::Keys {
+                generation: b,
+                keys: of_b,
+            },
+        ) => a == b && of_a.as_slice() == of_b.as_slice(),
+        (
+            Answer::Holder {
+                generation: a,
+                holder: of_a,
+            },
+            Answer::Holder {
+                generation: b,
+                holder: of_b,
+            },
+        ) => a == b && of_a == of_b,
+        _ => false,
+    }
+}
+
 /// Whether two answers are the same.
 pub fn is_same(a: &Answer, b: &Answer) -> bool {
     match (a, b) {
@@ -83,6 +112,6 @@ pub fn is_same(a: &Answer, b: &Answer) -> bool {
                     (a.lba, a.count, a.mapped) == (b.lba, b.count, b.mapped)
                 })
         }
-        _ => same_word(a, b) || same_report(a, b),
+        _ => same_word(a, b) || same_report(a, b) || same_reservation(a, b),
     }
 }

@@ -3,7 +3,7 @@ ghost use Rattle.std.specs.Prelude.{◌≡◌, ℕ, ◌≤◌, ◌&&◌, nat_le,
 ghost use Rattle.lba_ranges.specs.HeldBlocks.{HeldBlocks};
 ghost use Rattle.cm_history.specs.declared.act.Act.{Act};
 ghost use Rattle.recorder.specs.Cursor.{tested};
-ghost use Rattle.recorder.specs.Reading.{read_two, read_list, read_populate, read_start, read_redeem, read_end, read_close, read_fields, read_act, read_number, read_actor, read_behind, read_entry, state_in};
+ghost use Rattle.recorder.specs.Reading.{read_two, read_list, read_populate, read_start, read_redeem, read_end, read_close, read_out, read_fields, read_act, read_number, read_actor, read_behind, read_entry, state_in};
 ghost use Rattle.recorder.specs.inner.Consuming.{IsRead, StopsAt};
 
 use crate::fields::{Stop, read_at_most, read_bytes, read_u8, read_u16, read_u32, read_u64};
@@ -115,14 +115,33 @@ fn read_close(bytes: &[u8]) -> Result<(Act, &[u8]), Stop>
     Ok((Act::Close { id, result }, rest))
 }
 
-/// The code of an act, 1 to 18.
+fn read_out(bytes: &[u8]) -> Result<(Act, &[u8]), Stop>
+    ensures read { IfOk result (λ r. IsRead (read_out bytes.now) bytes.now r.0 r.1.now) }
+    ensures stopped { IfErr result (StopsAt (read_out bytes.now) bytes.now) }
+{
+    let (action, rest) = read_u8(bytes)?;
+    let (scope, rest) = read_u8(rest)?;
+    let (kind, rest) = read_u8(rest)?;
+    let (key, rest) = read_u64(rest)?;
+    let (action_key, rest) = read_u64(rest)?;
+    let act = Act::PrOut {
+        action,
+        scope,
+        kind,
+        key,
+        action_key,
+    };
+    Ok((act, rest))
+}
+
+/// The code of an act, 1 to 21.
 fn read_code(bytes: &[u8]) -> Result<(u8, &[u8]), Stop>
-    ensures read { IfOk result (λ r. IsRead (tested (λ code. nat_le 1 code && nat_le code 18) 1 bytes.now) bytes.now r.0 r.1.now) }
-    ensures stopped { IfErr result (StopsAt (tested (λ code. nat_le 1 code && nat_le code 18) 1 bytes.now) bytes.now) }
-    ensures few { IfOk result (λ r. r.0 ≤ 18) }
+    ensures read { IfOk result (λ r. IsRead (tested (λ code. nat_le 1 code && nat_le code 21) 1 bytes.now) bytes.now r.0 r.1.now) }
+    ensures stopped { IfErr result (StopsAt (tested (λ code. nat_le 1 code && nat_le code 21) 1 bytes.now) bytes.now) }
+    ensures few { IfOk result (λ r. r.0 ≤ 21) }
 {
     let (code, rest) = read_u8(bytes)?;
-    if code < 1 || code > 18 {
+    if code < 1 || code > 21 {
         return Err(Stop::Bad { left: bytes.len() });
     }
     Ok((code, rest))
@@ -207,15 +226,29 @@ fn read_high(alloc: Global, code: u8, bytes: &[u8]) -> Result<(Act, &[u8]), Stop
     }
 }
 
+/// The fields of the act of a code, 19 to 21, which is one on reservations.
+fn read_reserving(code: u8, bytes: &[u8]) -> Result<(Act, &[u8]), Stop>
+    requires some { 19 ≤ code }
+    requires few { code ≤ 21 }
+    ensures read { IfOk result (λ r. IsRead (read_fields code bytes.now) bytes.now r.0 r.1.now) }
+    ensures stopped { IfErr result (StopsAt (read_fields code bytes.now) bytes.now) }
+{
+    match code {
+        0x13 => read_out(bytes),
+        0x14 => Ok((Act::PrKeys, bytes)),
+        _ => Ok((Act::PrHolder, bytes)),
+    }
+}
+
 fn read_act(alloc: Global, bytes: &[u8]) -> Result<(Act, &[u8]), Stop>
     ensures read { IfOk result (λ r. IsRead (read_act bytes.now) bytes.now r.0 r.1.now) }
     ensures stopped { IfErr result (StopsAt (read_act bytes.now) bytes.now) }
 {
     let (code, rest) = read_code(bytes)?;
-    if code <= 9 {
-        read_low(alloc, code, rest)
-    } else {
-        read_high(alloc, code, rest)
+    match code {
+        ..=9 => read_low(alloc, code, rest),
+        10..=18 => read_high(alloc, code, rest),
+        _ => read_reserving(code, rest),
     }
 }
 

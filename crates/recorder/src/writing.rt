@@ -150,7 +150,27 @@ fn write_close(into: &mut Text, id: u8, end: CopyEnd) -> Result<(), OutOfMemory>
     into.extend(&bytes)
 }
 
-/// The code of an act, 1 to 18.
+fn write_out(
+    into: &mut Text,
+    action: u8,
+    scope: u8,
+    kind: u8,
+    key: u64,
+    action_key: u64,
+) -> Result<(), OutOfMemory>
+    ensures written { OnOk result (into.new ≡ into.old ++ act_fields (Act.PrOut action scope kind key action_key)) }
+    ensures fits { FitsAct (Act.PrOut action scope kind key action_key) }
+{
+    let mut bytes = [0; 19];
+    bytes[0] = action;
+    bytes[1] = scope;
+    bytes[2] = kind;
+    set_u64(&mut bytes, 3, key);
+    set_u64(&mut bytes, 11, action_key);
+    into.extend(&bytes)
+}
+
+/// The code of an act, 1 to 21.
 fn act_code(act: &Act) -> u8
     ensures { result ≡ act_code act.now }
 {
@@ -173,6 +193,9 @@ fn act_code(act: &Act) -> u8
         Act::Open { .. } => 0x10,
         Act::Close { .. } => 0x11,
         Act::Recall { .. } => 0x12,
+        Act::PrOut { .. } => 0x13,
+        Act::PrKeys => 0x14,
+        Act::PrHolder => 0x15,
     }
 }
 
@@ -210,6 +233,14 @@ fn write_fields(into: &mut Text, act: &Act) -> Result<(), OutOfMemory>
         Act::Open { id } => write_u8(into, id),
         Act::Close { id, result } => write_close(into, id, result),
         Act::Recall { id } => write_u8(into, id),
+        Act::PrOut {
+            action,
+            scope,
+            kind,
+            key,
+            action_key,
+        } => write_out(into, action, scope, kind, key, action_key),
+        Act::PrKeys | Act::PrHolder => Ok(()),
     }
 }
 

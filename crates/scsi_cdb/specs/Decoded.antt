@@ -21,6 +21,10 @@ row code size command = record { code = code; action = None; size = size; comman
 abbrev pub action_row : ℕ → ℕ → (List ℕ → Cdb) → Row
 action_row code action command = record { code = code; action = Some action; size = 16; command = command }
 
+-- a row with a service action, whose CDB has 10 bytes
+abbrev pub short_row : ℕ → ℕ → (List ℕ → Cdb) → Row
+short_row code action command = record { code = code; action = Some action; size = 10; command = command }
+
 -- the commands that have an operation code of their own, with the fields that are read in their CDBs (SPC-4, SBC-3)
 abbrev pub plain_rows : List Row
 plain_rows =
@@ -49,13 +53,27 @@ action_rows =
     ∷ action_row 0x9e 0x10 (λ b. Cdb.ReadCapacity16 (field b 10 13))
     ∷ action_row 0x9e 0x12 (λ b. Cdb.GetLbaStatus (field b 2 9) (field b 10 13)) ∷ []
 
+-- PERSISTENT RESERVE OUT with a service action: scope, type and parameter list length
+abbrev pub out_row : ℕ → Row
+out_row action = short_row 0x5f action (λ b. Cdb.PersistentOut action (bits b 2 7 4) (bits b 2 3 0) (field b 5 8))
+
+-- PERSISTENT RESERVE IN with a service action
+abbrev pub in_row : ℕ → Row
+in_row action = short_row 0x5e action (λ b. Cdb.PersistentIn action (field b 7 8))
+
+-- the persistent reservations (SPC-4)
+abbrev pub reservation_rows : List Row
+reservation_rows =
+    out_row 0x00 ∷ out_row 0x01 ∷ out_row 0x02 ∷ out_row 0x03 ∷ out_row 0x04 ∷ out_row 0x06
+    ∷ in_row 0x00 ∷ in_row 0x01 ∷ []
+
 -- the row is that of the CDB, whose service action is in bits 4..0 of byte 1
 abbrev pub is_row_of : List ℕ → Row → Bool
 is_row_of b r = (byte b 0 == r.code) && option_map_or (λ action. bits b 1 4 0 == action) r.action true
 
 -- the row of the CDB, if there is one
 abbrev pub row_of : List ℕ → Option Row
-row_of b = find (is_row_of b) (plain_rows ++ action_rows)
+row_of b = find (is_row_of b) (plain_rows ++ action_rows ++ reservation_rows)
 
 -- protection, more than 2048 blocks, ANCHOR or DESC
 abbrev pub has_bad_field : List ℕ → Cdb → Bool

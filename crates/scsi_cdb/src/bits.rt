@@ -98,3 +98,19 @@ pub fn has_protect(byte: u8) -> bool
 {
     Options(byte).intersects(Options::PROTECT)
 }
+
+/// The scope of a reservation command.
+pub fn scope(byte: u8) -> u8
+    ensures scope { result ≡ byte / 16 % 16 }
+    ensures small { result < 16 }
+{
+    byte >> 4
+}
+
+/// The type of a reservation.
+pub fn kind(byte: u8) -> u8
+    ensures kind { result ≡ byte / 1 % 16 }
+    ensures small { result < 16 }
+{
+    byte & 0x0f
+}

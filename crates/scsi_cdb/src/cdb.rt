@@ -6,37 +6,93 @@ pub enum Cdb {
     /// SPC-4, TEST UNIT READY.
     TestUnitReady,
     /// SPC-4, REQUEST SENSE, in fixed format.
-    RequestSense { length: u8 },
+    RequestSense {
+        length: u8,
+    },
     /// SPC-4, INQUIRY. `page` is the PAGE CODE of a vital product data page, which EVPD asks for.
-    Inquiry { evpd: bool, page: u8, length: u16 },
+    Inquiry {
+        evpd: bool,
+        page: u8,
+        length: u16,
+    },
     /// SBC-3, READ (10) and READ (16).
-    Read { lba: u64, count: u32 },
+    Read {
+        lba: u64,
+        count: u32,
+    },
     /// SBC-3, WRITE (10) and WRITE (16).
-    Write { lba: u64, count: u32 },
+    Write {
+        lba: u64,
+        count: u32,
+    },
     /// SBC-3, UNMAP.
-    Unmap { length: u16 },
+    Unmap {
+        length: u16,
+    },
     /// SBC-3, READ CAPACITY (10).
     ReadCapacity10,
     /// SBC-3, READ CAPACITY (16).
-    ReadCapacity16 { length: u32 },
+    ReadCapacity16 {
+        length: u32,
+    },
     /// SBC-3, GET LBA STATUS.
-    GetLbaStatus { lba: u64, length: u32 },
+    GetLbaStatus {
+        lba: u64,
+        length: u32,
+    },
     /// SPC-4, REPORT LUNS.
-    ReportLuns { length: u32 },
+    ReportLuns {
+        length: u32,
+    },
+    /// SPC-4, PERSISTENT RESERVE IN. `action` is the code of its service action: 0 READ KEYS,
+    /// 1 READ RESERVATION.
+    PersistentIn {
+        action: u8,
+        length: u16,
+    },
+    /// SPC-4, PERSISTENT RESERVE OUT. `action` is the code of a `ReservationAction`; `scope` and
+    /// `kind`, the type of a reservation, are at most 15.
+    PersistentOut {
+        action: u8,
+        scope: u8,
+        kind: u8,
+        length: u32,
+    },
     /// SPC-4, EXTENDED COPY (LID1).
-    ExtendedCopy { length: u32 },
+    ExtendedCopy {
+        length: u32,
+    },
     /// SBC-3, POPULATE TOKEN.
-    PopulateToken { id: u32, length: u32 },
+    PopulateToken {
+        id: u32,
+        length: u32,
+    },
     /// SBC-3, WRITE USING TOKEN.
-    WriteUsingToken { id: u32, length: u32 },
+    WriteUsingToken {
+        id: u32,
+        length: u32,
+    },
     /// SPC-4, COPY OPERATION ABORT; the place of the LIST IDENTIFIER is of this profile's own.
-    CopyAbort { id: u32 },
+    CopyAbort {
+        id: u32,
+    },
     /// SPC-4, RECEIVE COPY STATUS (LID1).
-    CopyStatus1 { id: u8, length: u32 },
+    CopyStatus1 {
+        id: u8,
+        length: u32,
+    },
     /// SPC-4, RECEIVE COPY OPERATING PARAMETERS.
-    CopyParameters { length: u32 },
+    CopyParameters {
+        length: u32,
+    },
     /// SPC-4, RECEIVE COPY STATUS (LID4).
-    CopyStatus4 { id: u32, length: u32 },
+    CopyStatus4 {
+        id: u32,
+        length: u32,
+    },
     /// SPC-4, RECEIVE ROD TOKEN INFORMATION.
-    TokenInformation { id: u32, length: u32 },
+    TokenInformation {
+        id: u32,
+        length: u32,
+    },
 }

@@ -1,16 +1,16 @@
-ghost use Rattle.std.specs.Prelude.{◌≡◌, ◌≤◌, ◌↔◌, slice_index, IsTrue, IsNone, IsSomeAnd, IfOk};
+ghost use Rattle.std.specs.Prelude.{◌≡◌, ◌≤◌, ◌↔◌, slice_index, IsTrue, IsNone, IsSomeAnd, IfSome, IfOk, true};
 ghost use Rattle.std.specs.Option.{option_map};
 ghost use Rattle.scsi_sense.specs.Codes.{invalid_operation_code, invalid_field_in_cdb};
 ghost use Rattle.cm_base.specs.Fields.{byte, field, bit};
 ghost use Rattle.scsi_cdb.specs.declared.cdb.Cdb.{Cdb};
-ghost use Rattle.scsi_cdb.specs.Encoded.{moved};
+ghost use Rattle.scsi_cdb.specs.Encoded.{moved, has_codes};
 ghost use Rattle.scsi_cdb.specs.Decoded.{decoded, row_of, has_bad_field, has_fault};
 ghost use Rattle.scsi_cdb.specs.inner.Decoded.{command_of, named_by};
 
-use crate::bits::{has_lowest, has_naca, has_protect, service_action};
+use crate::bits::{has_lowest, has_naca, has_protect, kind, scope, service_action};
 use crate::cdb::Cdb;
 use crate::opcode;
-use cm_base::{get_u16, get_u32, get_u64};
+use cm_base::{ReservationAction, get_u16, get_u32, get_u64};
 use scsi_sense::Sense;
 
 /// Blocks that one READ or WRITE may move (SBC-3, MAXIMUM TRANSFER LENGTH).
@@ -79,6 +79,37 @@ fn service_action_in(bytes: &[u8; 16]) -> Option<Cdb>
     }
 }
 
+/// The command of a PERSISTENT RESERVE OUT (SPC-4).
+fn persistent_out(bytes: &[u8; 16]) -> Option<Cdb>
+    requires { slice_index bytes.now 0 ≡ 0x5f }
+    ensures command { result ≡ option_map (command_of bytes.now) (row_of bytes.now) }
+    ensures codes { IfSome result (λ cdb. has_codes cdb ≡ true) }
+{
+    let action = service_action(bytes[1]);
+    ReservationAction::from_code(action)?;
+    Some(Cdb::PersistentOut {
+        action,
+        scope: scope(bytes[2]),
+        kind: kind(bytes[2]),
+        length: get_u32(bytes, 5),
+    })
+}
+
+/// The command of a PERSISTENT RESERVE IN (SPC-4).
+fn persistent_in(bytes: &[u8; 16]) -> Option<Cdb>
+    requires { slice_index bytes.now 0 ≡ 0x5e }
+    ensures command { result ≡ option_map (command_of bytes.now) (row_of bytes.now) }
+    ensures codes { IfSome result (λ cdb. has_codes cdb ≡ true) }
+{
+    let length = get_u16(bytes, 7);
+    match service_action(bytes[1]) {
+        action @ (opcode::READ_KEYS | opcode::READ_RESERVATION) => {
+            Some(Cdb::PersistentIn { action, length })
+        }
+        _ => None,
+    }
+}
+
 fn inquiry(bytes: &[u8; 16]) -> Cdb
     ensures { result ≡ Cdb.Inquiry (bit bytes.now 1 0) (byte bytes.now 2) (field bytes.now 3 4) }
 {
@@ -135,7 +166,8 @@ fn write_16(bytes: &[u8; 16]) -> Cdb
 
 /// The command, and the CONTROL byte of its CDB.
 fn command(bytes: &[u8; 16]) -> Option<(Cdb, u8)>
-    ensures { result ≡ option_map (named_by bytes.now) (row_of bytes.now) }
+    ensures codes { IfSome result (λ named. has_codes named.0 ≡ true) }
+    ensures command { result ≡ option_map (named_by bytes.now) (row_of bytes.now) }
 {
     match bytes[0] {
         opcode::TEST_UNIT_READY => Some((Cdb::TestUnitReady, bytes[5])),
@@ -150,6 +182,8 @@ fn command(bytes: &[u8; 16]) -> Option<(Cdb, u8)>
             },
             bytes[9],
         )),
+        opcode::PERSISTENT_RESERVE_IN => Some((persistent_in(bytes)?, bytes[9])),
+        opcode::PERSISTENT_RESERVE_OUT => Some((persistent_out(bytes)?, bytes[9])),
         opcode::THIRD_PARTY_COPY_OUT => Some((copy_out(bytes)?, bytes[15])),
         opcode::THIRD_PARTY_COPY_IN => Some((copy_in(bytes)?, bytes[15])),
         opcode::READ_16 => Some((read_16(bytes), bytes[15])),
@@ -191,6 +225,7 @@ pub fn decode(bytes: &[u8; 16]) -> Result<Cdb, Sense>
     ensures fault { (result ≡ Err invalid_field_in_cdb)
         ↔ IsSomeAnd (row_of bytes.now) (λ r. IsTrue (has_fault bytes.now r)) }
     ensures few_blocks { IfOk result (λ cdb. moved cdb ≤ 2048) }
+    ensures codes { IfOk result (λ cdb. has_codes cdb ≡ true) }
 {
     let Some((cdb, control)) = command(bytes) else {
         return Err(Sense::invalid_operation_code());

@@ -1,9 +1,9 @@
-ghost use Rattle.std.specs.Prelude.{◌≡◌, ◌≤◌, ◌++◌, ◌∷◌, [], Ok};
+ghost use Rattle.std.specs.Prelude.{◌≡◌, ◌≤◌, ◌++◌, ◌∷◌, ◌<◌, [], Ok, true};
 ghost use Rattle.byteorder.specs.Endian.{big_bytes};
 ghost use Rattle.cm_base.specs.Fields.{zeros};
 ghost use Rattle.scsi_cdb.specs.declared.cdb.Cdb.{Cdb};
 ghost use Rattle.scsi_cdb.specs.Decoded.{decoded};
-ghost use Rattle.scsi_cdb.specs.Encoded.{encoded, moved};
+ghost use Rattle.scsi_cdb.specs.Encoded.{encoded, has_codes, moved};
 
 use crate::cdb::Cdb;
 use crate::opcode;
@@ -89,6 +89,25 @@ fn report_luns(length: u32) -> [u8; 16]
     bytes
 }
 
+fn persistent_in(action: u8, length: u16) -> [u8; 16]
+    ensures { result ≡ encoded (Cdb.PersistentIn action length) }
+{
+    let mut bytes = bare(opcode::PERSISTENT_RESERVE_IN, action);
+    set_u16(&mut bytes, 7, length);
+    bytes
+}
+
+fn persistent_out(action: u8, scope: u8, kind: u8, length: u32) -> [u8; 16]
+    requires scope { scope < 16 }
+    requires kind { kind < 16 }
+    ensures { result ≡ encoded (Cdb.PersistentOut action scope kind length) }
+{
+    let mut bytes = bare(opcode::PERSISTENT_RESERVE_OUT, action);
+    bytes[2] = 16 * scope + kind;
+    set_u32(&mut bytes, 5, length);
+    bytes
+}
+
 fn copy_status_1(id: u8, length: u32) -> [u8; 16]
     ensures { result ≡ encoded (Cdb.CopyStatus1 id length) }
 {
@@ -139,7 +158,8 @@ fn token_information(id: u32, length: u32) -> [u8; 16]
 /// How a command is spelled: READ and WRITE in 16 bytes, the others in their only form, a shorter
 /// CDB being followed by zeros. Every bit that is not named is zero.
 pub fn encode(cdb: &Cdb) -> [u8; 16]
-    requires { moved cdb.now ≤ 2048 }
+    requires few_blocks { moved cdb.now ≤ 2048 }
+    requires codes { has_codes cdb.now ≡ true }
     ensures spelled { result ≡ encoded cdb.now }
     ensures read_back { decoded result ≡ Ok cdb.now }
 {
@@ -153,6 +173,13 @@ pub fn encode(cdb: &Cdb) -> [u8; 16]
         Cdb::Unmap { length } => unmap(length),
         Cdb::ReadCapacity10 => bare(opcode::READ_CAPACITY_10, 0),
         Cdb::ReportLuns { length } => report_luns(length),
+        Cdb::PersistentIn { action, length } => persistent_in(action, length),
+        Cdb::PersistentOut {
+            action,
+            scope,
+            kind,
+            length,
+        } => persistent_out(action, scope, kind, length),
         Cdb::ReadCapacity16 { length } => with_length(IN_16, opcode::READ_CAPACITY_16, length),
         Cdb::GetLbaStatus { lba, length } => with_lba(IN_16, opcode::GET_LBA_STATUS, lba, length),
         Cdb::ExtendedCopy { length } => extended_copy(length),

@@ -15,6 +15,10 @@ pub const WRITE_10: u8 = 0x2a;
 
 pub const UNMAP: u8 = 0x42;
 
+pub const PERSISTENT_RESERVE_IN: u8 = 0x5e;
+
+pub const PERSISTENT_RESERVE_OUT: u8 = 0x5f;
+
 pub const THIRD_PARTY_COPY_OUT: u8 = 0x83;
 
 pub const THIRD_PARTY_COPY_IN: u8 = 0x84;
@@ -26,6 +30,11 @@ pub const WRITE_16: u8 = 0x8a;
 pub const SERVICE_ACTION_IN_16: u8 = 0x9e;
 
 pub const REPORT_LUNS: u8 = 0xa0;
+
+// Service actions of PERSISTENT RESERVE IN.
+pub const READ_KEYS: u8 = 0x00;
+
+pub const READ_RESERVATION: u8 = 0x01;
 
 // Service actions of THIRD-PARTY COPY OUT.
 pub const EXTENDED_COPY_LID1: u8 = 0x00;

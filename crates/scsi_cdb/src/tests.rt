@@ -48,6 +48,19 @@ fn token_information(id: u32, length: u32) -> Cdb {
     Cdb::TokenInformation { id, length }
 }
 
+fn reservation(action: u8, scope: u8, kind: u8) -> Cdb {
+    Cdb::PersistentOut {
+        action,
+        scope,
+        kind,
+        length: 24,
+    }
+}
+
+fn reservation_report(action: u8, length: u16) -> Cdb {
+    Cdb::PersistentIn { action, length }
+}
+
 fn lba_status(lba: u64, length: u32) -> Cdb {
     Cdb::GetLbaStatus { lba, length }
 }
@@ -91,6 +104,20 @@ fn transfers_of_the_standards(rt: HostRuntime) -> Result<(), Sense> {
     Ok(())
 }
 
+/// CDBs by SPC-4 about persistent reservations.
+#[test]
+fn reservations_of_the_standards(rt: HostRuntime) -> Result<(), Sense> {
+    let reserved: &[u8] = b"\x5f\x01\x05\0\0\0\0\0\x18";
+    assert!(rt; agrees(reserved, &reservation(0x01, 0, 5), true)?);
+    let preempted: &[u8] = b"\x5f\x04\xf6\0\0\0\0\0\x18";
+    assert!(rt; agrees(preempted, &reservation(0x04, 15, 6), true)?);
+    let keys: &[u8] = b"\x5e\x00\0\0\0\0\0\x01\x00";
+    assert!(rt; agrees(keys, &reservation_report(0, 256), true)?);
+    let holder: &[u8] = b"\x5e\xe1\xff\xff\xff\xff\xff\0\x18\xfb";
+    assert!(rt; agrees(holder, &reservation_report(1, 24), false)?);
+    Ok(())
+}
+
 /// CDBs by SPC-4 that begin and abort copies.
 #[test]
 fn copies_of_the_standards(rt: HostRuntime) -> Result<(), Sense> {
@@ -129,18 +156,19 @@ fn some_bits_are_ignored(rt: HostRuntime) -> Result<(), Sense> {
 
 #[test]
 fn some_cdbs_are_refused(rt: HostRuntime) {
-    // PERSISTENT RESERVE IN, a copy service action, READ LONG (16).
-    let unknown: [&[u8]; 3] = [b"\x5e", b"\x83\x1d", b"\x9e\x11"];
+    // REPORT CAPABILITIES, PREEMPT AND ABORT, a copy service action, READ LONG (16).
+    let unknown: [&[u8]; 4] = [b"\x5e\x02", b"\x5f\x05", b"\x83\x1d", b"\x9e\x11"];
     for bytes in unknown {
         assert_eq!(rt;
             decode(&padded(bytes)),
             Err(Sense::invalid_operation_code())
         );
     }
-    let bad: [&[u8]; 8] = [
+    let bad: [&[u8]; 9] = [
         // NACA, in the last byte of 6, 10, 12 and 16.
         b"\x00\0\0\0\0\x04",
         b"\x25\0\0\0\0\0\0\0\0\x04",
+        b"\x5e\0\0\0\0\0\0\0\0\x04",
         b"\xa0\0\0\0\0\0\0\0\0\0\0\x04",
         b"\x84\x03\0\0\0\0\0\0\0\0\0\0\0\0\0\x04",
         // RDPROTECT, 2049 blocks, ANCHOR, DESC.

@@ -18,6 +18,7 @@ ghost use Rattle.cmd_program.specs.TokenWrite.{wanted, deleting, advancing, star
 ghost use Rattle.cmd_machine.specs.Last.{by_last, IsLastOf};
 ghost use Rattle.cmd_machine.specs.Rest.{rest_of, IsSoundAt, last_ask};
 ghost use Rattle.std.specs.Option.{option_map};
+ghost use Rattle.token_cmds.specs.inner.Progress.{IsProgress};
 ghost use Rattle.token_cmds.specs.Meaning.{by_phase, by_writing, given, IsGiven, IsSized, IsSoundPhase, IsSoundWriting};
 
 use crate::phase::{TokenCommand, TokenPhase};
@@ -199,7 +200,7 @@ impl Write {
     /// The phase of an operation in the foreground that was answered, when so many Advances are
     /// left.
     fn advanced(self, left: u64, answer: Answer) -> TokenCommand
-        requires { HasKind (Act.Advance self.id) answer }
+        requires { IsProgress answer }
         ensures program { (config : Configuration) → rest_of by_phase config result ≡ advancing (given self) left answer }
         ensures sound { (config : Configuration) → IsGiven config self → IsSoundAt IsSoundPhase config result }
     {
@@ -211,6 +212,7 @@ impl Write {
                 OpState::Running => self.running(left),
             },
             Answer::Refused(sense) => CommandOf::Ended(Ended::Refused(sense)),
+            Answer::Conflict => CommandOf::Ended(Ended::Conflict),
             _ => unreachable!(),
         }
     }
@@ -228,6 +230,7 @@ impl Write {
         }
         match answer {
             Answer::Refused(sense) => CommandOf::Ended(Ended::Refused(sense)),
+            Answer::Conflict => CommandOf::Ended(Ended::Conflict),
             _ => self.deleting(),
         }
     }

@@ -73,6 +73,7 @@ record-length r = length-append (big_bytes 4 r.initiator) (reply_bytes r.reply)
 reply-length : (reply : Reply) → IsOfLength reply → length (reply_bytes reply) ≤ 8_388_614
 reply-length (Reply.Good bytes) h = omega (arith, length-append (big_bytes 4 (length bytes)) bytes, h)
 reply-length (Reply.Check sense) h = omega arith
+reply-length Reply.Conflict h = omega arith
 reply-length Reply.Busy h = omega arith
 reply-length Reply.Full h = omega arith
 

@@ -54,6 +54,7 @@ quiet-answered (GivesUp last reply) unit act a q e k = q
 honest-busy : (reply : Reply) → IsHonestReply reply → is_busy reply ≡ false
 honest-busy (Reply.Good bytes) h = refl
 honest-busy (Reply.Check sense) h = refl
+honest-busy Reply.Conflict h = refl
 honest-busy Reply.Busy h = absurd h
 honest-busy Reply.Full h = absurd h
 

@@ -123,6 +123,7 @@ head-first head reply six is =
 pub data-few : (reply : Reply) → IsOfLength reply → length (data_in reply) ≤ data_limit
 data-few (Reply.Good bytes) few = few
 data-few (Reply.Check sense) few = omega arith
+data-few Reply.Conflict few = omega arith
 data-few Reply.Busy few = omega arith
 data-few Reply.Full few = omega arith
 

@@ -70,7 +70,7 @@ fn write_tail<O: Sink>(
     match reply {
         Reply::Good(data) => write_data(waits, output, data.as_slice()),
         Reply::Check(sense) => gather(waits, &sense.to_bytes()),
-        Reply::Busy | Reply::Full => Ok(()),
+        Reply::Conflict | Reply::Busy | Reply::Full => Ok(()),
     }
 }
 

@@ -76,6 +76,7 @@ impl Summary {
                 self.check += 1;
                 self.bytes += SENSE;
             }
+            Reply::Conflict => {}
             Reply::Busy => self.busy += 1,
             Reply::Full => self.full += 1,
         }

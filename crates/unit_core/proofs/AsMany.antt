@@ -1,15 +1,15 @@
 -- After each past whose versions are shared alike as many are needed
-use Rattle.std.proofs.Common.{◌≡◌, ℕ, suc, ◌<◌, ◌≤◌, List, [], ◌∷◌, length, refl, ap, sym, ◌∙◌, subst, arith, true, false, Bool, inl, inr}
-use Rattle.std.specs.Prelude.{Option, Some, None, ◌==◌, ◌&&◌, ◌||◌, ◌⊎◌, if◌then◌else◌}
+use Rattle.std.proofs.Common.{◌≡◌, ℕ, suc, ◌<◌, ◌≤◌, List, [], ◌∷◌, length, refl, ap, sym, ◌∙◌, subst, arith, true, false, Bool}
+use Rattle.std.specs.Prelude.{Option, Some, None, ◌==◌, ◌&&◌, ◌||◌, if◌then◌else◌}
 use Rattle.std.proofs.lemmas.Bool.{eq-eqb}
 use Rattle.cm_base.specs.declared.config.UnitConfig.{UnitConfig}
 use Rattle.lba_ranges.specs.Denoted.{row}
 use Rattle.lba_ranges.specs.Versions.{Version, same_version, is_listed, without_repeats}
 use Rattle.cm_history.specs.Deeds.{Deed}
 use Rattle.cm_history.specs.Tokens.{tokens}
-use Rattle.unit_core.specs.Versions.{Sight, writer_seen, sights, seen_versions, needed, same_put, shares}
+use Rattle.unit_core.specs.Versions.{Sight, writer_seen, sights, seen_versions, needed, same_put}
 use Rattle.unit_core.proofs.Alike.{ShareAlike}
-use Rattle.unit_core.proofs.Needed.{IsSeen, same-is, or-first, or-second, listed-seen, seen-listed}
+use Rattle.unit_core.proofs.Needed.{same-is, or-second, listed-seen, seen-listed}
 
 same-self : (a : Version) → same_version a a ≡ true
 same-self a = ap (λ t. t && (a.put == a.put)) (eq-eqb a.block a.block refl) ∙ eq-eqb a.put a.put refl

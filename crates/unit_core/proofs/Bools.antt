@@ -1,7 +1,6 @@
 -- Conjunctions, negations and equality tests
-use Rattle.std.proofs.Common.{◌≡◌, ℕ, refl, arith, true, false, Bool}
-use Rattle.std.specs.Prelude.{◌&&◌, ◌==◌, not}
-use Rattle.std.proofs.lemmas.Bool.Decides.{nat_tests}
+use Rattle.std.proofs.Common.{◌≡◌, refl, true, false, Bool}
+use Rattle.std.specs.Prelude.{◌&&◌, not}
 
 pub and-assoc : (a b c : Bool) → ((a && b) && c) ≡ (a && (b && c))
 and-assoc true b c = refl

@@ -1,6 +1,6 @@
 -- The tokens of a unit as its blocks and their pins are changed
-use Rattle.std.proofs.Common.{◌≡◌, ℕ, List, [], refl, ap, sym, ◌∙◌, subst, true, false, Bool}
-use Rattle.std.specs.Prelude.{Option, Some, None, Result, Ok, Err, OnErr, IsSome, map}
+use Rattle.std.proofs.Common.{◌≡◌, ℕ, List, [], refl, ap, sym, ◌∙◌, subst, true}
+use Rattle.std.specs.Prelude.{Option, Some, Result, Ok, Err, OnErr, map}
 use Rattle.cm_history.proofs.PublicLaws.{map-same}
 use Rattle.lba_ranges.specs.declared.ranges.Range.{Range}
 use Rattle.lba_ranges.specs.Denoted.{denotes, blocks_of}
@@ -12,7 +12,7 @@ use Rattle.rod_store.specs.Store.{Store}
 use Rattle.token_pins.specs.declared.pinned_rod.PinnedRod.{PinnedRod}
 use Rattle.token_pins.specs.declared.pinned_change.PinnedChange.{PinnedChange}
 use Rattle.token_pins.specs.declared.token_change.TokenChange.{TokenChange}
-use Rattle.token_pins.specs.Pinning.{rod_shown, rod_now, rods_of, holder, ArePinned, ShowSame}
+use Rattle.token_pins.specs.Pinning.{rod_now, holder, ArePinned, ShowSame}
 use Rattle.token_pins.specs.TokenChanges.{is_make, MayToken, unpinned, rod_made}
 use Rattle.token_pins.proofs.PublicLaws.{may-with}
 use Rattle.unit_core.specs.declared.block_change.BlockChange.{BlockChange}

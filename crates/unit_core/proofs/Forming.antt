@@ -1,14 +1,12 @@
 -- The form that the answer to an act has, whatever the record is
 use Rattle.std.proofs.Common.{◌≡◌, ℕ, zero, suc, ◌+◌, ◌-◌, ◌<◌, ◌≤◌, ◌^◌, List, [], ◌∷◌, length, refl, ap, sym, ◌∙◌, subst, arith, true, false, Bool, inl, inr}
-use Rattle.std.specs.Prelude.{Option, Some, None, IfSome, ◌==◌, ◌&&◌, not, map, min, find, is_some, nat_le, nat_lt, if◌then◌else◌}
+use Rattle.std.specs.Prelude.{Option, Some, None, IfSome, ◌==◌, not, map, min, find, is_some, nat_le, nat_lt, if◌then◌else◌}
 use Rattle.std.specs.Str.{bytes_eq}
-use Rattle.std.proofs.lemmas.Bool.{leb-true}
 use Rattle.std.proofs.lemmas.Bool.Decides.{nat_tests}
 use Rattle.std.proofs.lemmas.List.{length-map}
 use Rattle.cm_base.specs.Configuration.{Configuration}
 use Rattle.cm_base.specs.Units.{unit_of}
-use Rattle.lba_ranges.specs.declared.ranges.Range.{Range}
-use Rattle.lba_ranges.specs.Denoted.{row, blocks_of, total, is_within, is_overlapping}
+use Rattle.lba_ranges.specs.Denoted.{row, blocks_of, total, is_within}
 use Rattle.lba_ranges.specs.Writings.{Held}
 use Rattle.lba_ranges.proofs.PublicLaws.{length-row, length-blocks_of}
 use Rattle.rod_token.specs.TokenText.{token_text, serial_of}
@@ -25,10 +23,14 @@ use Rattle.cm_history.specs.Limits.{within_limits}
 use Rattle.cm_history.specs.Tokens.{Token, Fate, Live, Expired, Evicted, Deleted, tokens, is_populate}
 use Rattle.cm_history.specs.Redeeming.{are_alike, redeemed, answer_by_fate, fate_at, named_token}
 use Rattle.cm_history.specs.Operations.{Operation, OfToken, OfCopy, form_of, has_key, is_making, makes_operation, made_operation, operation_after, operations, kept, written, count, count_of, list_of, state_of}
-use Rattle.cm_history.specs.Answers.{answer_after, answer_report, is_busy, is_crowded, serial_made}
+use Rattle.pr_keys.specs.declared.registrants.Registrant.{Registrant}
+use Rattle.pr_keys.specs.Reservations.{keys_of}
+use Rattle.pr_keys.specs.Actions.{most_registrants}
+use Rattle.cm_history.specs.Reserving.{reservations, bars_act}
+use Rattle.cm_history.specs.Answers.{answer_after, answer_unbarred, answer_report, is_busy, is_crowded, serial_made}
 use Rattle.cm_history.specs.History.{past_of, answer}
-use Rattle.cm_history.specs.Forms.{HasForm}
-use Rattle.cm_history.proofs.PublicLaws.{after-kind, In, Each, Each-in, Each-by, Each-map, Each-append, find-in, get-in, IsPast, IsBegun, begun, made-after, kept_in, Has, IsMade, all-made, and_first, and_second, find-passes, few-written, start-few, start-length, populate-few}
+use Rattle.cm_history.specs.Forms.{HasForm, MayConflict}
+use Rattle.cm_history.proofs.PublicLaws.{unbarred-kind, barred-kind, reservations-sound, In, Each, Each-in, Each-by, Each-map, Each-append, find-in, get-in, IsPast, IsBegun, begun, made-after, kept_in, Has, IsMade, all-made, and_first, and_second, find-passes, few-written, start-few, start-length, populate-few}
 use Rattle.cm_history.specs.Asked.{IsAsked, AllAsked}
 use Rattle.unit_core.specs.inner.Agreeing.{IsRecord}
 use Rattle.unit_core.proofs.Operating.{IsMadeBy, all-made_by}
@@ -111,8 +113,8 @@ redeem-formed config unit past now text target asked = go (named_token past text
 abbrev pub HasSerial : Answer → Type 0
 HasSerial answer = IfSome (serial_made answer) (λ serial. serial < 2 ^ 48)
 
-serial-low : (config : Configuration) (unit : ℕ) (past : List Deed) (actor : Actor) (now : ℕ) (act : Act) → is_making act ≡ true → HasSerial (answer_after config unit past actor now act)
-serial-low config unit past actor now (Act.Populate id timeout ranges) e =
+unbarred-low : (config : Configuration) (unit : ℕ) (past : List Deed) (actor : Actor) (now : ℕ) (act : Act) → is_making act ≡ true → HasSerial (answer_unbarred config unit past actor now act)
+unbarred-low config unit past actor now (Act.Populate id timeout ranges) e =
     go (is_busy past actor OfToken id) (not (is_within (unit_of config unit).blocks ranges)) (nat_le (2 ^ 48) (length (tokens past))) refl
   where
     go : (a b c : Bool) → nat_le (2 ^ 48) (length (tokens past)) ≡ c
@@ -121,7 +123,7 @@ serial-low config unit past actor now (Act.Populate id timeout ranges) e =
     go false true c e = tt
     go false false true e = tt
     go false false false e = grind (arith, nat_tests)
-serial-low config unit past actor now (Act.Start id background ranges rod) e =
+unbarred-low config unit past actor now (Act.Start id background ranges rod) e =
     go (is_busy past actor OfToken id) (not (is_within (unit_of config unit).blocks ranges)) (is_crowded past) (length rod.items == 0)
   where
     go : (a b c d : Bool)
@@ -130,13 +132,20 @@ serial-low config unit past actor now (Act.Start id background ranges rod) e =
     go false true c d = tt
     go false false true d = tt
     go false false false d = tt
-serial-low config unit past actor now (Act.Open id) e = go (is_busy past actor OfCopy id) (is_crowded past)
+unbarred-low config unit past actor now (Act.Open id) e = go (is_busy past actor OfCopy id) (is_crowded past)
   where
     go : (a b : Bool) → HasSerial (if a then Answer.Refused operation_in_progress else if b then Answer.Refused insufficient_resources else Answer.Done)
     go true b = tt
     go false true = tt
     go false false = tt
-serial-low config unit past actor now _ e = cc
+unbarred-low config unit past actor now _ e = cc
+
+serial-low : (config : Configuration) (unit : ℕ) (past : List Deed) (actor : Actor) (now : ℕ) (act : Act) → is_making act ≡ true → HasSerial (answer_after config unit past actor now act)
+serial-low config unit past actor now act e = go (bars_act (reservations past) actor act)
+  where
+    go : (t : Bool) → HasSerial (if t then Answer.Conflict else answer_unbarred config unit past actor now act)
+    go true = tt
+    go false = unbarred-low config unit past actor now act e
 
 all-low : (config : Configuration) (unit : ℕ) (past : List Deed) → IsPast config unit past → Each (λ (o : Operation). HasSerial o.made.answer) (operations past)
 all-low config unit [] is = tt
@@ -188,27 +197,47 @@ report-formed config unit past actor id known = go (find (has_key actor OfToken 
 
 -- ---- each answer
 
+keys-few : (past : List Deed) → length (keys_of (reservations past)) ≤ most_registrants
+keys-few past =
+    let sound = reservations-sound past in
+    omega (arith, sound.few, length-map (reservations past).registrants (λ (r : Registrant). r.key))
+
+unbarred-formed : (config : Configuration) (unit : ℕ) (past : List Deed) (actor : Actor) (at : ℕ) (act : Act) → IsKnown config unit past
+    → HasForm config unit act (answer_unbarred config unit past actor at act)
+unbarred-formed config unit past actor at (Act.Read lba count) known = read-formed config unit (held past) lba count (nat_le (lba + count) (unit_of config unit).blocks)
+unbarred-formed config unit past actor at (Act.Capture lba count) known = capture-formed config unit (held past) lba count (nat_le (lba + count) (unit_of config unit).blocks)
+unbarred-formed config unit past actor at (Act.MapStatus lba) known =
+    status-formed config unit (held past) lba ((unit_of config unit).blocks - lba) (nat_lt lba (unit_of config unit).blocks)
+unbarred-formed config unit past actor at (Act.Redeem text target) known = redeem-formed config unit past _ text target known.asked
+unbarred-formed config unit past actor at (Act.Report id) known = report-formed config unit past actor id known
+unbarred-formed config unit past actor at (Act.Write lba list) known = unbarred-kind config unit past actor at (Act.Write lba list)
+unbarred-formed config unit past actor at (Act.Put lba list) known = unbarred-kind config unit past actor at (Act.Put lba list)
+unbarred-formed config unit past actor at (Act.Unmap ranges) known = unbarred-kind config unit past actor at (Act.Unmap ranges)
+unbarred-formed config unit past actor at (Act.Populate id timeout ranges) known = unbarred-kind config unit past actor at (Act.Populate id timeout ranges)
+unbarred-formed config unit past actor at (Act.Delete serial) known = unbarred-kind config unit past actor at (Act.Delete serial)
+unbarred-formed config unit past actor at (Act.Start id background ranges rod) known = unbarred-kind config unit past actor at (Act.Start id background ranges rod)
+unbarred-formed config unit past actor at (Act.Advance id) known = unbarred-kind config unit past actor at (Act.Advance id)
+unbarred-formed config unit past actor at Act.Pump known = unbarred-kind config unit past actor at Act.Pump
+unbarred-formed config unit past actor at (Act.End id) known = unbarred-kind config unit past actor at (Act.End id)
+unbarred-formed config unit past actor at (Act.Abort id) known = unbarred-kind config unit past actor at (Act.Abort id)
+unbarred-formed config unit past actor at (Act.Open id) known = unbarred-kind config unit past actor at (Act.Open id)
+unbarred-formed config unit past actor at (Act.Close id result) known = unbarred-kind config unit past actor at (Act.Close id result)
+unbarred-formed config unit past actor at (Act.Recall id) known = unbarred-kind config unit past actor at (Act.Recall id)
+unbarred-formed config unit past actor at (Act.PrOut action scope kind key action_key) known = unbarred-kind config unit past actor at (Act.PrOut action scope kind key action_key)
+unbarred-formed config unit past actor at Act.PrKeys known = keys-few past
+unbarred-formed config unit past actor at Act.PrHolder known = unbarred-kind config unit past actor at Act.PrHolder
+
+conflict-formed : (config : Configuration) (unit : ℕ) (act : Act) → MayConflict act → HasForm config unit act Answer.Conflict
+conflict-formed config unit (Act.Read lba count) may = may
+conflict-formed config unit act may = may
+
 after-formed : (config : Configuration) (unit : ℕ) (past : List Deed) (actor : Actor) (at : ℕ) (act : Act) → IsKnown config unit past
     → HasForm config unit act (answer_after config unit past actor at act)
-after-formed config unit past actor at (Act.Read lba count) known = read-formed config unit (held past) lba count (nat_le (lba + count) (unit_of config unit).blocks)
-after-formed config unit past actor at (Act.Capture lba count) known = capture-formed config unit (held past) lba count (nat_le (lba + count) (unit_of config unit).blocks)
-after-formed config unit past actor at (Act.MapStatus lba) known =
-    status-formed config unit (held past) lba ((unit_of config unit).blocks - lba) (nat_lt lba (unit_of config unit).blocks)
-after-formed config unit past actor at (Act.Redeem text target) known = redeem-formed config unit past _ text target known.asked
-after-formed config unit past actor at (Act.Report id) known = report-formed config unit past actor id known
-after-formed config unit past actor at (Act.Write lba list) known = after-kind config unit past actor at (Act.Write lba list)
-after-formed config unit past actor at (Act.Put lba list) known = after-kind config unit past actor at (Act.Put lba list)
-after-formed config unit past actor at (Act.Unmap ranges) known = after-kind config unit past actor at (Act.Unmap ranges)
-after-formed config unit past actor at (Act.Populate id timeout ranges) known = after-kind config unit past actor at (Act.Populate id timeout ranges)
-after-formed config unit past actor at (Act.Delete serial) known = after-kind config unit past actor at (Act.Delete serial)
-after-formed config unit past actor at (Act.Start id background ranges rod) known = after-kind config unit past actor at (Act.Start id background ranges rod)
-after-formed config unit past actor at (Act.Advance id) known = after-kind config unit past actor at (Act.Advance id)
-after-formed config unit past actor at Act.Pump known = after-kind config unit past actor at Act.Pump
-after-formed config unit past actor at (Act.End id) known = after-kind config unit past actor at (Act.End id)
-after-formed config unit past actor at (Act.Abort id) known = after-kind config unit past actor at (Act.Abort id)
-after-formed config unit past actor at (Act.Open id) known = after-kind config unit past actor at (Act.Open id)
-after-formed config unit past actor at (Act.Close id result) known = after-kind config unit past actor at (Act.Close id result)
-after-formed config unit past actor at (Act.Recall id) known = after-kind config unit past actor at (Act.Recall id)
+after-formed config unit past actor at act known = go (bars_act (reservations past) actor act) refl
+  where
+    go : (t : Bool) → bars_act (reservations past) actor act ≡ t → HasForm config unit act (if t then Answer.Conflict else answer_unbarred config unit past actor at act)
+    go true e = conflict-formed config unit act (barred-kind (reservations past) actor act e)
+    go false e = unbarred-formed config unit past actor at act known
 
 pub answer-formed : (config : Configuration) (entries : List Entry) (unit : ℕ) (actor : Actor) (at : ℕ) (act : Act) → IsRecord config unit entries
     → HasForm config unit act (answer config entries unit actor at act)

@@ -1,21 +1,18 @@
 -- What a job becomes by a deed
-use Rattle.std.proofs.Common.{◌≡◌, ℕ, suc, ◌+◌, ◌≤◌, List, [], ◌∷◌, ◌++◌, length, refl, ap, sym, ◌∙◌, arith, true, false, Bool, length-append, append-nil}
-use Rattle.std.specs.Prelude.{◌==◌, ◌&&◌, ◌||◌, not, nat_le, if◌then◌else◌}
+use Rattle.std.proofs.Common.{◌≡◌, ℕ, ◌+◌, List, ◌∷◌, ◌++◌, length, refl, ap, sym, ◌∙◌, arith, true, false, Bool, length-append, append-nil}
+use Rattle.std.specs.Prelude.{◌==◌, ◌||◌, if◌then◌else◌}
 use Rattle.std.proofs.lemmas.Bool.Decides.{nat_tests}
 use Rattle.cm_base.specs.Configuration.{Configuration}
-use Rattle.cm_base.specs.Units.{unit_of}
 use Rattle.cm_base.specs.declared.config.UnitConfig.{UnitConfig}
 use Rattle.lba_ranges.specs.declared.ranges.Range.{Range}
-use Rattle.lba_ranges.specs.Denoted.{blocks_of, total, is_overlapping}
+use Rattle.lba_ranges.specs.Denoted.{total}
 use Rattle.lba_ranges.specs.HeldBlocks.{HeldBlocks}
-use Rattle.lba_ranges.specs.Writings.{Held, paired}
-use Rattle.lba_ranges.proofs.PublicLaws.{length-blocks_of}
 use Rattle.cm_history.specs.declared.act.Act.{Act}
 use Rattle.cm_history.specs.declared.answer.Answer.{Answer}
 use Rattle.cm_history.specs.declared.answer.OpState.{OpState}
 use Rattle.scsi_sense.specs.Codes.{space_allocation_failed}
 use Rattle.cm_history.specs.Deeds.{Deed}
-use Rattle.cm_history.specs.Limits.{within_limits, fits_unit}
+use Rattle.cm_history.specs.Limits.{within_limits}
 use Rattle.cm_history.specs.Operations.{Operation, OfToken, OfCopy, form_of, id_of, is_running, is_foreground, is_background, made_operation, written, list_of, next_piece, state_of, was_stopped, was_ended, is_failure, is_ending, result_of, result_or, count}
 use Rattle.cm_history.specs.Answers.{progress_by, serial_made}
 use Rattle.copy_jobs.specs.declared.job.Work.TheVariants.{Populated, Writing, Copying}
@@ -23,7 +20,7 @@ use Rattle.copy_jobs.specs.Jobs.{started, opened, made}
 use Rattle.copy_jobs.specs.Changes.{moved_by, stopped_by, terminated, closed_by}
 use Rattle.unit_core.specs.Keys.{key_of}
 use Rattle.unit_core.specs.inner.Tables.{work_of, job_of, serial_or_none}
-use Rattle.cm_history.proofs.PublicLaws.{start-total, start-few, start-alike, start-length, Moves, Stops, Ends, Closes, left-running, token-runs}
+use Rattle.cm_history.proofs.PublicLaws.{start-length, Moves, Stops, Ends, Closes, left-running, token-runs}
 
 -- ---- a deed that serves
 

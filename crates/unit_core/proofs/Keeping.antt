@@ -7,10 +7,9 @@ use Rattle.std.proofs.lemmas.Bool.Decides.{nat_tests}
 use Rattle.cm_base.specs.Configuration.{Configuration}
 use Rattle.cm_history.specs.declared.act.Act.{Act}
 use Rattle.cm_history.specs.declared.act.Actor.{Actor}
-use Rattle.cm_history.specs.declared.act.Actor.TheVariants.{Nexus, Pump}
 use Rattle.cm_history.specs.Bounds.{kept_operations}
-use Rattle.cm_history.specs.Deeds.{Deed, same_actor}
-use Rattle.cm_history.specs.Operations.{Operation, Form, OfToken, OfCopy, same_form, serves, form_of, id_of, has_key, operation_after, made_operation, makes_operation, would_serve, running, is_running, fits, kept, keep, has_ended, same_key, with_room, without_first_ended}
+use Rattle.cm_history.specs.Deeds.{Deed}
+use Rattle.cm_history.specs.Operations.{Operation, serves, form_of, id_of, has_key, operation_after, made_operation, makes_operation, would_serve, running, is_running, fits, kept, keep, has_ended, same_key, with_room, without_first_ended}
 use Rattle.cm_history.specs.Answers.{deed}
 use Rattle.cm_history.proofs.PublicLaws.{In, Each, Each-in, Each-by, In-filter, find-in, find-some, filter-passes, IsPast, running_kept, kept_in, served_none, KeysApart, keys-apart, one-key, same-record, find-map, filter-map, filter-same, map-append, map-map, map-same, served-or-not, and_second, same_actor-self as same-own, same_form-self as form-own}
 use Rattle.copy_jobs.specs.declared.key.Key.{Key}

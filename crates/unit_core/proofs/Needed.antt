@@ -1,11 +1,9 @@
 -- The needed versions are those that the tables of a unit keep
-use Rattle.std.proofs.Common.{◌≡◌, ℕ, zero, suc, ◌+◌, ◌<◌, ◌≤◌, List, [], ◌∷◌, ◌++◌, length, refl, ap, sym, ◌∙◌, subst, arith, true, false, Bool, inl, inr}
-use Rattle.std.specs.Prelude.{Option, Some, None, is_some, ◌==◌, ◌&&◌, ◌||◌, ◌⊎◌, nat_le, nat_lt, map, slice_get, if◌then◌else◌}
-use Rattle.std.specs.List.{list_any}
+use Rattle.std.proofs.Common.{◌≡◌, ℕ, zero, suc, ◌+◌, ◌<◌, ◌≤◌, List, [], ◌∷◌, ◌++◌, length, refl, ap, sym, ◌∙◌, arith, true, false, Bool, inl, inr}
+use Rattle.std.specs.Prelude.{Option, Some, None, ◌==◌, ◌&&◌, ◌||◌, ◌⊎◌, nat_le, nat_lt, map, slice_get, if◌then◌else◌}
 use Rattle.std.proofs.lemmas.Bool.{cases_lt, eq-eqb}
 use Rattle.std.proofs.lemmas.Bool.Decides.{nat_tests}
 use Rattle.std.proofs.lemmas.List.Folds.{list_any-append}
-use Rattle.cm_base.specs.declared.config.UnitConfig.{UnitConfig}
 use Rattle.lba_ranges.specs.declared.ranges.Range.{Range}
 use Rattle.lba_ranges.specs.Denoted.{row, covers, denotes, is_within}
 use Rattle.lba_ranges.specs.Versions.{Version, Writers, IsKept, AreKept, IsNew, same_version, is_listed}
@@ -16,8 +14,8 @@ use Rattle.rod_store.specs.declared.kept.Kept.{Kept}
 use Rattle.rod_store.specs.Kept.{value_at}
 use Rattle.token_pins.specs.declared.pinned_rod.PinnedRod.{PinnedRod}
 use Rattle.token_pins.specs.Pinning.{holder, ArePinned}
-use Rattle.unit_core.specs.Versions.{Sight, Now, ByToken, last_writer, writer_shown, writer_seen, sights, with_version, versions, seen_versions}
-use Rattle.unit_core.specs.inner.Seen.{put_shown, put_seen, AreWriters}
+use Rattle.unit_core.specs.Versions.{Sight, Now, ByToken, writer_shown, writer_seen, sights, with_version, versions, seen_versions}
+use Rattle.unit_core.specs.inner.Seen.{put_shown, AreWriters}
 use Rattle.unit_core.proofs.Writers.{ArePlaced, seen-low}
 
 -- ---- lists of versions

@@ -1,11 +1,11 @@
 -- Plans of acts that make an operation, by what is judged in turn
 use Rattle.std.proofs.Common.{◌≡◌, ℕ, ◌<◌, ◌≤◌, ◌^◌, List, [], length, refl, ◌∙◌, arith, true, false, Bool}
-use Rattle.std.specs.Prelude.{◌==◌, ◌&&◌, not, nat_le, if◌then◌else◌}
+use Rattle.std.specs.Prelude.{None, ◌==◌, ◌&&◌, not, nat_le, if◌then◌else◌}
 use Rattle.std.proofs.lemmas.Bool.Decides.{nat_tests}
 use Rattle.cm_base.specs.Configuration.{Configuration}
 use Rattle.cm_base.specs.Units.{unit_of}
 use Rattle.lba_ranges.specs.declared.ranges.Range.{Range}
-use Rattle.lba_ranges.specs.Denoted.{blocks_of, total, is_within, is_overlapping}
+use Rattle.lba_ranges.specs.Denoted.{total, is_within, is_overlapping}
 use Rattle.lba_ranges.specs.HeldBlocks.{HeldBlocks}
 use Rattle.lba_ranges.proofs.PublicLaws.{within-more}
 use Rattle.cm_history.specs.declared.act.Act.{Act}
@@ -14,10 +14,10 @@ use Rattle.cm_history.specs.declared.answer.Answer.{Answer}
 use Rattle.cm_history.specs.declared.answer.OpState.{OpState}
 use Rattle.scsi_sense.specs.Codes.{operation_in_progress, lba_out_of_range, insufficient_resources}
 use Rattle.cm_history.specs.Deeds.{Deed}
-use Rattle.cm_history.specs.Blocks.{held, cut}
 use Rattle.cm_history.specs.Limits.{within_limits, fits_unit}
 use Rattle.cm_history.specs.Tokens.{tokens}
 use Rattle.cm_history.specs.Operations.{OfToken, OfCopy, running}
+use Rattle.cm_history.specs.Reserving.{reservations, bars_act}
 use Rattle.cm_history.specs.Answers.{is_busy, is_crowded, wrote_of}
 use Rattle.cm_history.proofs.PublicLaws.{find-none}
 use Rattle.unit_core.specs.declared.block_change.BlockChange.{BlockChange}
@@ -33,33 +33,35 @@ use Rattle.unit_core.proofs.Planned.{IsKnown, own-of, refused-plan, populate-pla
 
 -- ---- Populate
 
-pub populate-busy : (config : Configuration) (unit : ℕ) (past : List Deed) (actor : Actor) (at id timeout : ℕ) (ranges : List Range) → is_busy past actor OfToken id ≡ true
+pub populate-busy : (config : Configuration) (unit : ℕ) (past : List Deed) (actor : Actor) (at id timeout : ℕ) (ranges : List Range) → bars_act (reservations past) actor (Act.Populate id timeout ranges) ≡ false → is_busy past actor OfToken id ≡ true
     → IsPlan config unit past actor at (Act.Populate id timeout ranges) (quiet (Answer.Refused operation_in_progress))
-populate-busy config unit past actor at id timeout ranges busy =
-    refused-plan config unit past actor at (Act.Populate id timeout ranges) operation_in_progress (rw busy refl) (λ s. refl) (find-none (running past))
+populate-busy config unit past actor at id timeout ranges free busy =
+    refused-plan config unit past actor at (Act.Populate id timeout ranges) operation_in_progress (rw (free, busy) refl) (λ s. refl) (find-none (running past)) refl
 
-pub populate-out : (config : Configuration) (unit : ℕ) (past : List Deed) (actor : Actor) (at id timeout : ℕ) (ranges : List Range) → is_busy past actor OfToken id ≡ false
+pub populate-out : (config : Configuration) (unit : ℕ) (past : List Deed) (actor : Actor) (at id timeout : ℕ) (ranges : List Range) → bars_act (reservations past) actor (Act.Populate id timeout ranges) ≡ false → is_busy past actor OfToken id ≡ false
     → is_within (unit_of config unit).blocks ranges ≡ false → IsPlan config unit past actor at (Act.Populate id timeout ranges) (quiet (Answer.Refused lba_out_of_range))
-populate-out config unit past actor at id timeout ranges idle out =
-    refused-plan config unit past actor at (Act.Populate id timeout ranges) lba_out_of_range (rw (idle, out) refl) (λ s. refl) (find-none (running past))
+populate-out config unit past actor at id timeout ranges free idle out =
+    refused-plan config unit past actor at (Act.Populate id timeout ranges) lba_out_of_range (rw (free, idle, out) refl) (λ s. refl) (find-none (running past)) refl
 
-pub populate-many : (config : Configuration) (unit : ℕ) (past : List Deed) (actor : Actor) (at id timeout : ℕ) (ranges : List Range) → is_busy past actor OfToken id ≡ false
+pub populate-many : (config : Configuration) (unit : ℕ) (past : List Deed) (actor : Actor) (at id timeout : ℕ) (ranges : List Range) → bars_act (reservations past) actor (Act.Populate id timeout ranges) ≡ false → is_busy past actor OfToken id ≡ false
     → is_within (unit_of config unit).blocks ranges ≡ true → 2 ^ 48 ≤ length (tokens past) → IsPlan config unit past actor at (Act.Populate id timeout ranges) (quiet (Answer.Refused insufficient_resources))
-populate-many config unit past actor at id timeout ranges idle inside many =
+populate-many config unit past actor at id timeout ranges free idle inside many =
     let test : nat_le (2 ^ 48) (length (tokens past)) ≡ true = grind (arith, nat_tests) in
-    refused-plan config unit past actor at (Act.Populate id timeout ranges) insufficient_resources (rw (idle, inside, test) refl) (λ s. refl) (find-none (running past))
+    refused-plan config unit past actor at (Act.Populate id timeout ranges) insufficient_resources (rw (free, idle, inside, test) refl) (λ s. refl) (find-none (running past)) refl
 
 pub populate-made : (config : Configuration) (unit : ℕ) (past : List Deed) (actor : Actor) (at id timeout : ℕ) (ranges : List Range) → IsKnown config unit past → IsNexus actor
+    → bars_act (reservations past) actor (Act.Populate id timeout ranges) ≡ false
     → is_busy past actor OfToken id ≡ false → is_within (unit_of config unit).blocks ranges ≡ true → length (tokens past) < 2 ^ 48 → within_limits config unit (Act.Populate id timeout ranges) ≡ true
     → IsPlan config unit past actor at (Act.Populate id timeout ranges) (record {
       answer = Answer.Made (length (tokens past));
       blocks = BlockChange.Nothing;
       jobs = JobChange.Make (key_of actor OfToken id) (length (tokens past)) (total ranges);
       tokens = TokenChange.Make timeout (total ranges) ranges;
+      reservations = None;
     })
-populate-made config unit past actor at id timeout ranges known nexus idle inside few limits =
+populate-made config unit past actor at id timeout ranges known nexus free idle inside few limits =
     let test : nat_le (2 ^ 48) (length (tokens past)) ≡ false = grind (arith, nat_tests) in
-    populate-plan config unit past actor at id timeout ranges known nexus (rw (idle, inside, test) refl) few
+    populate-plan config unit past actor at id timeout ranges known nexus (rw (free, idle, inside, test) refl) few
     (busy-is config unit past actor OfToken id known.is (own-of config unit past known) nexus ∙ idle) inside (go (is_overlapping ranges) limits)
   where
     go : (t : Bool) → (not t && nat_le (total ranges) 1_048_576 && nat_le 1 timeout && nat_le timeout 3600) ≡ true → t ≡ false
@@ -68,28 +70,32 @@ populate-made config unit past actor at id timeout ranges known nexus idle insid
 
 -- ---- Start
 
-pub start-busy : (config : Configuration) (unit : ℕ) (past : List Deed) (actor : Actor) (at id : ℕ) (background : Bool) (ranges : List Range) (rod : HeldBlocks) → is_busy past actor OfToken id ≡ true
+pub start-busy : (config : Configuration) (unit : ℕ) (past : List Deed) (actor : Actor) (at id : ℕ) (background : Bool) (ranges : List Range) (rod : HeldBlocks) → bars_act (reservations past) actor (Act.Start id background ranges rod) ≡ false
+    → is_busy past actor OfToken id ≡ true
     → IsPlan config unit past actor at (Act.Start id background ranges rod) (quiet (Answer.Refused operation_in_progress))
-start-busy config unit past actor at id background ranges rod busy =
-    refused-plan config unit past actor at (Act.Start id background ranges rod) operation_in_progress (rw busy refl) (λ s. refl) (find-none (running past))
+start-busy config unit past actor at id background ranges rod free busy =
+    refused-plan config unit past actor at (Act.Start id background ranges rod) operation_in_progress (rw (free, busy) refl) (λ s. refl) (find-none (running past)) refl
 
-pub start-out : (config : Configuration) (unit : ℕ) (past : List Deed) (actor : Actor) (at id : ℕ) (background : Bool) (ranges : List Range) (rod : HeldBlocks) → is_busy past actor OfToken id ≡ false
+pub start-out : (config : Configuration) (unit : ℕ) (past : List Deed) (actor : Actor) (at id : ℕ) (background : Bool) (ranges : List Range) (rod : HeldBlocks) → bars_act (reservations past) actor (Act.Start id background ranges rod) ≡ false
+    → is_busy past actor OfToken id ≡ false
     → is_within (unit_of config unit).blocks ranges ≡ false → IsPlan config unit past actor at (Act.Start id background ranges rod) (quiet (Answer.Refused lba_out_of_range))
-start-out config unit past actor at id background ranges rod idle out =
-    refused-plan config unit past actor at (Act.Start id background ranges rod) lba_out_of_range (rw (idle, out) refl) (λ s. refl) (find-none (running past))
+start-out config unit past actor at id background ranges rod free idle out =
+    refused-plan config unit past actor at (Act.Start id background ranges rod) lba_out_of_range (rw (free, idle, out) refl) (λ s. refl) (find-none (running past)) refl
 
-pub start-many : (config : Configuration) (unit : ℕ) (past : List Deed) (actor : Actor) (at id : ℕ) (background : Bool) (ranges : List Range) (rod : HeldBlocks) → is_busy past actor OfToken id ≡ false
+pub start-many : (config : Configuration) (unit : ℕ) (past : List Deed) (actor : Actor) (at id : ℕ) (background : Bool) (ranges : List Range) (rod : HeldBlocks) → bars_act (reservations past) actor (Act.Start id background ranges rod) ≡ false
+    → is_busy past actor OfToken id ≡ false
     → is_within (unit_of config unit).blocks ranges ≡ true → is_crowded past ≡ true → IsPlan config unit past actor at (Act.Start id background ranges rod) (quiet (Answer.Refused insufficient_resources))
-start-many config unit past actor at id background ranges rod idle inside many =
-    refused-plan config unit past actor at (Act.Start id background ranges rod) insufficient_resources (rw (idle, inside, many) refl) (λ s. refl) (find-none (running past))
+start-many config unit past actor at id background ranges rod free idle inside many =
+    refused-plan config unit past actor at (Act.Start id background ranges rod) insufficient_resources (rw (free, idle, inside, many) refl) (λ s. refl) (find-none (running past)) refl
 
 pub start-made : (config : Configuration) (unit : ℕ) (past : List Deed) (actor : Actor) (at id : ℕ) (background : Bool) (ranges : List Range) (rod : HeldBlocks) (empty : Bool) → IsKnown config unit past → IsNexus actor
+    → bars_act (reservations past) actor (Act.Start id background ranges rod) ≡ false
     → within_limits config unit (Act.Start id background ranges rod) ≡ true → is_busy past actor OfToken id ≡ false → is_within (unit_of config unit).blocks ranges ≡ true → is_crowded past ≡ false
     → (length rod.items == 0) ≡ empty → MayJob (JobChange.Start (key_of actor OfToken id) background ranges rod) (jobs_of past)
     → IsPlan config unit past actor at (Act.Start id background ranges rod)
     (record (quiet (Answer.Progress (if empty then OpState.Done else OpState.Running) 0)) { jobs = JobChange.Start (key_of actor OfToken id) background ranges rod })
-start-made config unit past actor at id background ranges rod empty known nexus limits idle inside few none may =
-    start-plan config unit past actor at id background ranges rod (if empty then OpState.Done else OpState.Running) known nexus limits (rw (idle, inside, few, none) refl) may (writes empty)
+start-made config unit past actor at id background ranges rod empty known nexus free limits idle inside few none may =
+    start-plan config unit past actor at id background ranges rod (if empty then OpState.Done else OpState.Running) known nexus limits (rw (free, idle, inside, few, none) refl) may (writes empty)
   where
     writes : (t : Bool) → wrote_of (Answer.Progress (if t then OpState.Done else OpState.Running) 0) [] ≡ []
     writes true = refl
@@ -99,11 +105,11 @@ start-made config unit past actor at id background ranges rod empty known nexus 
 
 pub open-busy : (config : Configuration) (unit : ℕ) (past : List Deed) (actor : Actor) (at id : ℕ) → is_busy past actor OfCopy id ≡ true
     → IsPlan config unit past actor at (Act.Open id) (quiet (Answer.Refused operation_in_progress))
-open-busy config unit past actor at id busy = refused-plan config unit past actor at (Act.Open id) operation_in_progress (rw busy refl) (λ s. refl) (find-none (running past))
+open-busy config unit past actor at id busy = refused-plan config unit past actor at (Act.Open id) operation_in_progress (rw busy refl) (λ s. refl) (find-none (running past)) refl
 
 pub open-many : (config : Configuration) (unit : ℕ) (past : List Deed) (actor : Actor) (at id : ℕ) → is_busy past actor OfCopy id ≡ false → is_crowded past ≡ true
     → IsPlan config unit past actor at (Act.Open id) (quiet (Answer.Refused insufficient_resources))
-open-many config unit past actor at id idle many = refused-plan config unit past actor at (Act.Open id) insufficient_resources (rw (idle, many) refl) (λ s. refl) (find-none (running past))
+open-many config unit past actor at id idle many = refused-plan config unit past actor at (Act.Open id) insufficient_resources (rw (idle, many) refl) (λ s. refl) (find-none (running past)) refl
 
 pub open-made : (config : Configuration) (unit : ℕ) (past : List Deed) (actor : Actor) (at id : ℕ) → IsKnown config unit past → IsNexus actor → id < 2 ^ 8 → is_busy past actor OfCopy id ≡ false → is_crowded past ≡ false
     → IsPlan config unit past actor at (Act.Open id) (record (quiet Answer.Done) { jobs = JobChange.Open (key_of actor OfCopy id) })

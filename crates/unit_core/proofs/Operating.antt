@@ -13,8 +13,9 @@ use Rattle.lba_ranges.specs.Denoted.{is_within}
 use Rattle.scsi_sense.specs.Codes.{operation_in_progress, lba_out_of_range, insufficient_resources}
 use Rattle.cm_history.specs.Tokens.{is_populate, tokens}
 use Rattle.cm_history.specs.Operations.{Operation, OfToken, OfCopy, operations, operation_after, made_operation, makes_operation, is_making}
-use Rattle.cm_history.specs.Answers.{answer_after, serial_made, is_busy, is_crowded}
-use Rattle.cm_history.proofs.PublicLaws.{Each, Each-in, Each-by, Each-map, Each-append, IsPast, made-after, and_first, and_second}
+use Rattle.cm_history.specs.Reserving.{reservations, bars_act}
+use Rattle.cm_history.specs.Answers.{answer_after, answer_unbarred, serial_made, is_busy, is_crowded}
+use Rattle.cm_history.proofs.PublicLaws.{Each, Each-in, Each-by, Each-map, Each-append, IsPast, made-after, and_first, and_second, free-answer, free-answered}
 
 -- the blocks that a Start writes lie in the unit
 abbrev pub starts_within : ℕ → Act → Bool
@@ -28,10 +29,9 @@ pub record IsMadeBy (config : Configuration) (unit : ℕ) (d : Deed) : Type 0 wh
   pub serial : is_some (serial_made d.answer) ≡ is_populate d.entry.act
   pub within : starts_within (unit_of config unit).blocks d.entry.act ≡ true
 
--- a token is made by a Populate alone
-serial-made : (config : Configuration) (unit : ℕ) (past : List Deed) (actor : Actor) (now : ℕ) (act : Act) → is_making act ≡ true
-    → not (is_refusal (answer_after config unit past actor now act)) ≡ true → is_some (serial_made (answer_after config unit past actor now act)) ≡ is_populate act
-serial-made config unit past actor now (Act.Populate id timeout ranges) e answered =
+unbarred-made : (config : Configuration) (unit : ℕ) (past : List Deed) (actor : Actor) (now : ℕ) (act : Act) → is_making act ≡ true
+    → not (is_refusal (answer_unbarred config unit past actor now act)) ≡ true → is_some (serial_made (answer_unbarred config unit past actor now act)) ≡ is_populate act
+unbarred-made config unit past actor now (Act.Populate id timeout ranges) e answered =
     go (is_busy past actor OfToken id) (not (is_within (unit_of config unit).blocks ranges)) (nat_le (2 ^ 48) (length (tokens past))) answered
   where
     go : (a b c : Bool)
@@ -41,7 +41,7 @@ serial-made config unit past actor now (Act.Populate id timeout ranges) e answer
     go false true c h = cc
     go false false true h = cc
     go false false false h = refl
-serial-made config unit past actor now (Act.Start id background ranges rod) e answered =
+unbarred-made config unit past actor now (Act.Start id background ranges rod) e answered =
     go (is_busy past actor OfToken id) (not (is_within (unit_of config unit).blocks ranges)) (is_crowded past) (length rod.items == 0)
   where
     go : (a b c d : Bool)
@@ -50,18 +50,26 @@ serial-made config unit past actor now (Act.Start id background ranges rod) e an
     go false true c d = refl
     go false false true d = refl
     go false false false d = refl
-serial-made config unit past actor now (Act.Open id) e answered = go (is_busy past actor OfCopy id) (is_crowded past)
+unbarred-made config unit past actor now (Act.Open id) e answered = go (is_busy past actor OfCopy id) (is_crowded past)
   where
     go : (a b : Bool) → is_some (serial_made (if a then Answer.Refused operation_in_progress else if b then Answer.Refused insufficient_resources else Answer.Done)) ≡ false
     go true b = refl
     go false true = refl
     go false false = refl
-serial-made config unit past actor now _ e answered = cc
+unbarred-made config unit past actor now _ e answered = cc
+
+-- a token is made by a Populate alone
+serial-made : (config : Configuration) (unit : ℕ) (past : List Deed) (actor : Actor) (now : ℕ) (act : Act) → is_making act ≡ true
+    → not (is_refusal (answer_after config unit past actor now act)) ≡ true → is_some (serial_made (answer_after config unit past actor now act)) ≡ is_populate act
+serial-made config unit past actor now act e answered =
+    ap (λ a. is_some (serial_made a)) (free-answer (bars_act (reservations past) actor act) _ answered)
+    ∙ unbarred-made config unit past actor now act e (free-answered (bars_act (reservations past) actor act) _ answered)
 
 start-within : (config : Configuration) (unit : ℕ) (past : List Deed) (actor : Actor) (now : ℕ) (act : Act)
     → not (is_refusal (answer_after config unit past actor now act)) ≡ true → starts_within (unit_of config unit).blocks act ≡ true
 start-within config unit past actor now (Act.Start id background ranges rod) answered =
-    go (is_busy past actor OfToken id) (is_within (unit_of config unit).blocks ranges) answered
+    go (is_busy past actor OfToken id) (is_within (unit_of config unit).blocks ranges)
+    (free-answered (bars_act (reservations past) actor (Act.Start id background ranges rod)) _ answered)
   where
     last : Answer
     last = if is_crowded past then Answer.Refused insufficient_resources else Answer.Progress (if length rod.items == 0 then OpState.Done else OpState.Running) 0

@@ -1,7 +1,7 @@
 -- Plans that bring the tables to what the past then says
 use Rattle.std.proofs.Common.{◌≡◌, ℕ, ◌<◌, ◌^◌, List, [], ◌∷◌, length, refl, ap, sym, ◌∙◌, subst, arith, true, false, Bool}
 use Rattle.std.specs.Option.{option_map}
-use Rattle.std.specs.Prelude.{Some, None, ◌&&◌, not, max, is_some, IsSome, if◌then◌else◌}
+use Rattle.std.specs.Prelude.{Option, Some, None, unwrap_or, ◌&&◌, not, max, is_some, IsSome, if◌then◌else◌}
 use Rattle.std.proofs.lemmas.List.{length-map}
 use Rattle.cm_base.specs.Configuration.{Configuration}
 use Rattle.cm_base.specs.declared.config.UnitConfig.{UnitConfig}
@@ -20,7 +20,9 @@ use Rattle.cm_history.specs.Deeds.{Deed, moment, is_refusal, is_answered}
 use Rattle.cm_history.specs.Blocks.{held, cut}
 use Rattle.cm_history.specs.Tokens.{tokens, is_populate, is_delete_of, is_redeem_of}
 use Rattle.cm_history.specs.Operations.{Operation, OfToken, OfCopy, is_making, makes_operation, made_operation, would_serve, running, kept}
-use Rattle.cm_history.specs.Answers.{answer_after, writings, wrote_of}
+use Rattle.pr_keys.specs.Reservations.{Reservations}
+use Rattle.cm_history.specs.Reserving.{reservations, reserved_by, bars_act, done_out, unless_refused, answer_out, answer_keys, answer_holder}
+use Rattle.cm_history.specs.Answers.{answer_after, answer_unbarred, writings, wrote_of}
 use Rattle.cm_history.proofs.PublicLaws.{Each, find-none, IsPast}
 use Rattle.copy_jobs.specs.declared.job.Job.{Job}
 use Rattle.copy_jobs.specs.Jobs as jobs
@@ -40,6 +42,7 @@ use Rattle.unit_core.specs.inner.Tables.{kept_of, tokens_of, job_of, jobs_of}
 use Rattle.unit_core.specs.inner.Planning.{quiet, IsDeed, IsPlan}
 use Rattle.unit_core.proofs.Jobs.{IsNexus, IsOwn, all-own}
 use Rattle.unit_core.proofs.Keeping.{same-jobs, made-jobs}
+use Rattle.unit_core.proofs.Quotas.{wrote_none}
 use Rattle.unit_core.proofs.JobDeeds.{start-job, open-job, populate-job}
 use Rattle.unit_core.proofs.Tokens.{idle-tokens, deleted-tokens, used-tokens, made-tokens}
 
@@ -125,15 +128,17 @@ same-step : (config : Configuration) (unit : ℕ) (past : List Deed) (actor : Ac
 same-step config unit past actor at act answer told making none d is =
     same-jobs past d (deed-makes config unit past actor at act d answer is told ∙ making) (deed-served config unit past actor at act d is none)
 
-pub plain-plan : (config : Configuration) (unit : ℕ) (past : List Deed) (actor : Actor) (at : ℕ) (act : Act) (answer : Answer) (blocks : BlockChange)
+pub plain-plan : (config : Configuration) (unit : ℕ) (past : List Deed) (actor : Actor) (at : ℕ) (act : Act) (answer : Answer) (blocks : BlockChange) (after : Option Reservations)
     → answer ≡ answer_after config unit past actor at act → writings_of blocks ≡ wrote_of answer (writings past actor act)
     → MayChange (unit_of config unit).blocks (unit_of config unit).block_length blocks → LeavesTokens act answer → would_serve past actor act ≡ None
-    → IsPlan config unit past actor at act (record { answer = answer; blocks = blocks; jobs = JobChange.Nothing; tokens = TokenChange.Nothing })
-plain-plan config unit past actor at act answer blocks told wrote may leaves none = record {
+    → unwrap_or after (reservations past) ≡ reserved_by (reservations past) actor act
+    → IsPlan config unit past actor at act (record { answer = answer; blocks = blocks; jobs = JobChange.Nothing; tokens = TokenChange.Nothing; reservations = after })
+plain-plan config unit past actor at act answer blocks after told wrote may leaves none left = record {
   answer = told;
   wrote = wrote;
   jobs = λ d is. same-step config unit past actor at act answer told leaves.making none d is;
   tokens = λ d is. idle-step config unit past actor at act answer told leaves d is;
+  reservations = left;
   may_blocks = may;
   may_jobs = tt;
   may_tokens = λ spare h. tt;
@@ -157,9 +162,62 @@ leaves-refused act sense deletes = record {
 -- an act that is refused
 pub refused-plan : (config : Configuration) (unit : ℕ) (past : List Deed) (actor : Actor) (at : ℕ) (act : Act) (sense : SenseCode)
     → Answer.Refused sense ≡ answer_after config unit past actor at act → ((serial : ℕ) → is_delete_of serial act ≡ false) → would_serve past actor act ≡ None
+    → reservations past ≡ reserved_by (reservations past) actor act
     → IsPlan config unit past actor at act (quiet (Answer.Refused sense))
-refused-plan config unit past actor at act sense told deletes none =
-    plain-plan config unit past actor at act (Answer.Refused sense) BlockChange.Nothing told refl tt (leaves-refused act sense deletes) none
+refused-plan config unit past actor at act sense told deletes none left =
+    plain-plan config unit past actor at act (Answer.Refused sense) BlockChange.Nothing None told refl tt (leaves-refused act sense deletes) none left
+
+-- ---- plans of reservations
+
+-- an act that no reservation bars is answered as if there were none
+pub unbarred-told : (config : Configuration) (unit : ℕ) (past : List Deed) (actor : Actor) (at : ℕ) (act : Act) (answer : Answer) → bars_act (reservations past) actor act ≡ false
+    → answer ≡ answer_unbarred config unit past actor at act → answer ≡ answer_after config unit past actor at act
+unbarred-told config unit past actor at act answer free told = told ∙ sym (ap (λ t. if t then Answer.Conflict else answer_unbarred config unit past actor at act) free)
+
+-- an act that reads or writes blocks deletes no token, serves no operation and changes no reservation
+record IsBarred (past : List Deed) (actor : Actor) (act : Act) : Type 0 where
+  pub deletes : (serial : ℕ) → is_delete_of serial act ≡ false
+  pub serves : would_serve past actor act ≡ None
+  pub leaves : reservations past ≡ reserved_by (reservations past) actor act
+
+barred-act : (past : List Deed) (actor : Actor) (act : Act) → bars_act (reservations past) actor act ≡ true → IsBarred past actor act
+barred-act past actor (Act.Delete serial) e = cc
+barred-act past actor (Act.Advance id) e = cc
+barred-act past actor Act.Pump e = cc
+barred-act past actor (Act.End id) e = cc
+barred-act past actor (Act.Abort id) e = cc
+barred-act past actor (Act.Close id result) e = cc
+barred-act past actor (Act.PrOut action scope kind key action_key) e = cc
+barred-act past actor _ e = record { deletes = λ s. refl; serves = find-none (running past); leaves = refl }
+
+-- an act that a reservation bars
+pub conflict-plan : (config : Configuration) (unit : ℕ) (past : List Deed) (actor : Actor) (at : ℕ) (act : Act) → bars_act (reservations past) actor act ≡ true
+    → IsPlan config unit past actor at act (quiet Answer.Conflict)
+conflict-plan config unit past actor at act barred =
+    let is = barred-act past actor act barred in
+    let told : Answer.Conflict ≡ answer_after config unit past actor at act = sym (ap (λ t. if t then Answer.Conflict else answer_unbarred config unit past actor at act) barred) in
+    let leaves : LeavesTokens act Answer.Conflict = record { making = and-false (is_making act); deletes = is.deletes; redeems = λ s. and-false (is_redeem_of s act) } in
+    plain-plan config unit past actor at act Answer.Conflict BlockChange.Nothing None told refl tt leaves is.serves is.leaves
+
+pub out-plan : (config : Configuration) (unit : ℕ) (past : List Deed) (actor : Actor) (at action scope kind key action_key : ℕ)
+    → IsPlan config unit past actor at (Act.PrOut action scope kind key action_key)
+    (record (quiet (answer_out (done_out (reservations past) actor action scope kind key action_key))) {
+      reservations = Some (unless_refused (reservations past) (done_out (reservations past) actor action scope kind key action_key));
+    })
+out-plan config unit past actor at action scope kind key action_key =
+    let r = done_out (reservations past) actor action scope kind key action_key in
+    plain-plan config unit past actor at (Act.PrOut action scope kind key action_key) (answer_out r) BlockChange.Nothing (Some (unless_refused (reservations past) r))
+    refl (sym (wrote_none (answer_out r))) tt (record { making = refl; deletes = λ s. refl; redeems = λ s. refl }) (find-none (running past)) refl
+
+pub keys-plan : (config : Configuration) (unit : ℕ) (past : List Deed) (actor : Actor) (at : ℕ) → IsPlan config unit past actor at Act.PrKeys (quiet (answer_keys (reservations past)))
+keys-plan config unit past actor at =
+    plain-plan config unit past actor at Act.PrKeys (answer_keys (reservations past)) BlockChange.Nothing None refl refl tt
+    (record { making = refl; deletes = λ s. refl; redeems = λ s. refl }) (find-none (running past)) refl
+
+pub holder-plan : (config : Configuration) (unit : ℕ) (past : List Deed) (actor : Actor) (at : ℕ) → IsPlan config unit past actor at Act.PrHolder (quiet (answer_holder (reservations past)))
+holder-plan config unit past actor at =
+    plain-plan config unit past actor at Act.PrHolder (answer_holder (reservations past)) BlockChange.Nothing None refl refl tt
+    (record { making = refl; deletes = λ s. refl; redeems = λ s. refl }) (find-none (running past)) refl
 
 -- ---- plans on tokens
 
@@ -170,6 +228,7 @@ delete-plan config unit past actor at serial = record {
   wrote = refl;
   jobs = λ d is. same-step config unit past actor at (Act.Delete serial) Answer.Done refl refl (find-none (running past)) d is;
   tokens = λ d is. deleted-tokens (unit_of config unit) d past serial is.act ∙ ap (λ m. deleted serial (expired m (tokens_of (unit_of config unit) past))) (deed-moment config unit past actor at (Act.Delete serial) d is);
+  reservations = refl;
   may_blocks = tt;
   may_jobs = tt;
   may_tokens = λ spare h. tt;
@@ -191,6 +250,7 @@ redeem-plan config unit past actor at text target list told lives = record {
       let says : is_answered d ≡ true = ap (λ (x : Answer). not (is_refusal x)) (deed-answer config unit past actor at (Act.Redeem text target) d is ∙ sym told) in
       used-tokens (unit_of config unit) d past text target is.act says
       ∙ ap (λ m. used (serial_of text) m (expired m (tokens_of (unit_of config unit) past))) (deed-moment config unit past actor at (Act.Redeem text target) d is);
+  reservations = refl;
   may_blocks = tt;
   may_jobs = tt;
   may_tokens = λ spare h. lives;
@@ -217,6 +277,7 @@ pub populate-plan : (config : Configuration) (unit : ℕ) (past : List Deed) (ac
       blocks = BlockChange.Nothing;
       jobs = JobChange.Make (key_of actor OfToken id) (length (tokens past)) (total ranges);
       tokens = TokenChange.Make timeout (total ranges) ranges;
+      reservations = None;
     })
 populate-plan config unit past actor at id timeout ranges known nexus told few idle inside alone = record {
   answer = told;
@@ -229,6 +290,7 @@ populate-plan config unit past actor at id timeout ranges known nexus told few i
       let says : is_answered d ≡ true = ap (λ (x : Answer). not (is_refusal x)) (deed-answer config unit past actor at act d is ∙ sym told) in
       made-tokens u d past id timeout ranges is.act says
       ∙ ap (λ m. populated (expired m (tokens_of u past)) m timeout (total ranges) (cut u (held past) (blocks_of ranges))) (deed-moment config unit past actor at act d is);
+  reservations = refl;
   may_blocks = tt;
   may_jobs = (refl, idle);
   may_tokens = λ spare h. (h refl, (let e = length-map (tokens past) (kept_of u) in omega (arith, few, e)));
@@ -260,6 +322,7 @@ start-plan config unit past actor at id background ranges rod state known nexus 
       (start-job config unit d id background ranges rod is.act (ap (within_limits config unit) is.act ∙ limits)
       ∙ ap (λ a. started (key_of a OfToken id) background ranges rod) is.actor);
   tokens = λ d is. idle-made config unit past actor at id background ranges rod state told d is;
+  reservations = refl;
   may_blocks = tt;
   may_jobs = may;
   may_tokens = λ spare h. tt;
@@ -295,6 +358,7 @@ open-plan config unit past actor at id known nexus byte told idle few = record {
       (λ s. ap (is_delete_of s) is.act)
       (λ s. ap (λ a. is_redeem_of s a && is_answered d) is.act)
       ∙ ap (λ m. expired m (tokens_of (unit_of config unit) past)) (deed-moment config unit past actor at (Act.Open id) d is);
+  reservations = refl;
   may_blocks = tt;
   may_jobs = (refl, byte, idle, few);
   may_tokens = λ spare h. tt;

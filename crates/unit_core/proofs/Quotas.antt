@@ -17,6 +17,7 @@ use Rattle.scsi_sense.specs.Codes.{lba_out_of_range, space_allocation_failed}
 use Rattle.cm_history.specs.Deeds.{Deed, is_refusal}
 use Rattle.cm_history.specs.Operations.{Operation, is_failure, would_serve, next_piece}
 use Rattle.cm_history.specs.Blocks.{held, mapped, mapped_with}
+use Rattle.cm_history.specs.Reserving.{reservations, bars_act}
 use Rattle.cm_history.specs.Answers.{answer_after, answer_write, answer_unmap, put_at, wrote_of, writings, piece_of, deed}
 use Rattle.cm_history.proofs.PublicLaws.{Serves, how-serves}
 
@@ -59,12 +60,21 @@ wrote_none answer = go (is_refusal answer) (is_failure answer)
 none_within : (unit : UnitConfig) (now : ℕ → Held) (answer : Answer) (ws : List Writing) → ws ≡ [] → mapped_below unit.blocks now ≤ unit.quota → Within unit now (wrote_of answer ws)
 none_within unit now answer ws e low = subst (Within unit now) (sym (ap (wrote_of answer) e ∙ wrote_none answer)) low
 
+-- an act that a reservation bars writes nothing
+unless_barred : (unit : UnitConfig) (now : ℕ → Held) (t : Bool) (answer : Answer) (ws : List Writing) → Within unit now (wrote_of answer ws) → mapped_below unit.blocks now ≤ unit.quota
+    → Within unit now (wrote_of (if t then Answer.Conflict else answer) ws)
+unless_barred unit now true answer ws within low = low
+unless_barred unit now false answer ws within low = within
+
 unserved_within : (config : Configuration) (unit : ℕ) (past : List Deed) (actor : Actor) (moment : ℕ) (act : Act) → would_serve past actor act ≡ None
     → mapped (unit_of config unit) past ≤ (unit_of config unit).quota
     → Within (unit_of config unit) (held past) (wrote_of (answer_after config unit past actor moment act) (writings past actor act))
-unserved_within config unit past actor moment (Act.Write lba list) none low = write_within (unit_of config unit) (held past) lba list.items low
-unserved_within config unit past actor moment (Act.Put lba list) none low = write_within (unit_of config unit) (held past) lba list.items low
-unserved_within config unit past actor moment (Act.Unmap ranges) none low = unmap_within (unit_of config unit) (held past) ranges low
+unserved_within config unit past actor moment (Act.Write lba list) none low =
+    unless_barred (unit_of config unit) (held past) (bars_act (reservations past) actor (Act.Write lba list)) _ _ (write_within (unit_of config unit) (held past) lba list.items low) low
+unserved_within config unit past actor moment (Act.Put lba list) none low =
+    unless_barred (unit_of config unit) (held past) (bars_act (reservations past) actor (Act.Put lba list)) _ _ (write_within (unit_of config unit) (held past) lba list.items low) low
+unserved_within config unit past actor moment (Act.Unmap ranges) none low =
+    unless_barred (unit_of config unit) (held past) (bars_act (reservations past) actor (Act.Unmap ranges)) _ _ (unmap_within (unit_of config unit) (held past) ranges low) low
 unserved_within config unit past actor moment (Act.Advance id) none low =
     none_within (unit_of config unit) (held past) (answer_after config unit past actor moment (Act.Advance id)) (writings past actor (Act.Advance id)) (ap piece_of none) low
 unserved_within config unit past actor moment Act.Pump none low =

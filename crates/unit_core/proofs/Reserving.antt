@@ -1,6 +1,6 @@
 -- The entries that are kept free for operations, and those for jobs
 use Rattle.std.proofs.Common.{◌≡◌, ℕ, zero, suc, ◌+◌, ◌-◌, ◌*◌, ◌≤◌, List, [], ◌∷◌, ◌++◌, length, refl, ap, sym, ◌∙◌, arith, true, false, Bool, inl, inr}
-use Rattle.std.specs.Prelude.{Some, ◌==◌, ◌||◌, map, filter, find, cond, sum_by, if◌then◌else◌}
+use Rattle.std.specs.Prelude.{Some, ◌==◌, ◌||◌, filter, find, cond, sum_by, if◌then◌else◌}
 use Rattle.std.proofs.lemmas.List.Sums.{sum_by-append, sum_by-cons}
 use Rattle.cm_base.specs.Configuration.{Configuration}
 use Rattle.cm_base.specs.declared.config.UnitConfig.{UnitConfig}
@@ -12,7 +12,7 @@ use Rattle.cm_history.specs.Deeds.{Deed}
 use Rattle.cm_history.specs.Limits.{within_limits}
 use Rattle.cm_history.specs.Operations.{Operation, OfToken, form_of, operations, is_making, is_running, is_running_as, is_running_state, is_running_copy, is_foreground, is_background, kept, written, list_of, state, state_of, result_of, result_or}
 use Rattle.cm_history.specs.Room.{pieces, reserved, reserved_by}
-use Rattle.cm_history.proofs.PublicLaws.{In, Each-in, IsPast, IsBegun, begun, running_kept, kept_in, IsPaced, all-paced, few-written, Serves, token-runs, paced-after, start-length, sum-filter, sum-map, sum-same, whole-pieces}
+use Rattle.cm_history.proofs.PublicLaws.{Each-in, IsPast, IsBegun, begun, running_kept, kept_in, IsPaced, all-paced, few-written, Serves, token-runs, paced-after, start-length, sum-filter, sum-map, sum-same, whole-pieces}
 use Rattle.copy_jobs.specs.declared.job.Job.{Job}
 use Rattle.copy_jobs.specs.Jobs as jobs
 use Rattle.copy_jobs.specs.Keeping as keeping

@@ -1,6 +1,6 @@
 -- Room in a unit's record
 use Rattle.std.proofs.Common.{◌≡◌, ℕ, ◌+◌, ◌-◌, ◌^◌, ◌<◌, ◌≤◌, List, ◌∷◌, length, refl, ap, sym, ◌∙◌, subst, arith, true, false, Bool, inl, inr}
-use Rattle.std.specs.Prelude.{Option, Some, None, ◌⊎◌, ◌||◌, ◌&&◌, ◌==◌, nat_le, nat_lt, max, is_some, if◌then◌else◌}
+use Rattle.std.specs.Prelude.{Option, Some, None, ◌⊎◌, ◌||◌, ◌&&◌, ◌==◌, nat_lt, max, is_some, if◌then◌else◌}
 use Rattle.std.proofs.lemmas.Bool.{cases_eq, or_parts, or_left, or_right, ltb-false, lt-ltb, le-ltb, eq-eqb, ne_eqb}
 use Rattle.std.proofs.lemmas.Bool.Decides.{nat_tests}
 use Rattle.cm_base.specs.Configuration.{Configuration}

@@ -1,23 +1,22 @@
 -- What the tables of a unit see of blocks, as an act changes them
-use Rattle.std.proofs.Common.{◌≡◌, ℕ, zero, suc, List, [], ◌∷◌, ◌++◌, length, refl, ap, sym, ◌∙◌, subst, arith, true, false, Bool, inl, inr}
+use Rattle.std.proofs.Common.{◌≡◌, ℕ, zero, suc, List, [], ◌∷◌, length, refl, ap, sym, ◌∙◌, arith, true, false, Bool, inl, inr}
 use Rattle.std.specs.Prelude.{Option, Some, None, is_some, ◌==◌, ◌⊎◌, ◌&&◌, map, if◌then◌else◌}
 use Rattle.std.proofs.lemmas.Bool.Decides.{nat_tests}
 use Rattle.std.proofs.lemmas.List.{length-map}
 use Rattle.lba_ranges.specs.declared.ranges.Range.{Range}
 use Rattle.lba_ranges.specs.Denoted.{denotes}
-use Rattle.lba_ranges.specs.Versions.{Writers, writer_after, with_put, with_pin}
+use Rattle.lba_ranges.specs.Versions.{Writers, writer_after, with_put}
 use Rattle.lba_ranges.specs.Writings.{Writing}
 use Rattle.rod_store.specs.declared.kept.Kept.{Kept}
-use Rattle.rod_store.specs.declared.kept.TokenState.{TokenState}
 use Rattle.rod_store.specs.declared.kept.TokenState.TheVariants.{Live, Expired, Evicted, Deleted}
-use Rattle.rod_store.specs.Kept.{value_of, value_at, expired, expire_at, populated, evict_if, gives_way, used, deleted, end_at, is_live, is_over}
+use Rattle.rod_store.specs.Kept.{value_of, value_at, expired, expire_at, evict_if, gives_way, end_at, is_live, is_over}
 use Rattle.rod_store.proofs.PublicLaws.{append-before, append-last, append-others, used-same}
 use Rattle.token_pins.specs.declared.pinned_rod.PinnedRod.{PinnedRod}
 use Rattle.token_pins.specs.declared.pinned_change.PinnedChange.{PinnedChange}
 use Rattle.token_pins.specs.Pinning.{holder, ArePinned}
 use Rattle.token_pins.specs.TokenChanges.{unpinned, rod_made, pinned_after, written_with, ranges_pinned}
 use Rattle.unit_core.specs.Versions.{Sight, Now, ByToken}
-use Rattle.unit_core.specs.inner.Seen.{Origin, Nothing, Put, Before, origin, origin_made, put_from, seen_after, put_shown, put_seen, lives_in}
+use Rattle.unit_core.specs.inner.Seen.{Nothing, Before, origin_made, put_from, seen_after, put_shown, put_seen, lives_in}
 use Rattle.unit_core.proofs.Writers.{writer-now}
 
 module _ {V : Type 0} where

@@ -1,6 +1,6 @@
 -- Plans of acts that serve an operation
 use Rattle.std.proofs.Common.{◌≡◌, ℕ, ◌+◌, ◌≤◌, List, [], ◌∷◌, length, refl, ap, sym, ◌∙◌, subst, true, false, Bool}
-use Rattle.std.specs.Prelude.{◌||◌, Some, ◌==◌, ◌&&◌, ◌||◌, not, nat_lt, if◌then◌else◌}
+use Rattle.std.specs.Prelude.{◌||◌, Some, None, ◌==◌, ◌&&◌, ◌||◌, not, nat_lt, if◌then◌else◌}
 use Rattle.cm_base.specs.Configuration.{Configuration}
 use Rattle.cm_base.specs.declared.config.UnitConfig.{UnitConfig}
 use Rattle.cm_base.specs.Units.{unit_of}
@@ -16,6 +16,7 @@ use Rattle.cm_history.specs.Deeds.{Deed, is_refusal}
 use Rattle.cm_history.specs.Blocks.{held, mapped_with}
 use Rattle.cm_history.specs.Limits.{within_limits}
 use Rattle.cm_history.specs.Operations.{Operation, Form, OfToken, OfCopy, form_of, has_key, is_making, would_serve, running, is_running, is_running_copy, is_foreground, is_background, is_failure, is_ending, fits, kept, written, list_of, next_piece, count, count_of}
+use Rattle.cm_history.specs.Reserving.{reservations, reserved_by}
 use Rattle.cm_history.specs.Answers.{answer_after, writings, wrote_of, progress_by}
 use Rattle.cm_history.proofs.PublicLaws.{In, Each-in, find-none, making_serves, find-passes, any-found, Moves, Stops, Ends, Closes, and_first, and_second}
 use Rattle.copy_jobs.specs.declared.key.Key.{Key}
@@ -63,6 +64,11 @@ leaves-serving past actor (Act.Abort id) answer o e = record { making = refl; de
 leaves-serving past actor (Act.Close id result) answer o e = record { making = refl; deletes = λ s. refl; redeems = λ s. refl }
 leaves-serving past actor _ answer o e = let no = sym (find-none (running past)) ∙ e in cc
 
+-- and has to do with no reservation
+serving-leaves : (past : List Deed) (actor : Actor) (act : Act) (o : Operation) → would_serve past actor act ≡ Some o → reservations past ≡ reserved_by (reservations past) actor act
+serving-leaves past actor (Act.PrOut action scope kind key action_key) o e = let no = sym (find-none (running past)) ∙ e in cc
+serving-leaves past actor _ o e = refl
+
 -- an act that serves an operation, by what becomes of its job
 pub served-plan : (config : Configuration) (unit : ℕ) (past : List Deed) (actor : Actor) (at : ℕ) (act : Act) (o : Operation) (answer : Answer) (blocks : BlockChange) (j : JobChange) (g : Job → Job)
     → IsKnown config unit past → would_serve past actor act ≡ Some o
@@ -70,8 +76,8 @@ pub served-plan : (config : Configuration) (unit : ℕ) (past : List Deed) (acto
     → MayChange (unit_of config unit).blocks (unit_of config unit).block_length blocks → MayJob j (jobs_of past)
     → jobs_after j (jobs_of past) ≡ change (jobs.runs_as (own_key o)) g (jobs_of past) → grows j ≡ false
     → ((d : Deed) → IsDeed config unit past actor at act d → job_of (record o { servers = d ∷ o.servers }) ≡ g (job_of o))
-    → (ends_operation past actor act ≡ true → takes_none (record { answer = answer; blocks = blocks; jobs = j; tokens = TokenChange.Nothing }) ≡ true)
-    → IsPlan config unit past actor at act (record { answer = answer; blocks = blocks; jobs = j; tokens = TokenChange.Nothing })
+    → (ends_operation past actor act ≡ true → takes_none (record { answer = answer; blocks = blocks; jobs = j; tokens = TokenChange.Nothing; reservations = None }) ≡ true)
+    → IsPlan config unit past actor at act (record { answer = answer; blocks = blocks; jobs = j; tokens = TokenChange.Nothing; reservations = None })
 served-plan config unit past actor at act o answer blocks j g known found told wrote may_b may_j after grow becomes none = record {
   answer = told;
   wrote = wrote;
@@ -81,6 +87,7 @@ served-plan config unit past actor at act o answer blocks j g known found told w
       (deed-serves config unit past actor at act d is ∙ found) (becomes d is)
       ∙ sym after;
   tokens = λ d is. idle-step config unit past actor at act answer told (leaves-serving past actor act answer o found) d is;
+  reservations = serving-leaves past actor act o found;
   may_blocks = may_b;
   may_jobs = may_j;
   may_tokens = λ spare h. tt;
@@ -251,7 +258,7 @@ piece-plan config unit past actor at act o p known is of = go (nat_lt u.quota (m
     busy = subst (λ k. jobs.is_busy k (jobs_of past) ≡ true) (sym of.key) (busy-own config unit past actor act o known is.found)
 
     stop : Plan
-    stop = record { answer = Answer.Progress (OpState.Failed space_allocation_failed) p.written; blocks = BlockChange.Nothing; jobs = JobChange.Stop p.key; tokens = TokenChange.Nothing }
+    stop = record { answer = Answer.Progress (OpState.Failed space_allocation_failed) p.written; blocks = BlockChange.Nothing; jobs = JobChange.Stop p.key; tokens = TokenChange.Nothing; reservations = None }
 
     move : Plan
     move = record {
@@ -259,6 +266,7 @@ piece-plan config unit past actor at act o p known is of = go (nat_lt u.quota (m
       blocks = BlockChange.Put p.ranges p.list;
       jobs = JobChange.Move p.key (length p.list.items);
       tokens = TokenChange.Nothing;
+      reservations = None;
     }
 
     none : (plan : Plan) → ends_operation past actor act ≡ true → takes_none plan ≡ true

@@ -16,6 +16,7 @@ use Rattle.cm_history.specs.Legal.{may_ask}
 use Rattle.cm_history.specs.Blocks.{held}
 use Rattle.cm_history.specs.Tokens.{Token, Fate, Live, Expired, Evicted, Deleted, tokens, rod, is_populate}
 use Rattle.cm_history.specs.Operations.{Operation, Form, OfToken, OfCopy, form_of, same_form, id_of, is_making, is_foreground, is_background, operations, operation_after, made_operation, makes_operation, running, fits, would_serve, kept, written, count_of, list_of, state_of, result_of, result_or}
+use Rattle.cm_history.specs.Reserving.{reservations}
 use Rattle.cm_history.specs.Answers.{deed, serial_made}
 use Rattle.cm_history.specs.Asked.{AllAsked}
 use Rattle.cm_history.specs.Image.{TokenImage, OperationImage, image, token_image, operation_image, trim, trimmed}
@@ -158,7 +159,7 @@ job-shown config unit o by plain =
 
 pub image-shown : (config : Configuration) (unit : ℕ) (past : List Deed) → IsPast config unit past → AllAsked config unit past
     → trimmed (image (unit_of config unit) past)
-    ≡ image_shown (moment past) (last_stamp past) (length past) (unit_of config unit).blocks (held past) (tokens_of (unit_of config unit) past) (jobs_of past)
+    ≡ image_shown (moment past) (last_stamp past) (length past) (unit_of config unit).blocks (held past) (tokens_of (unit_of config unit) past) (jobs_of past) (reservations past)
 image-shown config unit past is asked =
     let u = unit_of config unit in
     let i = image u past in

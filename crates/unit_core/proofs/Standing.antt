@@ -1,9 +1,8 @@
 -- A unit stands for the list of entries that makes it as it is
-use Rattle.std.proofs.Common.{◌≡◌, ℕ, ◌+◌, ◌-◌, ◌<◌, ◌≤◌, zero, suc, List, [], ◌∷◌, ◌++◌, length, drop, take, refl, ap, sym, ◌∙◌, arith, true, false, Bool}
+use Rattle.std.proofs.Common.{◌≡◌, ℕ, ◌+◌, ◌-◌, ◌<◌, ◌≤◌, zero, suc, List, [], ◌∷◌, length, drop, refl, ap, sym, ◌∙◌, arith, true, false, Bool}
 use Rattle.std.specs.Prelude.{map, is_some, ◌==◌, if◌then◌else◌}
 use Rattle.std.proofs.lemmas.List.{length-drop}
 use Rattle.cm_base.specs.Configuration.{Configuration}
-use Rattle.cm_base.specs.declared.config.UnitConfig.{UnitConfig}
 use Rattle.cm_base.specs.Units.{unit_of}
 use Rattle.lba_ranges.specs.Denoted.{row}
 use Rattle.lba_ranges.specs.HeldBlocks.{HeldBlocks}
@@ -11,20 +10,19 @@ use Rattle.lba_ranges.specs.Writings.{Held}
 use Rattle.cm_history.specs.declared.act.Act.{Act}
 use Rattle.cm_history.specs.declared.act.Actor.{Actor}
 use Rattle.cm_history.specs.declared.act.Entry.{Entry}
-use Rattle.cm_history.specs.Deeds.{Deed, moment, last_stamp}
+use Rattle.cm_history.specs.Deeds.{Deed}
 use Rattle.cm_history.specs.Blocks.{held}
 use Rattle.cm_history.specs.Folding.{StandsFor}
 use Rattle.cm_history.specs.History.{on, past_of}
 use Rattle.cm_history.specs.Ends.{ends_operation}
 use Rattle.cm_history.specs.Operations.{would_serve}
-use Rattle.cm_history.specs.Image.{Image}
 use Rattle.cm_history.proofs.PublicLaws.{map-same, past-is}
 use Rattle.rod_store.specs.declared.kept.Kept.{Kept}
 use Rattle.rod_store.specs.Store.{Store}
 use Rattle.copy_jobs.specs.declared.job.Job.{Job}
+use Rattle.pr_keys.specs.Reservations.{Reservations}
 use Rattle.unit_core.specs.inner.Agreeing.{TablesAgree, RecordAgrees}
-use Rattle.unit_core.specs.inner.Shown.{token_shown, job_shown, image_shown}
-use Rattle.unit_core.specs.inner.Tables.{tokens_of, jobs_of}
+use Rattle.unit_core.specs.inner.Shown.{image_shown}
 use Rattle.unit_core.proofs.Pasts.{length-past}
 use Rattle.unit_core.proofs.Shown.{image-shown}
 
@@ -35,17 +33,17 @@ map-row n lba (suc count) f g same within =
     ∙ ap (λ l. g lba ∷ l) (map-row n (suc lba) count f g same (omega (arith, within)))
 
 -- tables that hold the same show the same
-pub shown-same : (now stamp entries blocks blocks' : ℕ) (holds holds' : ℕ → Held) (tokens tokens' : List (Kept HeldBlocks)) (jobs jobs' : List Job)
-    → blocks' ≡ blocks → ((b : ℕ) → holds' b ≡ holds b) → tokens' ≡ tokens → jobs' ≡ jobs
-    → image_shown now stamp entries blocks' holds' tokens' jobs' ≡ image_shown now stamp entries blocks holds tokens jobs
-shown-same now stamp entries blocks blocks' holds holds' tokens tokens' jobs jobs' count same token job =
+pub shown-same : (now stamp entries blocks blocks' : ℕ) (holds holds' : ℕ → Held) (tokens tokens' : List (Kept HeldBlocks)) (jobs jobs' : List Job) (reservations reservations' : Reservations)
+    → blocks' ≡ blocks → ((b : ℕ) → holds' b ≡ holds b) → tokens' ≡ tokens → jobs' ≡ jobs → reservations' ≡ reservations
+    → image_shown now stamp entries blocks' holds' tokens' jobs' reservations' ≡ image_shown now stamp entries blocks holds tokens jobs reservations
+shown-same now stamp entries blocks blocks' holds holds' tokens tokens' jobs jobs' reservations reservations' count same token job reserved =
     let put : map holds' (row 0 blocks) ≡ map holds (row 0 blocks) = map-same holds' holds (row 0 blocks) (λ b i. same b) in
-    rw (count, token, job, put) refl
+    rw (count, token, job, reserved, put) refl
 
-pub stands-own : (config : Configuration) (unit : ℕ) (kept : List Entry) (folded spare own_payload blocks size : ℕ) (holds : ℕ → Held) (tokens : Store HeldBlocks) (jobs : List Job) (stamp now : ℕ) (whole : List Entry)
-    → TablesAgree config unit blocks size holds tokens jobs stamp now whole → RecordAgrees config unit kept folded spare own_payload whole
-    → StandsFor config unit (image_shown now stamp (folded + length kept) blocks holds tokens.tokens jobs) kept folded whole
-stands-own config unit kept folded spare own_payload blocks size holds tokens jobs stamp now whole t r =
+pub stands-own : (config : Configuration) (unit : ℕ) (kept : List Entry) (folded spare own_payload blocks size : ℕ) (holds : ℕ → Held) (tokens : Store HeldBlocks) (jobs : List Job) (reservations : Reservations) (stamp now : ℕ) (whole : List Entry)
+    → TablesAgree config unit blocks size holds tokens jobs reservations stamp now whole → RecordAgrees config unit kept folded spare own_payload whole
+    → StandsFor config unit (image_shown now stamp (folded + length kept) blocks holds tokens.tokens jobs reservations) kept folded whole
+stands-own config unit kept folded spare own_payload blocks size holds tokens jobs reservations stamp now whole t r =
     let u = unit_of config unit in
     let past = past_of config unit whole in
     let long : length kept ≡ length whole - folded = ap length (sym r.keeps) ∙ length-drop folded whole in
@@ -56,7 +54,7 @@ stands-own config unit kept folded spare own_payload blocks size holds tokens jo
     record {
       own = t.record_is.own;
       asked = t.record_is.asked;
-      image = image-shown config unit past (past-is config unit whole) t.record_is.asked ∙ rw (t.moment, t.stamp, ← count, put, t.tokens.tokens, t.jobs) refl;
+      image = image-shown config unit past (past-is config unit whole) t.record_is.asked ∙ rw (t.moment, t.stamp, ← count, put, t.tokens.tokens, t.jobs, t.reservations) refl;
       keeps = r.keeps;
       few = r.few;
     }

@@ -1,6 +1,6 @@
 -- The tables and the record of a unit agree with a list of entries, also with one more entry, and when kept ones are dropped
-use Rattle.std.proofs.Common.{◌≡◌, ℕ, zero, suc, ◌+◌, ◌-◌, ◌^◌, ◌<◌, ◌≤◌, List, [], ◌∷◌, ◌++◌, length, drop, take, refl, ap, sym, ◌∙◌, subst, arith, false, true, Bool, append_assoc, append-nil, length-append, inl, inr}
-use Rattle.std.specs.Prelude.{◌==◌, max, None, fold, nat_le, sum_by, if◌then◌else◌, ◌⊎◌, Option, Some, map}
+use Rattle.std.proofs.Common.{◌≡◌, ℕ, zero, suc, ◌+◌, ◌-◌, ◌^◌, ◌<◌, ◌≤◌, List, [], ◌∷◌, ◌++◌, length, drop, refl, ap, sym, ◌∙◌, arith, false, true, length-append, inl, inr}
+use Rattle.std.specs.Prelude.{◌==◌, max, None, fold, nat_le, if◌then◌else◌, ◌⊎◌, unwrap_or, map}
 use Rattle.std.proofs.lemmas.Bool.{cases_lt}
 use Rattle.std.proofs.lemmas.Bool.Decides.{nat_tests}
 use Rattle.std.proofs.lemmas.List.{drop-append-le, drop-drop, drop_at, length-drop}
@@ -17,6 +17,7 @@ use Rattle.cm_history.specs.Room.{is_full, bytes_in, need, payload, reserved}
 use Rattle.cm_history.specs.History.{on, one_more, past_of}
 use Rattle.cm_history.proofs.PublicLaws.{past-is}
 use Rattle.copy_jobs.specs.declared.job.Job.{Job}
+use Rattle.pr_keys.specs.Reservations.{Reservations, unreserved}
 use Rattle.rod_store.specs.Store.{Store}
 use Rattle.unit_core.specs.declared.plan.Plan.{Plan}
 use Rattle.cm_history.specs.Asked.{IsAsked}
@@ -42,16 +43,17 @@ use Rattle.unit_core.proofs.Planned.{IsKnown}
 -- ---- tables
 
 -- a unit that nothing was asked of yet
-pub tables-start : (config : Configuration) (unit : ℕ) (blocks size : ℕ) (holds : ℕ → Held) (tokens : Store HeldBlocks) (jobs : List Job)
+pub tables-start : (config : Configuration) (unit : ℕ) (blocks size : ℕ) (holds : ℕ → Held) (tokens : Store HeldBlocks) (jobs : List Job) (reservations : Reservations)
     → unit < length config.units → IsUnit (unit_of config unit)
     → blocks ≡ (unit_of config unit).blocks → size ≡ (unit_of config unit).block_length → ((b : ℕ) → holds b ≡ None)
-    → tokens.unit ≡ unit → tokens.tokens ≡ [] → jobs ≡ []
-    → TablesAgree config unit blocks size holds tokens jobs 0 0 []
-tables-start config unit blocks size holds tokens jobs known limits count length none own empty nothing = record {
+    → tokens.unit ≡ unit → tokens.tokens ≡ [] → jobs ≡ [] → reservations ≡ unreserved
+    → TablesAgree config unit blocks size holds tokens jobs reservations 0 0 []
+tables-start config unit blocks size holds tokens jobs reservations known limits count length none own empty nothing unreserved = record {
   record_is = record { configured = known; limits = limits; own = refl; asked = tt };
   blocks = record { count = count; size = length; same = λ b h. none b };
   tokens = record { unit = own; tokens = empty };
   jobs = nothing;
+  reservations = unreserved;
   stamp = refl;
   moment = refl;
   quota = let zero' = mapped-none (unit_of config unit).blocks (λ b. None) (λ b. refl) in omega arith;
@@ -62,15 +64,16 @@ known-of config unit entries is = record { is = past-is config unit entries; ask
 
 -- where other tables stand as before
 pub tables-same : (config : Configuration) (unit : ℕ) (entries : List Entry) (blocks size blocks' size' : ℕ) (holds holds' : ℕ → Held)
-    → (tokens tokens' : Store HeldBlocks) (jobs jobs' : List Job) (own_stamp own_moment : ℕ)
-    → TablesAgree config unit blocks size holds tokens jobs own_stamp own_moment entries
-    → blocks' ≡ blocks → size' ≡ size → ((b : ℕ) → holds' b ≡ holds b) → tokens'.unit ≡ tokens.unit → tokens'.tokens ≡ tokens.tokens → jobs' ≡ jobs
-    → TablesAgree config unit blocks' size' holds' tokens' jobs' own_stamp own_moment entries
-tables-same config unit entries blocks size blocks' size' holds holds' tokens tokens' jobs jobs' own_stamp own_moment agrees count length same own kept jobs-same = record {
+    → (tokens tokens' : Store HeldBlocks) (jobs jobs' : List Job) (reservations reservations' : Reservations) (own_stamp own_moment : ℕ)
+    → TablesAgree config unit blocks size holds tokens jobs reservations own_stamp own_moment entries
+    → blocks' ≡ blocks → size' ≡ size → ((b : ℕ) → holds' b ≡ holds b) → tokens'.unit ≡ tokens.unit → tokens'.tokens ≡ tokens.tokens → jobs' ≡ jobs → reservations' ≡ reservations
+    → TablesAgree config unit blocks' size' holds' tokens' jobs' reservations' own_stamp own_moment entries
+tables-same config unit entries blocks size blocks' size' holds holds' tokens tokens' jobs jobs' reservations reservations' own_stamp own_moment agrees count length same own kept jobs-same reserved = record {
   record_is = agrees.record_is;
   blocks = record { count = count ∙ agrees.blocks.count; size = length ∙ agrees.blocks.size; same = λ b h. same b ∙ agrees.blocks.same b h };
   tokens = record { unit = own ∙ agrees.tokens.unit; tokens = kept ∙ agrees.tokens.tokens };
   jobs = jobs-same ∙ agrees.jobs;
+  reservations = reserved ∙ agrees.reservations;
   stamp = agrees.stamp;
   moment = agrees.moment;
   quota = agrees.quota;
@@ -89,7 +92,7 @@ rods-alike u at size f g long same (TokenChange.Delete serial) tokens may = refl
 
 -- what an entry needs of the act's plan, and of the tables after it
 pub record Done (config : Configuration) (unit : ℕ) (entries : List Entry) (e : Entry) (plan : Plan) (blocks size blocks' size' : ℕ) (holds holds' : ℕ → Held)
-    (tokens tokens' : Store HeldBlocks) (jobs jobs' : List Job) : Type 0 where
+    (tokens tokens' : Store HeldBlocks) (jobs jobs' : List Job) (reservations reservations' : Reservations) : Type 0 where
   pub planned : IsPlan config unit (past_of config unit entries) e.actor e.moment e.act plan
   pub count : blocks' ≡ blocks
   pub long : size' ≡ size
@@ -97,16 +100,17 @@ pub record Done (config : Configuration) (unit : ℕ) (entries : List Entry) (e 
   pub own : tokens'.unit ≡ tokens.unit
   pub kept : tokens'.tokens ≡ tokens_after (rod_now size holds) plan.tokens (max e.moment (moment (past_of config unit entries))) tokens.tokens
   pub changed : jobs' ≡ jobs_after plan.jobs jobs
+  pub reserved : reservations' ≡ unwrap_or plan.reservations reservations
 
 -- where the tables were brought on by the plan, and the counters moved on
 pub tables-step : (config : Configuration) (unit : ℕ) (entries : List Entry) (e : Entry) (plan : Plan)
-    → (blocks size blocks' size' : ℕ) (holds holds' : ℕ → Held) (tokens tokens' : Store HeldBlocks) (jobs jobs' : List Job) (own_stamp own_moment moment' : ℕ)
-    → TablesAgree config unit blocks size holds tokens jobs own_stamp own_moment entries
+    → (blocks size blocks' size' : ℕ) (holds holds' : ℕ → Held) (tokens tokens' : Store HeldBlocks) (jobs jobs' : List Job) (reservations reservations' : Reservations) (own_stamp own_moment moment' : ℕ)
+    → TablesAgree config unit blocks size holds tokens jobs reservations own_stamp own_moment entries
     → e.unit ≡ unit → IsAsked config unit (deed config unit (past_of config unit entries) e)
-    → Done config unit entries e plan blocks size blocks' size' holds holds' tokens tokens' jobs jobs'
+    → Done config unit entries e plan blocks size blocks' size' holds holds' tokens tokens' jobs jobs' reservations reservations'
     → moment' ≡ max e.moment own_moment
-    → TablesAgree config unit blocks' size' holds' tokens' jobs' e.stamp moment' (entries ++ e ∷ [])
-tables-step config unit entries e plan blocks size blocks' size' holds holds' tokens tokens' jobs jobs' own_stamp own_moment moment' agrees here asked done m =
+    → TablesAgree config unit blocks' size' holds' tokens' jobs' reservations' e.stamp moment' (entries ++ e ∷ [])
+tables-step config unit entries e plan blocks size blocks' size' holds holds' tokens tokens' jobs jobs' reservations reservations' own_stamp own_moment moment' agrees here asked done m =
     let past = past_of config unit entries in
     let d = deed config unit past e in
     let u = unit_of config unit in
@@ -130,6 +134,7 @@ tables-step config unit entries e plan blocks size blocks' size' holds holds' to
       blocks = rw next blocks_now;
       tokens = rw next tokens_now;
       jobs = rw next (done.changed ∙ ap (jobs_after plan.jobs) agrees.jobs ∙ sym (done.planned.jobs d is));
+      reservations = rw next (done.reserved ∙ ap (unwrap_or plan.reservations) agrees.reservations ∙ done.planned.reservations);
       stamp = rw next refl;
       moment = rw next (m ∙ ap (max e.moment) agrees.moment);
       quota = rw next (quota-step config unit past e agrees.quota);

@@ -296,14 +296,14 @@ no-piece config unit past actor at act key otherwise (asked, inl adv) none =
     rw (adv.act, adv.none) (go adv.id (sym (ap (would_serve past actor) adv.act) ∙ none))
   where
     go : (id : ℕ) → would_serve past actor (Act.Advance id) ≡ None → IsPlan config unit past actor at (Act.Advance id) (quiet (Answer.Refused invalid_field_in_cdb))
-    go id e = refused-plan config unit past actor at (Act.Advance id) invalid_field_in_cdb (sym (ap (progress (unit_of config unit) past (Answer.Refused invalid_field_in_cdb)) e)) (λ s. refl) e
+    go id e = refused-plan config unit past actor at (Act.Advance id) invalid_field_in_cdb (sym (ap (progress (unit_of config unit) past (Answer.Refused invalid_field_in_cdb)) e)) (λ s. refl) e refl
 no-piece config unit past actor at act key otherwise (asked, inr pump) none =
     rw (pump.act, pump.none) (go (sym (ap (would_serve past actor) pump.act) ∙ none))
   where
     go : would_serve past actor Act.Pump ≡ None → IsPlan config unit past actor at Act.Pump (quiet Answer.Idle)
     go e =
-        plain-plan config unit past actor at Act.Pump Answer.Idle BlockChange.Nothing (sym (ap (progress (unit_of config unit) past Answer.Idle) e)) (sym (ap piece_of e)) tt
-        (record { making = refl; deletes = λ s. refl; redeems = λ s. refl }) e
+        plain-plan config unit past actor at Act.Pump Answer.Idle BlockChange.Nothing None (sym (ap (progress (unit_of config unit) past Answer.Idle) e)) (sym (ap piece_of e)) tt
+        (record { making = refl; deletes = λ s. refl; redeems = λ s. refl }) e refl
 
 -- ---- operations that are ended
 
@@ -322,15 +322,15 @@ some-there (Some x) e = record { item = x; is = refl }
 
 pub end-none : (config : Configuration) (unit : ℕ) (past : List Deed) (actor : Actor) (at id : ℕ) → would_serve past actor (Act.End id) ≡ None
     → IsPlan config unit past actor at (Act.End id) (quiet (Answer.Refused invalid_field_in_cdb))
-end-none config unit past actor at id e = refused-plan config unit past actor at (Act.End id) invalid_field_in_cdb (sym (ap answer_end e)) (λ s. refl) e
+end-none config unit past actor at id e = refused-plan config unit past actor at (Act.End id) invalid_field_in_cdb (sym (ap answer_end e)) (λ s. refl) e refl
 
 pub abort-none : (config : Configuration) (unit : ℕ) (past : List Deed) (actor : Actor) (at id : ℕ) → would_serve past actor (Act.Abort id) ≡ None
     → IsPlan config unit past actor at (Act.Abort id) (quiet (Answer.Refused invalid_field_in_cdb))
-abort-none config unit past actor at id e = refused-plan config unit past actor at (Act.Abort id) invalid_field_in_cdb (sym (ap done_if e)) (λ s. refl) e
+abort-none config unit past actor at id e = refused-plan config unit past actor at (Act.Abort id) invalid_field_in_cdb (sym (ap done_if e)) (λ s. refl) e refl
 
 pub close-none : (config : Configuration) (unit : ℕ) (past : List Deed) (actor : Actor) (at id : ℕ) (result : CopyEnd) → would_serve past actor (Act.Close id result) ≡ None
     → IsPlan config unit past actor at (Act.Close id result) (quiet (Answer.Refused invalid_field_in_cdb))
-close-none config unit past actor at id result e = refused-plan config unit past actor at (Act.Close id result) invalid_field_in_cdb (sym (ap done_if e)) (λ s. refl) e
+close-none config unit past actor at id result e = refused-plan config unit past actor at (Act.Close id result) invalid_field_in_cdb (sym (ap done_if e)) (λ s. refl) e refl
 
 -- the report of an operation that an End would serve tells its count
 pub end-count : (config : Configuration) (unit : ℕ) (past : List Deed) (actor : Actor) (id : ℕ) (o : Operation) (report : OpReport) → IsKnown config unit past → IsNexus actor
@@ -367,9 +367,9 @@ pub report-plan : (config : Configuration) (unit : ℕ) (past : List Deed) (acto
     → Some report ≡ option_map (λ (j : Job). reports.report_of j.work) (find (jobs.has_key (key_of actor OfToken id)) (jobs_of past))
     → IsPlan config unit past actor at (Act.Report id) (quiet (Answer.Report report))
 report-plan config unit past actor at id report known mine told =
-    plain-plan config unit past actor at (Act.Report id) (Answer.Report report) BlockChange.Nothing (go (find (jobs.has_key (key_of actor OfToken id)) (jobs_of past)) (find (has_key actor OfToken id) (kept past)) told
+    plain-plan config unit past actor at (Act.Report id) (Answer.Report report) BlockChange.Nothing None (go (find (jobs.has_key (key_of actor OfToken id)) (jobs_of past)) (find (has_key actor OfToken id) (kept past)) told
     (report-is config unit past actor id known mine)) refl tt
-    (record { making = refl; deletes = λ s. refl; redeems = λ s. refl }) (find-none (running past))
+    (record { making = refl; deletes = λ s. refl; redeems = λ s. refl }) (find-none (running past)) refl
   where
     go : (j : Option Job) (w : Option Operation) → Some report ≡ option_map (λ (j : Job). reports.report_of j.work) j
         → option_map (λ (j : Job). Answer.Report (reports.report_of j.work)) j ≡ option_map (λ (o : Operation). Answer.Report (report_of o)) w
@@ -383,7 +383,7 @@ pub report-none : (config : Configuration) (unit : ℕ) (past : List Deed) (acto
     → IsPlan config unit past actor at (Act.Report id) (quiet (Answer.Refused invalid_field_in_cdb))
 report-none config unit past actor at id known mine told =
     refused-plan config unit past actor at (Act.Report id) invalid_field_in_cdb (go (find (jobs.has_key (key_of actor OfToken id)) (jobs_of past)) (find (has_key actor OfToken id) (kept past)) told
-    (report-is config unit past actor id known mine)) (λ s. refl) (find-none (running past))
+    (report-is config unit past actor id known mine)) (λ s. refl) (find-none (running past)) refl
   where
     go : (j : Option Job) (w : Option Operation) → None ≡ option_map (λ (j : Job). reports.report_of j.work) j
         → option_map (λ (j : Job). Answer.Report (reports.report_of j.work)) j ≡ option_map (λ (o : Operation). Answer.Report (report_of o)) w
@@ -396,9 +396,9 @@ pub recall-plan : (config : Configuration) (unit : ℕ) (past : List Deed) (acto
     → Some end ≡ option_map (λ (j : Job). reports.result_of j.work) (find (jobs.has_key (key_of actor OfCopy id)) (jobs_of past))
     → IsPlan config unit past actor at (Act.Recall id) (quiet (Answer.Copy end))
 recall-plan config unit past actor at id end known mine told =
-    plain-plan config unit past actor at (Act.Recall id) (Answer.Copy end) BlockChange.Nothing (go (find (jobs.has_key (key_of actor OfCopy id)) (jobs_of past)) (find (has_key actor OfCopy id) (kept past)) told
+    plain-plan config unit past actor at (Act.Recall id) (Answer.Copy end) BlockChange.Nothing None (go (find (jobs.has_key (key_of actor OfCopy id)) (jobs_of past)) (find (has_key actor OfCopy id) (kept past)) told
     (recall-is config unit past actor id known mine)) refl tt
-    (record { making = refl; deletes = λ s. refl; redeems = λ s. refl }) (find-none (running past))
+    (record { making = refl; deletes = λ s. refl; redeems = λ s. refl }) (find-none (running past)) refl
   where
     go : (j : Option Job) (w : Option Operation) → Some end ≡ option_map (λ (j : Job). reports.result_of j.work) j
         → option_map (λ (j : Job). Answer.Copy (reports.result_of j.work)) j ≡ option_map (λ (o : Operation). Answer.Copy (result_of o.servers)) w
@@ -412,7 +412,7 @@ pub recall-none : (config : Configuration) (unit : ℕ) (past : List Deed) (acto
     → IsPlan config unit past actor at (Act.Recall id) (quiet (Answer.Refused invalid_field_in_cdb))
 recall-none config unit past actor at id known mine told =
     refused-plan config unit past actor at (Act.Recall id) invalid_field_in_cdb (go (find (jobs.has_key (key_of actor OfCopy id)) (jobs_of past)) (find (has_key actor OfCopy id) (kept past)) told
-    (recall-is config unit past actor id known mine)) (λ s. refl) (find-none (running past))
+    (recall-is config unit past actor id known mine)) (λ s. refl) (find-none (running past)) refl
   where
     go : (j : Option Job) (w : Option Operation) → None ≡ option_map (λ (j : Job). reports.result_of j.work) j
         → option_map (λ (j : Job). Answer.Copy (reports.result_of j.work)) j ≡ option_map (λ (o : Operation). Answer.Copy (result_of o.servers)) w

@@ -5,11 +5,10 @@ use Rattle.cm_base.specs.Configuration.{Configuration}
 use Rattle.cm_history.specs.declared.act.Act.{Act}
 use Rattle.cm_history.specs.declared.act.Actor.{Actor}
 use Rattle.cm_history.specs.declared.act.Entry.{Entry}
-use Rattle.cm_history.specs.Folding.{StandsFor}
 use Rattle.cm_history.specs.Image.{Image}
 use Rattle.unit_core.specs.UnitState.{UnitState, Stands}
 use Rattle.unit_core.specs.Acting as acting
-use Rattle.unit_core.specs.Unfolded.{IsUnfolded, UnfoldedUnit, unfolded, is_full_at, entry_at}
+use Rattle.unit_core.specs.Unfolded.{IsUnfolded, unfolded, is_full_at, entry_at}
 
 -- a unit that nothing was asked of yet
 pub unfolded-first : (s : UnitState) (config : Configuration) (n : ℕ) → s.config ≡ config → s.unit ≡ n → s.kept ≡ [] → s.folded ≡ 0 → Stands s []

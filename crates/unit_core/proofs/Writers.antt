@@ -1,7 +1,6 @@
 -- The deeds that wrote what is seen of blocks, after one more deed
 use Rattle.std.proofs.Common.{◌≡◌, ℕ, zero, suc, ◌+◌, ◌-◌, ◌<◌, ◌≤◌, List, [], ◌∷◌, ◌++◌, length, refl, ap, sym, ◌∙◌, subst, arith, true, false, Bool, inl, inr}
-use Rattle.std.specs.Prelude.{Option, Some, None, is_some, ◌==◌, ◌&&◌, ◌||◌, ◌⊎◌, not, map, slice_get, ⊤, if◌then◌else◌}
-use Rattle.std.specs.List.{list_any}
+use Rattle.std.specs.Prelude.{Option, Some, None, is_some, ◌==◌, ◌&&◌, ◌⊎◌, not, map, slice_get, ⊤, if◌then◌else◌}
 use Rattle.std.proofs.lemmas.Bool.{cases_lt}
 use Rattle.std.proofs.lemmas.Bool.Decides.{nat_tests}
 use Rattle.cm_base.specs.Configuration.{Configuration}
@@ -14,7 +13,7 @@ use Rattle.cm_history.specs.Deeds.{Deed, is_refusal, is_answered}
 use Rattle.cm_history.specs.Tokens.{Token, Live, Expired, Evicted, Deleted, tokens, token_after, made_token, is_live, is_over, is_delete_of, is_populate, is_redeem_of, gives_way}
 use Rattle.cm_history.proofs.PublicLaws.{Each-in, get-in, Has, IsMade, all-made, token-kept, IsPast}
 use Rattle.unit_core.specs.Versions.{Sight, Now, ByToken, last_writer, writer_shown, writer_seen}
-use Rattle.unit_core.specs.inner.Seen.{Origin, Nothing, Put, Before, origin, origin_made, put_from, seen_after, ranges_made}
+use Rattle.unit_core.specs.inner.Seen.{Nothing, Put, Before, origin_made, put_from, seen_after, ranges_made}
 
 -- what is current after the writings of a put
 pub writer-now : (put : ℕ) (ws : List Writing) (made : Option (List Range)) (serial : ℕ) (lives : ℕ → Bool) (seen : Sight → ℕ → Option ℕ) (block : ℕ)

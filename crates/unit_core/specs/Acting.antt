@@ -21,6 +21,10 @@ use Rattle.unit_core.specs.UnitState.{UnitState}
 abbrev pub past : UnitState → List Entry → List Deed
 past s entries = past_of s.config s.unit entries
 
+-- the greatest moment of these entries
+abbrev pub moment_at : UnitState → List Entry → ℕ
+moment_at s entries = moment (past s entries)
+
 -- the record, which has not the folded entries, has no room for the act
 abbrev pub is_full_at : UnitState → List Entry → Actor → ℕ → Act → Bool
 is_full_at s entries actor stamp act = is_full (unit_of s.config s.unit) s.folded (past s entries) actor stamp act

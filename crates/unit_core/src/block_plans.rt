@@ -11,7 +11,7 @@ use cm_base::{OutOfMemory, UnitConfig};
 use cm_history::Answer;
 use lba_ranges::{BlockList, Blocks, Range, RangeList};
 use std::alloc::Global;
-use unmap_thin::{map_runs, mapped_after};
+use unmap_thin::{exceeds_quota, map_runs};
 
 /// What an act is answered, and what it is to write.
 #[derive(Drop)]
@@ -81,7 +81,7 @@ pub(crate) fn write<B: Blocks>(
         return Ok(answered(refusals::lba_out_of_range()));
     }
     let ranges = row_of(alloc, lba, count as u32)?;
-    if mapped_after(blocks, &ranges, list) > unit.quota {
+    if exceeds_quota(blocks, &ranges, list, unit.quota) {
         return Ok(answered(refusals::space_allocation_failed()));
     }
     let list = list.copy(alloc)?;

@@ -44,6 +44,7 @@ fn record_all<R: Recorder>(history: &mut History, payload: &mut u64, recorder: &
     ensures failed { result ≡ FoldEnd.Failed → Rose (R.record_faults recorder.old) (R.record_faults recorder.new) }
     ensures counts { R.record_faults recorder.old ≤ R.record_faults recorder.new }
     ensures same { R.absent recorder.new ≡ R.absent recorder.old }
+    ensures front { R.front recorder.new ≡ R.front recorder.old }
 {
     while !history.is_empty() {
         let entry = history.at(0);
@@ -85,6 +86,7 @@ where
         ensures failed { result ≡ FoldEnd.Failed → Rose (R.record_faults recorder.old) (R.record_faults recorder.new) }
         ensures counts { R.record_faults recorder.old ≤ R.record_faults recorder.new }
         ensures same { R.absent recorder.new ≡ R.absent recorder.old }
+        ensures front { R.front recorder.new ≡ R.front recorder.old }
     {
         standing_law(&self.core.config, self.core.unit);
         let before = self.history.len() as u64;

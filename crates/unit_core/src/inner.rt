@@ -47,11 +47,11 @@ where
 
     ghost IsAfter = { λ c entries. TablesAgree c.config c.unit
         (B.blocks c.tables.blocks) (B.block_length c.tables.blocks) (B.holds c.tables.blocks)
-        (rods_of B.number (B.block_length c.tables.blocks) (B.shown c.tables.blocks) c.tables.tokens) c.tables.jobs c.last_stamp c.moment entries };
+        (rods_of B.number (B.block_length c.tables.blocks) (B.shown c.tables.blocks) c.tables.tokens) c.tables.jobs c.tables.reservations c.last_stamp c.moment entries };
 
     ghost IsReached = { λ c. (entries : List Entry) × TablesAgree c.config c.unit
         (B.blocks c.tables.blocks) (B.block_length c.tables.blocks) (B.holds c.tables.blocks)
-        (rods_of B.number (B.block_length c.tables.blocks) (B.shown c.tables.blocks) c.tables.tokens) c.tables.jobs c.last_stamp c.moment entries };
+        (rods_of B.number (B.block_length c.tables.blocks) (B.shown c.tables.blocks) c.tables.tokens) c.tables.jobs c.tables.reservations c.last_stamp c.moment entries };
 
     ghost IsPinned = { λ c. ArePinned B.number (B.blocks c.tables.blocks) (B.pinned c.tables.blocks) (holder None c.tables.tokens.tokens) };
 }

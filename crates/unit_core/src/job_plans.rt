@@ -8,6 +8,7 @@ ghost use Rattle.cm_history.specs.declared.act.Actor.{Actor};
 ghost use Rattle.cm_history.specs.Limits.{within_limits};
 ghost use Rattle.cm_history.specs.Legal.{may_ask};
 ghost use Rattle.cm_history.specs.declared.act.Entry.{Entry};
+ghost use Rattle.cm_history.specs.Reserving.{reservations, bars_act};
 ghost use Rattle.cm_history.specs.History.{past_of};
 ghost use Rattle.unit_core.specs.inner.Planning.{IsPlan, WritesPiece, piece_plan};
 
@@ -23,7 +24,7 @@ use copy_jobs::{Key, NextPiece};
 use lba_ranges::{BlockList, Pins, RangeList};
 use scsi_sense::Sense;
 use token_pins::TokenChange;
-use unmap_thin::mapped_after;
+use unmap_thin::exceeds_quota;
 
 /// How an operation stands behind a piece.
 fn state_after(is_last: bool) -> OpState
@@ -53,6 +54,7 @@ where
         requires limits { within_limits self.now.config self.now.unit (Act.Start id background ranges.now rod.now) ≡ true }
         requires asked { may_ask self.now.unit actor (Act.Start id background ranges.now rod.now) ≡ true }
         ensures { IfOk result (λ p. (h : List Entry) → ⟦<Core<B> as Reached>⟧.IsAfter self.now h → (at : ℕ)
+            → bars_act (reservations (past_of self.now.config self.now.unit h)) actor (Act.Start id background ranges.now rod.now) ≡ false
             → IsPlan self.now.config self.now.unit (past_of self.now.config self.now.unit h) actor at (Act.Start id background ranges.now rod.now) p) }
     {
         let key = token_key(actor, id);
@@ -117,7 +119,7 @@ where
             ranges,
             list,
         } = piece;
-        if mapped_after(&self.tables.blocks, &ranges, &list) > quota {
+        if exceeds_quota(&self.tables.blocks, &ranges, &list, quota) {
             let answer = Answer::Progress {
                 state: OpState::Failed(Sense::space_allocation_failed()),
                 count: written,
@@ -133,6 +135,7 @@ where
             blocks: BlockChange::Put { ranges, list },
             jobs: JobChange::Move { key, blocks },
             tokens: TokenChange::Nothing,
+            reservations: None,
         }
     }
 

@@ -11,6 +11,7 @@ mod job_plans;
 mod plan;
 mod plans;
 mod refusals;
+mod reservation_plans;
 mod room;
 mod sharing;
 mod tables;

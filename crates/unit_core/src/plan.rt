@@ -1,10 +1,11 @@
-ghost use Rattle.std.specs.Prelude.{◌≡◌};
+ghost use Rattle.std.specs.Prelude.{◌≡◌, Some};
 ghost use Rattle.unit_core.specs.inner.Planning.{quiet, of_blocks};
 
 use crate::block_change::BlockChange;
 use crate::block_plans::BlockPlan;
 use crate::job_change::JobChange;
 use cm_history::Answer;
+use pr_keys::PrState;
 use token_pins::TokenChange;
 
 /// What an act is answered, and what it is to change.
@@ -14,6 +15,8 @@ pub(crate) struct Plan {
     pub blocks: BlockChange,
     pub jobs: JobChange,
     pub tokens: TokenChange,
+    /// What the reservations are to be, if they change.
+    pub reservations: Option<PrState>,
 }
 
 impl Plan {
@@ -26,6 +29,7 @@ impl Plan {
             blocks: BlockChange::Nothing,
             jobs: JobChange::Nothing,
             tokens: TokenChange::Nothing,
+            reservations: None,
         }
     }
 
@@ -38,6 +42,7 @@ impl Plan {
             blocks: BlockChange::Nothing,
             jobs,
             tokens: TokenChange::Nothing,
+            reservations: None,
         }
     }
 
@@ -50,6 +55,20 @@ impl Plan {
             blocks: BlockChange::Nothing,
             jobs: JobChange::Nothing,
             tokens,
+            reservations: None,
+        }
+    }
+
+    /// An act on reservations alone.
+    pub(crate) fn of_reservations(answer: Answer, reservations: PrState) -> Plan
+        ensures { result ≡ record (quiet answer) { reservations = Some reservations } }
+    {
+        Plan {
+            answer,
+            blocks: BlockChange::Nothing,
+            jobs: JobChange::Nothing,
+            tokens: TokenChange::Nothing,
+            reservations: Some(reservations),
         }
     }
 
@@ -62,6 +81,7 @@ impl Plan {
             blocks: plan.change,
             jobs: JobChange::Nothing,
             tokens: TokenChange::Nothing,
+            reservations: None,
         }
     }
 }

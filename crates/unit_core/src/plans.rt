@@ -8,6 +8,7 @@ ghost use Rattle.cm_history.specs.Legal.{may_ask};
 ghost use Rattle.cm_history.specs.declared.act.Entry.{Entry};
 ghost use Rattle.cm_history.specs.Ends.{ends_operation};
 ghost use Rattle.cm_history.specs.History.{past_of};
+ghost use Rattle.cm_history.specs.Reserving.{reservations, bars_act};
 ghost use Rattle.unit_core.specs.inner.Planning.{IsPlan, Reads, Writes};
 
 use crate::inner::{Core, Reached};
@@ -15,7 +16,7 @@ use crate::plan::Plan;
 use crate::room::token_key;
 use crate::{block_plans as blocks, refusals};
 use cm_base::OutOfMemory;
-use cm_history::{Act, Actor, Answer};
+use cm_history::{Act, Actor, Answer, bars};
 use lba_ranges::{BlockList, Pins, RangeList};
 use token_pins::TokenChange;
 
@@ -30,6 +31,24 @@ where
         requires limits { within_limits self.now.config self.now.unit act.now ≡ true }
         requires asked { may_ask self.now.unit actor act.now ≡ true }
         ensures planned { IfOk result (λ p. (h : List Entry) → ⟦<Core<B> as Reached>⟧.IsAfter self.now h
+            → IsPlan self.now.config self.now.unit (past_of self.now.config self.now.unit h) actor moment act.now p) }
+        ensures memory { OnErr result ((h : List Entry) → ⟦<Core<B> as Reached>⟧.IsAfter self.now h
+            → ends_operation (past_of self.now.config self.now.unit h) actor act.now ≡ false) }
+    {
+        if bars(&self.tables.reservations, actor, act) {
+            return Ok(Plan::answered(Answer::Conflict));
+        }
+        self.plan_unbarred(actor, moment, act)
+    }
+
+    /// What an act that no reservation bars is answered, and what it is to change.
+    fn plan_unbarred(&self, actor: Actor, moment: u64, act: &Act) -> Result<Plan, OutOfMemory>
+        requires known { ⟦<Core<B> as Reached>⟧.IsReached self.now }
+        requires pinned { ⟦<Core<B> as Reached>⟧.IsPinned self.now }
+        requires limits { within_limits self.now.config self.now.unit act.now ≡ true }
+        requires asked { may_ask self.now.unit actor act.now ≡ true }
+        ensures planned { IfOk result (λ p. (h : List Entry) → ⟦<Core<B> as Reached>⟧.IsAfter self.now h
+            → bars_act (reservations (past_of self.now.config self.now.unit h)) actor act.now ≡ false
             → IsPlan self.now.config self.now.unit (past_of self.now.config self.now.unit h) actor moment act.now p) }
         ensures memory { OnErr result ((h : List Entry) → ⟦<Core<B> as Reached>⟧.IsAfter self.now h
             → ends_operation (past_of self.now.config self.now.unit h) actor act.now ≡ false) }
@@ -65,13 +84,22 @@ where
             Act::Open { id } => Ok(self.plan_open(actor, *id)),
             Act::Close { id, result } => Ok(self.plan_close(actor, *id, *result)),
             Act::Recall { id } => Ok(self.plan_recall(actor, *id)),
+            Act::PrOut {
+                action,
+                scope,
+                kind,
+                key,
+                action_key,
+            } => self.plan_out(actor, *action, *scope, *kind, *key, *action_key),
+            Act::PrKeys => self.plan_keys(),
+            Act::PrHolder => Ok(self.plan_holder()),
         }
     }
 
     /// Reads blocks as they stand.
     fn plan_read(&self, lba: u64, count: u32) -> Result<Plan, OutOfMemory>
         requires known { ⟦<Core<B> as Reached>⟧.IsReached self.now }
-        ensures { IfOk result (λ p. (h : List Entry) → ⟦<Core<B> as Reached>⟧.IsAfter self.now h → (actor : Actor) (at : ℕ) (act : Act) → Reads lba count act
+        ensures { IfOk result (λ p. (h : List Entry) → ⟦<Core<B> as Reached>⟧.IsAfter self.now h → (actor : Actor) (at : ℕ) (act : Act) → Reads lba count act → bars_act (reservations (past_of self.now.config self.now.unit h)) actor act ≡ false
             → IsPlan self.now.config self.now.unit (past_of self.now.config self.now.unit h) actor at act p) }
     {
         let unit = self.config.unit(self.unit);
@@ -84,7 +112,7 @@ where
         requires known { ⟦<Core<B> as Reached>⟧.IsReached self.now }
         requires length { list.now.block_length ≡ (unit_of self.now.config self.now.unit).block_length }
         requires few { length list.now.items ≤ 2048 }
-        ensures { IfOk result (λ p. (h : List Entry) → ⟦<Core<B> as Reached>⟧.IsAfter self.now h → (actor : Actor) (at : ℕ) (act : Act) → Writes lba list.now act
+        ensures { IfOk result (λ p. (h : List Entry) → ⟦<Core<B> as Reached>⟧.IsAfter self.now h → (actor : Actor) (at : ℕ) (act : Act) → Writes lba list.now act → bars_act (reservations (past_of self.now.config self.now.unit h)) actor act ≡ false
             → IsPlan self.now.config self.now.unit (past_of self.now.config self.now.unit h) actor at act p) }
     {
         let unit = self.config.unit(self.unit);
@@ -95,7 +123,7 @@ where
     /// Unmaps the blocks of the ranges.
     fn plan_unmap(&self, ranges: &RangeList) -> Result<Plan, OutOfMemory>
         requires known { ⟦<Core<B> as Reached>⟧.IsReached self.now }
-        ensures { IfOk result (λ p. (h : List Entry) → ⟦<Core<B> as Reached>⟧.IsAfter self.now h → (actor : Actor) (at : ℕ)
+        ensures { IfOk result (λ p. (h : List Entry) → ⟦<Core<B> as Reached>⟧.IsAfter self.now h → (actor : Actor) (at : ℕ) → bars_act (reservations (past_of self.now.config self.now.unit h)) actor (Act.Unmap ranges.now) ≡ false
             → IsPlan self.now.config self.now.unit (past_of self.now.config self.now.unit h) actor at (Act.Unmap ranges.now) p) }
     {
         let unit = self.config.unit(self.unit);
@@ -106,7 +134,7 @@ where
     /// Which blocks are mapped from `lba` on.
     fn plan_status(&self, lba: u64) -> Result<Plan, OutOfMemory>
         requires known { ⟦<Core<B> as Reached>⟧.IsReached self.now }
-        ensures { IfOk result (λ p. (h : List Entry) → ⟦<Core<B> as Reached>⟧.IsAfter self.now h → (actor : Actor) (at : ℕ)
+        ensures { IfOk result (λ p. (h : List Entry) → ⟦<Core<B> as Reached>⟧.IsAfter self.now h → (actor : Actor) (at : ℕ) → bars_act (reservations (past_of self.now.config self.now.unit h)) actor (Act.MapStatus lba) ≡ false
             → IsPlan self.now.config self.now.unit (past_of self.now.config self.now.unit h) actor at (Act.MapStatus lba) p) }
     {
         let unit = self.config.unit(self.unit);

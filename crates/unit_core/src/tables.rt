@@ -1,4 +1,4 @@
-ghost use Rattle.std.specs.Prelude.{◌≡◌, ℕ, ◌≤◌, ◌<◌, ◌||◌, [], length, None, IfOk, OnOk, OnErr, true, false};
+ghost use Rattle.std.specs.Prelude.{◌≡◌, ℕ, ◌≤◌, ◌<◌, ◌||◌, [], length, None, unwrap_or, IfOk, OnOk, OnErr, true, false};
 ghost use Rattle.cm_base.specs.Configuration.{IsUnit};
 ghost use Rattle.cm_base.specs.Units.{unit_of};
 ghost use Rattle.lba_ranges.specs.Versions.{Writers, IsNew, no_writers};
@@ -7,6 +7,7 @@ ghost use Rattle.unit_core.specs.inner.BlockChanges.{writings_of, MayChange, is_
 ghost use Rattle.unit_core.specs.inner.JobChanges.{jobs_after, MayJob, grows};
 ghost use Rattle.token_pins.specs.Pinning.{rods_of, rod_now, holder, ArePinned};
 ghost use Rattle.token_pins.specs.TokenChanges.{tokens_after, MayPin, MayToken, is_make, ranges_pinned};
+ghost use Rattle.pr_keys.specs.Reservations.{unreserved};
 ghost use Rattle.unit_core.specs.inner.Planning.{takes_none};
 ghost use Rattle.unit_core.specs.inner.Seen.{AreWriters, lives_in, put_seen, seen_after};
 
@@ -15,11 +16,12 @@ use cm_base::{Config, OutOfMemory};
 use cm_history::Answer;
 use copy_jobs::JobTable;
 use lba_ranges::Pins;
+use pr_keys::PrState;
 use rod_store::RodStore;
 use std::alloc::Global;
 use token_pins::{PinnedRod, give_up, settle};
 
-/// What a unit answers from: its blocks, its tokens and its operations. A live token is a pin of its blocks.
+/// What a unit answers from: its blocks, its tokens, its operations and its reservations. A live token is a pin of its blocks.
 #[derive(Drop)]
 pub(crate) struct Tables<B: Pins + Drop>
 where
@@ -28,6 +30,16 @@ where
     pub blocks: B,
     pub tokens: RodStore<PinnedRod<B::Pin>>,
     pub jobs: JobTable,
+    pub reservations: PrState,
+}
+
+/// The reservations change, if they are to.
+fn replace(reservations: &mut PrState, after: Option<PrState>)
+    ensures { reservations.new ≡ unwrap_or after reservations.old }
+{
+    if let Some(after) = after {
+        *reservations = after;
+    }
 }
 
 impl<B: Pins + Drop> Tables<B>
@@ -45,6 +57,7 @@ where
         ensures tokens { IfOk result (λ t. t.tokens.tokens ≡ []) }
         ensures pinned { IfOk result (λ t. ArePinned B.number (B.blocks t.blocks) (B.pinned t.blocks) (holder None t.tokens.tokens)) }
         ensures jobs { IfOk result (λ t. t.jobs ≡ []) }
+        ensures reservations { IfOk result (λ t. t.reservations ≡ unreserved) }
         ensures written { IfOk result (λ t. B.written_by t.blocks no_writers) }
     {
         let told = config.unit(unit);
@@ -54,6 +67,7 @@ where
             blocks,
             tokens,
             jobs: JobTable::new(alloc),
+            reservations: PrState::new(alloc),
         })
     }
 
@@ -71,6 +85,7 @@ where
         ensures wrote { OnOk result ((block : ℕ) → B.holds self.new.blocks block
             ≡ after (writings_of plan.blocks) block (B.holds self.old.blocks block)) }
         ensures jobs { OnOk result (self.new.jobs ≡ jobs_after plan.jobs self.old.jobs) }
+        ensures reservations { OnOk result (self.new.reservations ≡ unwrap_or plan.reservations self.old.reservations) }
         ensures tokens { OnOk result ((rods_of B.number (B.block_length self.new.blocks) (B.shown self.new.blocks) self.new.tokens).tokens
             ≡ tokens_after (rod_now (B.block_length self.old.blocks) (B.holds self.old.blocks)) plan.tokens now
             (rods_of B.number (B.block_length self.old.blocks) (B.shown self.old.blocks) self.old.tokens).tokens) }
@@ -79,6 +94,7 @@ where
         ensures length { B.block_length self.new.blocks ≡ B.block_length self.old.blocks }
         ensures same_blocks { OnErr result ((block : ℕ) → B.holds self.new.blocks block ≡ B.holds self.old.blocks block) }
         ensures same_jobs { OnErr result (self.new.jobs ≡ self.old.jobs) }
+        ensures same_reservations { OnErr result (self.new.reservations ≡ self.old.reservations) }
         ensures same_tokens { OnErr result ((rods_of B.number (B.block_length self.new.blocks) (B.shown self.new.blocks) self.new.tokens).tokens
             ≡ (rods_of B.number (B.block_length self.old.blocks) (B.shown self.old.blocks) self.old.tokens).tokens) }
         ensures memory { OnErr result (takes_none plan ≡ false) }
@@ -93,6 +109,7 @@ where
             blocks,
             jobs,
             tokens,
+            reservations,
         } = plan;
         tokens.reserve(&mut self.tokens)?;
         blocks.apply(&mut self.blocks)?;
@@ -102,6 +119,7 @@ where
             return Err(refused);
         }
         settle(change, now, &mut self.tokens, &mut self.blocks);
+        replace(&mut self.reservations, reservations);
         Ok(answer)
     }
 }

@@ -1,6 +1,7 @@
 ghost use Rattle.std.specs.Prelude.{◌≡◌, length};
 
 mod asking;
+mod reserving;
 mod stored;
 
 use super::*;

@@ -1,10 +1,11 @@
 // What the acts on tokens are answered, and what they are to change.
-ghost use Rattle.std.specs.Prelude.{◌≡◌, ◌<◌, ℕ, length, IfOk, true, List};
+ghost use Rattle.std.specs.Prelude.{◌≡◌, ◌<◌, ℕ, length, IfOk, true, false, List};
 ghost use Rattle.cm_history.specs.declared.act.Act.{Act};
 ghost use Rattle.cm_history.specs.declared.act.Actor.{Actor};
 ghost use Rattle.cm_history.specs.Limits.{within_limits};
 ghost use Rattle.cm_history.specs.Legal.{may_ask};
 ghost use Rattle.cm_history.specs.declared.act.Entry.{Entry};
+ghost use Rattle.cm_history.specs.Reserving.{reservations, bars_act};
 ghost use Rattle.cm_history.specs.History.{past_of};
 ghost use Rattle.unit_core.specs.inner.Planning.{IsPlan};
 
@@ -38,6 +39,7 @@ where
         requires limits { within_limits self.now.config self.now.unit (Act.Populate id timeout ranges.now) ≡ true }
         requires asked { may_ask self.now.unit actor (Act.Populate id timeout ranges.now) ≡ true }
         ensures { IfOk result (λ p. (h : List Entry) → ⟦<Core<B> as Reached>⟧.IsAfter self.now h → (at : ℕ)
+            → bars_act (reservations (past_of self.now.config self.now.unit h)) actor (Act.Populate id timeout ranges.now) ≡ false
             → IsPlan self.now.config self.now.unit (past_of self.now.config self.now.unit h) actor at (Act.Populate id timeout ranges.now) p) }
     {
         let key = token_key(actor, id);
@@ -66,6 +68,7 @@ where
                 blocks,
                 ranges,
             },
+            reservations: None,
         })
     }
 

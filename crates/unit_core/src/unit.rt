@@ -13,7 +13,7 @@ ghost use Rattle.cm_history.specs.Forms.{HasForm};
 ghost use Rattle.cm_history.specs.Tokens.{Token, rod};
 ghost use Rattle.unit_core.specs.UnitState.{UnitState, Stands};
 ghost use Rattle.unit_core.specs.Versions.{needed};
-ghost use Rattle.unit_core.specs.Acting.{past, is_full_at, entry_at, serves_operation, ends_operation_at, MayRedeem};
+ghost use Rattle.unit_core.specs.Acting.{past, moment_at, is_full_at, entry_at, serves_operation, ends_operation_at, MayRedeem};
 
 use crate::inner::Core;
 use crate::room::bytes_in;
@@ -66,7 +66,7 @@ where
       folded = u.folded;
       image = image_shown u.core.moment u.core.last_stamp (u.folded + length u.history.entries)
           (B.blocks u.core.tables.blocks) (B.holds u.core.tables.blocks)
-          (rods_of B.number (B.block_length u.core.tables.blocks) (B.shown u.core.tables.blocks) u.core.tables.tokens).tokens u.core.tables.jobs;
+          (rods_of B.number (B.block_length u.core.tables.blocks) (B.shown u.core.tables.blocks) u.core.tables.tokens).tokens u.core.tables.jobs u.core.tables.reservations;
       shares = shares_table (B.blocks u.core.tables.blocks) (length u.core.tables.tokens.tokens)
           (shares_shown B.number (B.shares u.core.tables.blocks) u.core.tables.tokens.tokens);
     } };
@@ -76,7 +76,7 @@ where
         × TablesAgree u.core.config u.core.unit
         (B.blocks u.core.tables.blocks) (B.block_length u.core.tables.blocks) (B.holds u.core.tables.blocks)
         (rods_of B.number (B.block_length u.core.tables.blocks) (B.shown u.core.tables.blocks) u.core.tables.tokens)
-        u.core.tables.jobs u.core.last_stamp u.core.moment whole
+        u.core.tables.jobs u.core.tables.reservations u.core.last_stamp u.core.moment whole
         × RecordAgrees u.core.config u.core.unit u.history.entries u.folded u.history.spare u.payload whole
         × ArePinned B.number (B.blocks u.core.tables.blocks) (B.pinned u.core.tables.blocks) (holder None u.core.tables.tokens.tokens)
         × AreWriters B.number (B.written_by u.core.tables.blocks) u.core.tables.tokens.tokens (writer_seen (past_of u.core.config u.core.unit whole)) };
@@ -177,6 +177,14 @@ where
         ensures told { (h : List Entry) → Stands self.now h → result ≡ last_stamp (past self.now h) }
     {
         self.core.last_stamp
+    }
+
+    /// The greatest moment of the entries so far, in seconds, and 0 where there is none. It takes no memory.
+    pub fn moment(&self) -> u64
+        ensures shown { result ≡ self.now.image.moment }
+        ensures told { (h : List Entry) → Stands self.now h → result ≡ moment_at self.now h }
+    {
+        self.core.moment
     }
 
     /// How many entries the record has. It takes no memory.

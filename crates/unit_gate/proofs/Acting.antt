@@ -40,6 +40,7 @@ module _ (s : RecordedState) (new : UnitState) (asked : AskedAct)
   keeps-acted fits keeps = record {
     first = subst (FirstFits fits) (sym kept) (first-pushed fits s.unit.kept (made s.unit asked) keeps.first);
     absent = keeps.absent;
+    front = keeps.front;
     unfolded = λ none. folded ∙ keeps.unfolded none;
     history = keeps.history ++ entry_of (kin_of s) keeps.history asked ∷ [];
     stands = stands-acted keeps.history keeps.stands;

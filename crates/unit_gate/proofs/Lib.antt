@@ -1,6 +1,9 @@
 pub mod Lists
 pub mod Stamps
 pub mod Standing
+pub mod Endings
+pub mod Replaying
+pub mod Ending
 pub mod Acting
 pub mod Refusing
 pub mod Seats

@@ -1,6 +1,6 @@
 -- What an act in a turn does to the seat
 use Rattle.std.proofs.Common.{Ok, Err, IfOk, IfErr, ◌≤◌, ◌≡◌, ℕ, List, length, refl, ap, sym, ◌∙◌, subst, arith, inl, inr, true, false}
-use Rattle.std.specs.Prelude.{Option, None, Some, IfSome, IsSome}
+use Rattle.std.specs.Prelude.{Option, None, Some, Bool, IfSome, IsSome, slice_index_or}
 use Rattle.std.specs.declared.result.Result.{Result}
 use mathlib.Core.List.{IsPrefix}
 use Rattle.cm_history.specs.declared.act.Entry.{Entry}
@@ -17,7 +17,8 @@ use Rattle.unit_gate.specs.Asking.{entry_of, is_full_at}
 use Rattle.unit_gate.specs.Recorded.{RecordedState, StandsFor, kin_of, marks_of, newest}
 use Rattle.unit_gate.specs.UnitActs as unit
 use Rattle.unit_gate.specs.UnitActs.{DidAct, NotDone}
-use Rattle.unit_gate.specs.SeatActs.{UnitSeat, HasActed, HasSeen, HasTaken, IsRefused, WasFolded, counted, faults_of, folded_of}
+use Rattle.unit_gate.specs.inner.Keeping as keeping
+use Rattle.unit_gate.specs.SeatActs.{UnitSeat, HasActed, HasSeen, HasTaken, IsRefused, WasFolded, WasSaved, IsSaved, counted, faults_of, folded_of, late_of}
 use Rattle.unit_gate.proofs.Standing.{all-folded, stands-history}
 
 -- ---- in the turn
@@ -138,6 +139,33 @@ rose-later : (first mid last : ℕ) → first ≤ mid → Rose mid last → Rose
 rose-later first mid last low (inl more) = inl (omega (arith, low, more))
 rose-later first mid last low (inr end) = inr end
 
+-- an eager fold told what became of it
+pub saved-in-turn : (v v0 first c1 f0 last : RecordedState) (eager : Bool) (seat mid after : UnitSeat) → v0 ≡ v → seat.marks ≡ marks_of v → AtMost (marks_of v0) (marks_of first) → kin_of first ≡ kin_of v0
+    → c1 ≡ first → f0 ≡ c1 → (eager ≡ true → f0.opening.absent ≡ false → keeping.WasSaved f0 last) → StandsFor last mid.seen → after ≡ record mid { holds = false; marks = marks_of last }
+    → IsSaved eager (kin_of v) (idle seat) after
+saved-in-turn v v0 first c1 f0 last eager seat mid after lent marks up kin kept lent_again saved stands left = λ on absent.
+    let is : f0 ≡ first = lent_again ∙ kept in
+    let one : AtMost (marks_of v) (marks_of f0) = subst (λ s. AtMost (marks_of v) (marks_of s)) (sym is) (subst (λ s. AtMost (marks_of s) (marks_of first)) lent up) in
+    let told : f0.opening.absent ≡ false = ap (λ (s : RecordedState). s.opening.absent) is ∙ ap (λ (k : UnitKin). k.opening.absent) (kin ∙ ap kin_of lent) ∙ absent in
+    go one (saved on told)
+  where
+    marks_are : after.marks ≡ marks_of last
+    marks_are = ap (λ (s : UnitSeat). s.marks) left
+
+    seen_is : after.seen ≡ mid.seen
+    seen_is = ap (λ (s : UnitSeat). s.seen) left
+
+    rises : (i n m : ℕ) → slice_index_or (marks_of v) i 0 ≤ n → slice_index_or (marks_of last) i 0 ≡ m → Rose n m → Rose (slice_index_or seat.marks i 0) (slice_index_or after.marks i 0)
+    rises i n m low is rose =
+        subst (λ (ms : List ℕ). Rose (slice_index_or ms i 0) (slice_index_or after.marks i 0)) (sym marks)
+        (subst (λ (ms : List ℕ). Rose (slice_index_or (marks_of v) i 0) (slice_index_or ms i 0)) (sym marks_are)
+        (subst (λ k. Rose (slice_index_or (marks_of v) i 0) k) (sym is) (rose-later (slice_index_or (marks_of v) i 0) n m low rose)))
+
+    go : AtMost (marks_of v) (marks_of f0) → keeping.WasSaved f0 last → WasSaved (idle seat) after
+    go one (inl none) = inl (ap (λ (ms : List ℕ). slice_index_or ms 1 0) marks_are ∙ all-folded last mid.seen stands none ∙ sym (ap length seen_is))
+    go one (inr (inl rose)) = inr (inl (rises 0 f0.recorder.faults last.recorder.faults (one 0) refl rose))
+    go one (inr (inr rose)) = inr (inr (rises 2 f0.late last.late (one 2) refl rose))
+
 -- the seat took the turn
 pub record TookTurn (before mid : UnitSeat) : Type 0 where
   pub free : before.holds ≡ false
@@ -198,6 +226,11 @@ module _ (kin : UnitKin) (before mid after : UnitSeat) (asked : AskedAct) (took 
   folded-through (inl all) = inl all
   folded-through (inr (inl absent)) = inr (inl absent)
   folded-through (inr (inr rose)) = inr (inr (rose-later (faults_of before) (faults_of mid) (faults_of after) (took.marks 0) rose))
+
+  pub saved-through : WasSaved (idle mid) after → WasSaved before after
+  saved-through (inl all) = inl all
+  saved-through (inr (inl rose)) = inr (inl (rose-later (faults_of before) (faults_of mid) (faults_of after) (took.marks 0) rose))
+  saved-through (inr (inr rose)) = inr (inr (rose-later (late_of before) (late_of mid) (late_of after) (took.marks 2) rose))
 
   pub refused-through : (refused : ActRefused) → IsRefused kin (idle mid) after asked refused → IsRefused kin before after asked refused
   refused-through ActRefused.Full (saw, full, folded) = (seen-through saw, full, folded-through folded)

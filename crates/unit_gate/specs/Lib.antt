@@ -2,4 +2,5 @@ pub mod Asking
 pub mod Recorded
 pub mod UnitActs
 pub mod SeatActs
+pub mod Opening
 pub mod inner

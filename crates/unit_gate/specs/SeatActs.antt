@@ -1,5 +1,5 @@
 -- What a seat at a unit's gate has done and has seen
-use Rattle.std.specs.Prelude.{◌≡◌, ◌⊎◌, ℕ, ◌+◌, ◌≤◌, ⊤, List, length, slice_index_or, Option, Some, true}
+use Rattle.std.specs.Prelude.{◌≡◌, ◌⊎◌, ℕ, ◌+◌, ◌≤◌, ⊤, List, length, slice_index_or, Option, Some, Bool, true, false}
 use mathlib.Core.List.{IsPrefix}
 use Rattle.cm_history.specs.declared.act.Entry.{Entry}
 use Rattle.cm_history.specs.declared.refused.ActRefused.{ActRefused}
@@ -27,6 +27,10 @@ faults_of s = slice_index_or s.marks 0 0
 -- how many entries were recorded and dropped by then
 abbrev pub folded_of : UnitSeat → ℕ
 folded_of s = slice_index_or s.marks 1 0
+
+-- how often entries had not been recorded for want of memory
+abbrev pub late_of : UnitSeat → ℕ
+late_of s = slice_index_or s.marks 2 0
 
 -- ---- a turn
 
@@ -79,6 +83,14 @@ abbrev pub IsRefused : UnitKin → UnitSeat → UnitSeat → AskedAct → ActRef
 IsRefused kin before after asked ActRefused.Full =
     HasSeen kin before after × (is_full_at kin after.seen (folded_of after) asked ≡ true) × WasFolded kin before after
 IsRefused kin before after asked ActRefused.OutOfMemory = HasSeen kin before after
+
+-- all that was seen is recorded and dropped, or that failed since, or wanted memory since
+abbrev pub WasSaved : UnitSeat → UnitSeat → Type 0
+WasSaved before after = (folded_of after ≡ length after.seen) ⊎ Rose (faults_of before) (faults_of after) ⊎ Rose (late_of before) (late_of after)
+
+-- where entries are recorded as soon as they are made, and there is a recorder
+abbrev pub IsSaved : Bool → UnitKin → UnitSeat → UnitSeat → Type 0
+IsSaved eager kin before after = eager ≡ true → kin.opening.absent ≡ false → WasSaved before after
 
 -- this call found the turn taken
 abbrev pub Missed : UnitSeat → UnitSeat → Type 0

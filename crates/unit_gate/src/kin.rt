@@ -10,12 +10,16 @@ pub struct RecorderFacts {
     pub faults: u64,
     /// There is none.
     pub absent: bool,
+    /// What stands before the entries where they go, where that is told.
+    pub front: Option<LinkedList<u8>>,
 }
 
 /// What no turn changes of a unit with its recorder. No value of it is made.
 pub struct UnitKin {
     pub config: Config,
     pub unit: u16,
-    /// The recorder as it was given to the unit.
+    /// The recorder as it was given to the unit, without the entries of the unit that it had recorded by then.
     pub opening: RecorderFacts,
+    /// How many these are.
+    pub folded: u64,
 }

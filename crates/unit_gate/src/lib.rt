@@ -7,6 +7,7 @@ mod holding;
 mod kin;
 mod recorded_unit;
 mod refused;
+mod resuming;
 mod seat_acts;
 
 pub use asked::{Acted, AskedAct};
@@ -14,6 +15,7 @@ pub use holding::{hold, release};
 pub use kin::{RecorderFacts, UnitKin};
 pub use recorded_unit::{ClosedUnit, RecordedUnit, UnitCount};
 pub use refused::TryRefused;
+pub use resuming::{ResumeRefused, resume};
 pub use seat_acts::{act, try_act};
 
 #[cfg(test)]

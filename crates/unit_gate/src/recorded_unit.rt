@@ -10,8 +10,9 @@ ghost use Rattle.recorder.specs.Recording.{FirstFits};
 ghost use Rattle.turn_gate.specs.Marks.{AtMost};
 ghost use Rattle.unit_core.specs.declared.folding.FoldEnd.{FoldEnd};
 ghost use Rattle.unit_gate.specs.Asking.{IsAtLastStamp, ends_one, is_full_at, past, serves_operation};
-ghost use Rattle.unit_gate.specs.Recorded.{StandsFor, facts, kin_of, marks_of};
+ghost use Rattle.unit_gate.specs.Recorded.{HasRecorded, StandsFor, facts, kin_of, marks_of, without_last};
 ghost use Rattle.unit_gate.specs.UnitActs.{DidAct, NotDone, WasFolded};
+ghost use Rattle.unit_gate.specs.inner.Keeping.{WasSaved};
 
 use crate::asked::{Acted, AskedAct};
 use crate::kin::UnitKin;
@@ -32,17 +33,22 @@ pub struct RecordedUnit<R: Recorder + Drop> {
     unit: Unit,
     recorder: R,
     opening: Snapshot<R>,
+    /// How many entries of the unit the recorder had recorded when it was given.
+    folded_then: u64,
+    /// How often entries were to be recorded as soon as they were made, and the recorder wanted memory.
+    late: u64,
 }
 
 impl<R: Recorder + Drop> Model for RecordedUnit<R> {
-    ghost use Rattle.unit_gate.specs.Recorded.{RecordedState};
+    ghost use Rattle.unit_gate.specs.Recorded.{RecordedState, facts};
     ghost use Rattle.unit_gate.specs.inner.Keeping.{KeepsRecord, state_of};
 
     ghost Value = { RecordedState };
 
-    ghost view = { λ u. state_of R.recorded R.record_faults R.absent u.unit u.recorder u.opening.value };
+    ghost view = { λ u. state_of (facts R.recorded R.record_faults R.absent R.front) u.unit u.recorder u.opening.value u.folded_then u.late };
 
-    ghost invariant = { λ u. KeepsRecord (R.fits u.recorder) (state_of R.recorded R.record_faults R.absent u.unit u.recorder u.opening.value) };
+    ghost invariant = { λ u. KeepsRecord (R.fits u.recorder)
+        (state_of (facts R.recorded R.record_faults R.absent R.front) u.unit u.recorder u.opening.value u.folded_then u.late) };
 }
 
 impl<R: Recorder + Drop> Gated for RecordedUnit<R> {
@@ -84,6 +90,8 @@ pub struct ClosedUnit<R> {
     pub history: History,
     /// How many older ones were.
     pub folded: u64,
+    /// How often entries were to be recorded as soon as they were made, and the recorder wanted memory.
+    pub late: u64,
     pub count: UnitCount,
     pub recorder: R,
 }
@@ -100,8 +108,8 @@ impl<R: Recorder + Drop> RecordedUnit<R> {
         requires fits { (e : Entry) → R.fits recorder e }
         ensures stands { IfOk result (λ u. StandsFor u []) }
         ensures kin { IfOk result (λ u. kin_of u
-            ≡ record { config = config.now; unit = unit; opening = facts R.recorded R.record_faults R.absent recorder }) }
-        ensures marks { IfOk result (λ u. marks_of u ≡ R.record_faults recorder ∷ 0 ∷ []) }
+            ≡ record { config = config.now; unit = unit; opening = facts R.recorded R.record_faults R.absent R.front recorder; folded = 0 }) }
+        ensures marks { IfOk result (λ u. marks_of u ≡ R.record_faults recorder ∷ 0 ∷ 0 ∷ []) }
         ensures back { IfErr result (λ e. e.0 ≡ recorder) }
     {
         match Unit::new(alloc, config, unit) {
@@ -111,9 +119,36 @@ impl<R: Recorder + Drop> RecordedUnit<R> {
                     unit,
                     recorder,
                     opening,
+                    folded_then: 0,
+                    late: 0,
                 })
             }
             Err(refused) => Err((recorder, refused)),
+        }
+    }
+
+    /// A unit with its recorder, which has recorded so many of the unit's entries as the unit has dropped. It takes no
+    /// memory.
+    pub fn over(unit: Unit, recorder: R) -> RecordedUnit<R>
+        requires fits { (e : Entry) → R.fits recorder e }
+        requires history { (h : List Entry) × HasRecorded unit (R.recorded recorder) h }
+        ensures stands { (h : List Entry) → HasRecorded unit (R.recorded recorder) h → StandsFor result h }
+        ensures kin { kin_of result ≡ record {
+          config = unit.config;
+          unit = unit.unit;
+          opening = without_last unit.folded (facts R.recorded R.record_faults R.absent R.front recorder);
+          folded = unit.folded;
+        } }
+        ensures marks { marks_of result ≡ R.record_faults recorder ∷ unit.folded ∷ 0 ∷ [] }
+    {
+        let opening = Snapshot::of(&recorder);
+        let folded_then = unit.folded();
+        RecordedUnit {
+            unit,
+            recorder,
+            opening,
+            folded_then,
+            late: 0,
         }
     }
 
@@ -217,14 +252,20 @@ impl<R: Recorder + Drop> RecordedUnit<R> {
         self.unit.fold(&mut self.recorder)
     }
 
-    /// Records the kept entries where the recorder is eager. Nothing says how far that goes.
+    /// Records the kept entries where the recorder is eager, and counts it where that wants memory. The unit answers as
+    /// before.
     pub(crate) fn fold_if_eager(&mut self)
         ensures stands { (h : List Entry) → StandsFor self.old h → StandsFor self.new h }
+        ensures saved { R.EAGER ≡ true → self.old.opening.absent ≡ false → WasSaved self.old self.new }
         ensures kin { kin_of self.new ≡ kin_of self.old }
         ensures marks { AtMost (marks_of self.old) (marks_of self.new) }
     {
-        if R::EAGER {
-            self.fold();
+        if !R::EAGER {
+            return;
+        }
+        match self.fold() {
+            FoldEnd::OutOfMemory => self.late = self.late.saturating_add(1),
+            _ => {}
         }
     }
 
@@ -248,15 +289,17 @@ impl<R: Recorder + Drop> RecordedUnit<R> {
     pub fn into_closed(self) -> ClosedUnit<R>
         ensures kept { result.history.entries ≡ self.unit.kept }
         ensures folded { result.folded ≡ self.unit.folded }
-        ensures unfolded { self.opening.absent ≡ true → result.folded ≡ 0 }
+        ensures late { result.late ≡ self.late }
+        ensures unfolded { self.opening.absent ≡ true → result.folded ≡ self.folded_then }
         ensures few { (h : List Entry) → StandsFor self h → result.folded ≤ length h }
         ensures rest { (h : List Entry) → StandsFor self h → result.history.entries ≡ drop result.folded h }
         ensures steps { (h : List Entry) → StandsFor self h → result.count.steps ≡ length h }
         ensures live { (h : List Entry) → StandsFor self h → result.count.live ≡ live_in (past (kin_of self) h) }
         ensures mapped { (h : List Entry) → StandsFor self h
             → result.count.mapped ≡ mapped (unit_of self.unit.config self.unit.unit) (past (kin_of self) h) }
-        ensures recorder { facts R.recorded R.record_faults R.absent result.recorder ≡ self.recorder }
+        ensures recorder { facts R.recorded R.record_faults R.absent R.front result.recorder ≡ self.recorder }
         ensures absent { R.absent result.recorder ≡ self.opening.absent }
+        ensures front { R.front result.recorder ≡ self.opening.front }
         ensures fits { FirstFits (R.fits result.recorder) result.history.entries }
     {
         let count = UnitCount {
@@ -268,9 +311,12 @@ impl<R: Recorder + Drop> RecordedUnit<R> {
             unit,
             recorder,
             opening: _,
+            folded_then: _,
+            late,
         } = self;
         ClosedUnit {
             folded: unit.folded(),
+            late,
             history: unit.into_history(),
             count,
             recorder,

@@ -5,7 +5,7 @@ ghost use Rattle.cm_history.specs.Limits.{within_limits};
 ghost use Rattle.turn_gate.specs.Marks.{AtMost};
 ghost use Rattle.unit_gate.specs.Asking.{IsServed};
 ghost use Rattle.unit_gate.specs.Recorded.{StandsFor, kin_of, marks_of};
-ghost use Rattle.unit_gate.specs.SeatActs.{HasActed, IfAct, IsRefused, IsTryRefused, StaysSeated};
+ghost use Rattle.unit_gate.specs.SeatActs.{HasActed, IfAct, IsRefused, IsSaved, IsTryRefused, StaysSeated};
 
 use crate::asked::{Acted, AskedAct};
 use crate::recorded_unit::RecordedUnit;
@@ -18,7 +18,7 @@ use turn_gate::{Gate, GateSeat, Turn};
 /// Has an act done in the unit's turn, and sleeps while the turn is taken. At Ok the seat has made one entry more, the
 /// last of the history. After a refusal it has seen the history, which is as it was: `Full` comes where the record has no
 /// room, after its entries were recorded as far as that went, and `OutOfMemory` where the act or the recorder wanted
-/// memory.
+/// memory. From an eager recorder the entry was recorded then, unless that failed or wanted memory.
 pub fn act<W: Wait, R: Recorder + Drop>(
     rt: &W,
     gate: &Gate<RecordedUnit<R>>,
@@ -30,6 +30,7 @@ pub fn act<W: Wait, R: Recorder + Drop>(
     requires limits { IfSome gate.now.kin (λ kin. within_limits kin.config kin.unit asked.act ≡ true) }
     requires asked { IfSome gate.now.kin (λ kin. may_ask kin.unit asked.actor asked.act ≡ true) }
     ensures done { IfOk result (λ a. IfSome gate.now.kin (λ kin. HasActed kin seat.old seat.new asked a)) }
+    ensures saved { IfOk result (λ a. IfSome gate.now.kin (λ kin. IsSaved R.EAGER kin seat.old seat.new)) }
     ensures refused { IfErr result (λ e. IfSome gate.now.kin (λ kin. IsRefused kin seat.old seat.new asked e)) }
     ensures served { IfErr result (λ e. IfSome gate.now.kin (λ kin. IsServed kin seat.new.seen asked e)) }
     ensures stays { StaysSeated seat.old seat.new }
@@ -50,6 +51,7 @@ pub fn try_act<R: Recorder + Drop>(
     requires limits { IfSome gate.now.kin (λ kin. within_limits kin.config kin.unit asked.act ≡ true) }
     requires asked { IfSome gate.now.kin (λ kin. may_ask kin.unit asked.actor asked.act ≡ true) }
     ensures done { IfOk result (λ a. IfSome gate.now.kin (λ kin. HasActed kin seat.old seat.new asked a)) }
+    ensures saved { IfOk result (λ a. IfSome gate.now.kin (λ kin. IsSaved R.EAGER kin seat.old seat.new)) }
     ensures at_once { IfOk result (λ a. seat.new.misses ≡ seat.old.misses) }
     ensures refused { IfErr result (λ e. IfSome gate.now.kin (λ kin. IsTryRefused kin seat.old seat.new asked e)) }
     ensures served { IfErr result (λ e. IfSome gate.now.kin (λ kin. IfAct e (IsServed kin seat.new.seen asked))) }
@@ -80,6 +82,7 @@ fn act_in_turn<R: Recorder + Drop>(
     requires limits { within_limits turn.unit.config turn.unit.unit asked.act ≡ true }
     requires asked { may_ask turn.unit.unit asked.actor asked.act ≡ true }
     ensures done { IfOk result (λ a. HasActed (kin_of turn) (record seat.old { holds = false }) seat.new asked a) }
+    ensures saved { IfOk result (λ a. IsSaved R.EAGER (kin_of turn) (record seat.old { holds = false }) seat.new) }
     ensures refused { IfErr result (λ e. IsRefused (kin_of turn) (record seat.old { holds = false }) seat.new asked e) }
     ensures served { IfErr result (λ e. IsServed (kin_of turn) seat.new.seen asked e) }
     ensures misses { seat.new.misses ≡ seat.old.misses }

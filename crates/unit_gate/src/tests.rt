@@ -1,17 +1,20 @@
-ghost use Rattle.std.specs.Prelude.{◌≡◌, ◌≤◌, Some, IfOk, IfSome, false, length, true};
+ghost use Rattle.std.specs.Prelude.{◌≡◌, ◌≤◌, [], ◌∷◌, List, None, Some, IfOk, IfSome, false, length, true};
 ghost use Rattle.cm_history.specs.declared.act.Actor.{Actor};
+ghost use Rattle.cm_history.specs.declared.act.Entry.{Entry};
 ghost use Rattle.cm_history.specs.Legal.{may_ask};
+ghost use Rattle.unit_gate.specs.Recorded.{HasRecorded};
 
 use super::*;
 use cm_base::{CallList, Config, Payload, UnitConfig, UnitList};
-use cm_history::{Act, ActRefused, Actor, within_limits};
-use lba_ranges::BlockList;
+use cm_history::{Act, ActRefused, Actor, Entry, History, within_limits};
+use lba_ranges::{BlockList, Range, RangeList};
 use recorder::{MemoryRecorder, NoRecorder};
 use std::alloc::Global;
 use std::sync::Wait;
 use std::test::Fail;
 use std::thread::{Threads, join};
 use turn_gate::{Gate, GateSeat};
+use unit_core::Unit;
 
 type Recorded = RecordedUnit<MemoryRecorder>;
 
@@ -293,5 +296,107 @@ fn a_record_stays_full_without_a_recorder(rt: HostRuntime) -> Result<(), Fail> {
     assert!(rt; first.is_ok() && matches!(second, Err(ActRefused::Full)));
     let closed = gate.close(seat).into_closed();
     assert!(rt; closed.folded == 0 && closed.history.len() == 1);
+    Ok(())
+}
+
+/// A history of one entry of the machine's unit, by a nexus.
+fn history_of(alloc: Global, number: u32, act: Act) -> Result<History, Fail>
+    ensures { IfOk result (λ history. history.entries
+        ≡ record { stamp = 1; unit = 0; actor = Actor.Nexus number; seq = 0; moment = 0; act = act } ∷ []) }
+{
+    let mut history = History::empty(alloc);
+    history.push(Entry {
+        stamp: 1,
+        unit: 0,
+        actor: Actor::Nexus(number),
+        seq: 0,
+        moment: 0,
+        act,
+    })?;
+    Ok(history)
+}
+
+/// What comes of it that the machine's unit goes on with one entry of a nexus.
+fn resumed(
+    alloc: Global,
+    config: &Config,
+    number: u32,
+    act: Act,
+) -> Result<Result<Unit, ResumeRefused>, Fail>
+    requires one { length config.now.units ≡ 1 }
+    requires asked { may_ask 0 (Actor.Nexus number) act ≡ true }
+    ensures { IfOk result (λ told. IfOk told (λ u. (h : List Entry) × HasRecorded u None h)) }
+{
+    if !within_limits(config, 0, &act) {
+        return Err("past the limits".into());
+    }
+    let history = history_of(alloc, number, act)?;
+    Ok(resume(alloc, config, 0, &history))
+}
+
+/// A copy that was open is ended: the end alone is kept, and what was recorded is dropped.
+#[test]
+fn an_open_copy_is_ended(rt: HostRuntime) -> Result<(), Fail> {
+    let alloc = rt.alloc();
+    let config = machine(alloc, 6, 4096)?;
+    let Ok(unit) = resumed(alloc, &config, 7, Act::Open { id: 3 })? else {
+        return Err("the history was refused".into());
+    };
+    assert!(rt; unit.folded() == 1 && unit.kept() == 1 && unit.last_stamp() == 2);
+    assert!(rt; unit.unended().is_none());
+    Ok(())
+}
+
+/// Above the number 4,294,967,038 of a nexus its entry is refused.
+#[test]
+fn too_great_a_number_is_bad(rt: HostRuntime) -> Result<(), Fail> {
+    let alloc = rt.alloc();
+    let config = machine(alloc, 6, 4096)?;
+    let read = Act::Read { lba: 0, count: 1 };
+    let last = resumed(alloc, &config, 4_294_967_038, read)?;
+    assert!(rt; last.is_ok());
+    let read = Act::Read { lba: 0, count: 1 };
+    let late = resumed(alloc, &config, 4_294_967_039, read)?;
+    assert!(rt; matches!(late, Err(ResumeRefused::BadHistory { unit: 0, entry: 0 })));
+    Ok(())
+}
+
+/// A Start of one block.
+fn start_of_one(alloc: Global) -> Result<Act, Fail>
+    ensures { IfOk result (λ act. may_ask 0 (Actor.Nexus 1) act ≡ true) }
+{
+    let mut ranges = RangeList::empty(alloc);
+    ranges.push(Range { lba: 0, count: 1 })?;
+    let bytes = vec![in alloc; 7; 512]?;
+    let rod = BlockList::from_payload(alloc, 512, 1, Payload::from_vec(bytes)?)?;
+    Ok(Act::Start {
+        id: 1,
+        background: false,
+        ranges,
+        rod,
+    })
+}
+
+/// A record of two entries has no room for a Start of one block, which needs three.
+#[test]
+fn an_entry_without_room_is_bad(rt: HostRuntime) -> Result<(), Fail> {
+    let alloc = rt.alloc();
+    let config = machine(alloc, 2, 4096)?;
+    let told = resumed(alloc, &config, 1, start_of_one(alloc)?)?;
+    assert!(rt; matches!(told, Err(ResumeRefused::BadHistory { unit: 0, entry: 0 })));
+    Ok(())
+}
+
+/// A unit may go on without a recorder, and then keeps what is asked of it.
+#[test]
+fn a_unit_goes_on_without_a_recorder(rt: HostRuntime) -> Result<(), Fail> {
+    let alloc = rt.alloc();
+    let config = machine(alloc, 6, 4096)?;
+    let Ok(unit) = resumed(alloc, &config, 7, Act::Open { id: 3 })? else {
+        return Err("the history was refused".into());
+    };
+    let closed = RecordedUnit::over(unit, NoRecorder).into_closed();
+    assert!(rt; closed.folded == 1 && closed.late == 0 && closed.history.len() == 1);
+    assert!(rt; closed.count.steps == 2);
     Ok(())
 }

@@ -240,6 +240,15 @@ fn histories_of_shown_blocks(rt: HostRuntime) -> Result<(), Fail> {
     Ok(())
 }
 
+/// Two initiators that register, reserve the unit and preempt each other, beside acts of all kinds.
+#[test]
+fn histories_of_reservations(rt: HostRuntime) -> Result<(), Fail> {
+    let alloc = rt.alloc();
+    let config = machine(alloc, 40, 25, 16, 1_048_576)?;
+    assert!(rt; folded_histories(alloc, &config, Style::Reserved)?);
+    Ok(())
+}
+
 /// A record that is full by its entries.
 #[test]
 fn histories_whose_entries_are_folded(rt: HostRuntime) -> Result<(), Fail> {

@@ -4,7 +4,7 @@
 mod quota;
 mod status;
 
-pub use quota::mapped_after;
+pub use quota::exceeds_quota;
 pub use status::map_runs;
 
 #[cfg(test)]

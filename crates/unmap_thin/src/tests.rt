@@ -3,6 +3,7 @@ ghost use Rattle.lba_ranges.specs.declared.ranges.Range.{Range};
 ghost use Rattle.lun_plain.specs.Plain.{Plain};
 
 use super::*;
+use crate::quota::mapped_after;
 use cm_base::Payload;
 use lba_ranges::{BlockList, Blocks, Fill, MapRun, Piece, Range, RangeList};
 use lun_plain::PlainUnit;
@@ -45,8 +46,14 @@ fn unit_of_eight(rt: &HostRuntime) -> Result<PlainUnit, Fail>
     Ok(unit)
 }
 
-/// How many blocks would be mapped, with two items from a block on.
-fn count_with(rt: &HostRuntime, unit: &PlainUnit, lba: u64, is_mapped: bool) -> Result<u64, Fail>
+/// With two items from a block on so many blocks would be mapped, by the count and by the quota.
+fn is_count(
+    rt: &HostRuntime,
+    unit: &PlainUnit,
+    lba: u64,
+    is_mapped: bool,
+    count: u64,
+) -> Result<bool, Fail>
     requires { unit.now.blocks ≡ 8 }
 {
     let places = two_places(rt, lba)?;
@@ -54,7 +61,12 @@ fn count_with(rt: &HostRuntime, unit: &PlainUnit, lba: u64, is_mapped: bool) -> 
     if !places.within(8) || places.overlap() || places.total() != items.blocks() {
         return Err(Fail::new("no place for the items"));
     }
-    Ok(mapped_after(unit, &places, &items))
+    Ok(
+        mapped_after(unit, &places, &items) == count
+            && !exceeds_quota(unit, &places, &items, count)
+            && (count == 0 || exceeds_quota(unit, &places, &items, count - 1))
+            && !exceeds_quota(unit, &places, &items, 8),
+    )
 }
 
 #[test]
@@ -68,7 +80,7 @@ fn mapped_blocks_are_counted(rt: HostRuntime) -> Result<(), Fail> {
         (3, false, 1),
         (2, false, 0),
     ] {
-        assert_eq!(rt; count_with(&rt, &unit, lba, is_mapped)?, count, "at {lba}");
+        assert!(rt; is_count(&rt, &unit, lba, is_mapped, count)?, "at {lba}");
     }
     Ok(())
 }

@@ -19,7 +19,7 @@ use crate::stage::{Stage, copy_ended};
 use cm_history::{Answer, PIECE_BLOCKS};
 use cmd_machine::{CommandOf, Ended, LastAct};
 use lba_ranges::BlockList;
-use scsi_sense::Sense;
+use pr_keys::Refusal;
 use seg_parse::{CopyList, Segment};
 
 /// LIST ID USAGE of a copy of which no record is kept.
@@ -53,7 +53,7 @@ impl ListCopy {
     }
 
     /// The phase after the segments, which a refusal may have ended. It takes no memory.
-    pub(crate) fn ended(self, ended_by: Option<Sense>) -> CopyCommand
+    pub(crate) fn ended(self, ended_by: Option<Refusal>) -> CopyCommand
         ensures program { (config : Configuration) → rest_of by_phase config result ≡ closing (given self) (tally self.counted) ended_by }
         ensures sound { (config : Configuration) → self.unit < length config.units → IsSoundAt IsSoundPhase config result }
     {
@@ -117,6 +117,7 @@ impl ListCopy {
     {
         match answer {
             Answer::Refused(sense) => CommandOf::Ended(Ended::Refused(sense)),
+            Answer::Conflict => CommandOf::Ended(Ended::Conflict),
             _ => self.next_phase(),
         }
     }
@@ -143,7 +144,7 @@ impl ListCopy {
     /// The phase after a piece was put, and there may be more. It takes no memory.
     fn piece_done(mut self, segment: Segment, pieces: Pieces) -> CopyCommand
         requires { (config : Configuration) × IsPutting config self segment pieces }
-        ensures program { (answer : Answer) → ((sense : SenseCode) → answer ≡ Answer.Refused sense → ⊥) → (config : Configuration) → rest_of by_phase config result
+        ensures program { (answer : Answer) → ((sense : SenseCode) → answer ≡ Answer.Refused sense → ⊥) → (answer ≡ Answer.Conflict → ⊥) → (config : Configuration) → rest_of by_phase config result
             ≡ go_on_by (by_stage config (Stage.Putting self segment pieces)) answer }
         ensures sound { (config : Configuration) → IsPutting config self segment pieces → IsSoundAt IsSoundPhase config result }
     {
@@ -167,7 +168,8 @@ impl ListCopy {
         ensures sound { (config : Configuration) → IsPutting config self segment pieces → IsSoundAt IsSoundPhase config result }
     {
         match answer {
-            Answer::Refused(sense) => self.ended(Some(sense)),
+            Answer::Refused(sense) => self.ended(Some(Refusal::Refused(sense))),
+            Answer::Conflict => self.ended(Some(Refusal::Conflict)),
             _ => self.piece_done(segment, pieces),
         }
     }

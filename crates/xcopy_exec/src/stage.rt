@@ -1,4 +1,4 @@
-ghost use Rattle.std.specs.Prelude.{◌≡◌, IfOk, IfSome};
+ghost use Rattle.std.specs.Prelude.{◌≡◌, IfOk, IfSome, Some};
 ghost use Rattle.cm_base.specs.Configuration.{Configuration};
 ghost use Rattle.cm_history.specs.declared.answer.Answer.{Answer};
 ghost use Rattle.cmd_program.specs.Meaning.{IsWritable, IsAskable, MayFollow};
@@ -20,6 +20,7 @@ use cm_base::{Config, OutOfMemory};
 use cm_history::{Act, Answer, CopyState};
 use cmd_machine::{CommandOf, Ended, LastAct};
 use cmd_program::Step;
+use pr_keys::Refusal;
 use scsi_sense::Sense;
 use seg_parse::Segment;
 use std::alloc::Global;
@@ -48,12 +49,12 @@ pub enum Stage {
     /// The segments are done, or one was refused, and the record is to be closed.
     Closing {
         record: OpenRecord,
-        ended_by: Option<Sense>,
+        ended_by: Option<Refusal>,
     },
 }
 
 /// The state of a copy whose segments a refusal may have ended.
-fn end_state(ended_by: &Option<Sense>) -> CopyState
+fn end_state(ended_by: &Option<Refusal>) -> CopyState
     ensures { result ≡ end_state ended_by.now }
 {
     match ended_by {
@@ -62,23 +63,36 @@ fn end_state(ended_by: &Option<Sense>) -> CopyState
     }
 }
 
-/// The end of a copy whose segments a refusal may have ended.
-pub(crate) fn copy_ended(ended_by: Option<Sense>) -> Ended
-    ensures { by_ended result ≡ copy_reply ended_by }
+/// The end of a copy whose segments a refusal ended.
+fn ended_by(refusal: Refusal) -> Ended
+    ensures { by_ended result ≡ copy_reply (Some refusal) }
 {
-    match ended_by {
+    match refusal {
+        Refusal::Conflict => Ended::Conflict,
+        Refusal::Refused(sense) => {
+            Ended::Refused(Sense::new(COPY_ABORTED, sense.asc(), sense.ascq()))
+        }
+    }
+}
+
+/// The end of a copy whose segments a refusal may have ended.
+pub(crate) fn copy_ended(refusal: Option<Refusal>) -> Ended
+    ensures { by_ended result ≡ copy_reply refusal }
+{
+    match refusal {
         None => Ended::Good,
-        Some(sense) => Ended::Refused(Sense::new(COPY_ABORTED, sense.asc(), sense.ascq())),
+        Some(refusal) => ended_by(refusal),
     }
 }
 
 /// The end of a copy whose record was closed.
-fn closed(ended_by: Option<Sense>, answer: Answer) -> CopyCommand
+fn closed(ended_by: Option<Refusal>, answer: Answer) -> CopyCommand
     ensures program { (config : Configuration) → rest_of by_phase config result ≡ unless_refused (copy_reply ended_by) answer }
     ensures sound { (config : Configuration) → IsSoundAt IsSoundPhase config result }
 {
     match answer {
         Answer::Refused(sense) => CommandOf::Ended(Ended::Refused(sense)),
+        Answer::Conflict => CommandOf::Ended(Ended::Conflict),
         _ => CommandOf::Ended(copy_ended(ended_by)),
     }
 }
@@ -129,7 +143,8 @@ impl Stage {
             Stage::Opening { copy } => copy.opened(answer),
             Stage::Capturing { copy, segment } => match answer {
                 Answer::Blocks(blocks) => copy.putting(segment, blocks),
-                Answer::Refused(sense) => copy.ended(Some(sense)),
+                Answer::Refused(sense) => copy.ended(Some(Refusal::Refused(sense))),
+                Answer::Conflict => copy.ended(Some(Refusal::Conflict)),
                 _ => unreachable!(),
             },
             Stage::Putting {

@@ -127,6 +127,28 @@ class Traces(unittest.TestCase):
         self.assertEqual(text.stdout.count(b"@"), 1)
         self.assertIn(b"\n@100 i1 lun=0 read-capacity-16 length=32\n", text.stdout)
 
+    def test_reservations(self):
+        other = ["--initiator", "2"]
+        self.good("register", self.trace, "--new-key", "0x11")
+        self.good("reserve", self.trace, "--key", "0x11", "--type", "write-exclusive")
+        said = b"generation 1\nkey 0x11\nreserved by key 0x11: write exclusive\n"
+        self.assertEqual(self.good("keys", self.trace), said)
+        self.bad(24, "RESERVATION CONFLICT", "write", self.trace, *other, data=bytes(512))
+        self.assertEqual(self.good("read", self.trace, "--count", "1", *other), bytes(512))
+        self.bad(24, "RESERVATION CONFLICT", "register", self.trace, "--key", "0x33", "--new-key", "0x22", *other)
+        self.good("register", self.trace, "--key", "0x33", "--new-key", "0x22", "--ignore", *other)
+        self.bad(5, "(05/24/00)", "release", self.trace, "--key", "0x11", "--type", "exclusive-access")
+        self.good("release", self.trace, "--key", "0x11", "--type", "write-exclusive")
+        self.good("write", self.trace, *other, data=bytes(512))
+        self.good("reserve", self.trace, "--key", "0x11", "--type", "exclusive-access-registrants")
+        preempt = ["preempt", self.trace, "--key", "0x22", "--other-key", "0x11", "--type", "exclusive-access"]
+        self.good(*preempt, *other)
+        self.bad(24, "RESERVATION CONFLICT", "read", self.trace, "--count", "1")
+        said = b"generation 3\nkey 0x22\nreserved by key 0x22: exclusive access\n"
+        self.assertEqual(self.good("keys", self.trace), said)
+        self.good("clear", self.trace, "--key", "0x22", *other)
+        self.assertEqual(self.good("keys", self.trace), b"generation 4\nno reservation\n")
+
     def test_exit_statuses(self):
         self.bad(22, "out of range (05/21/00)", "read", self.trace, "--lba", "9999", "--count", "2")
         self.bad(5, "not supported (05/25/00)", "read", self.trace, "--lun", "7", "--count", "1")
@@ -158,6 +180,8 @@ class Traces(unittest.TestCase):
             ["readcap", "--connect", "127.0.0.1:1", self.trace],
             ["readcap"],
             ["new", self.trace + "2", "--unit", "5/100"],
+            ["register", self.trace, "--key", "1"],
+            ["reserve", self.trace, "--key", "1", "--type", "shared"],
         ]:
             with self.subTest(words):
                 self.bad(2, "cmgr", *words)

@@ -2,7 +2,9 @@
 
 import unittest
 
-from copymgr import Busy, Capacity, CheckCondition, Disk, Ended, Inquiry, Replay, Run, State, TaskSetFull
+from copymgr import (
+    Busy, Capacity, CheckCondition, Disk, Ended, Inquiry, Replay, Reservation, ReservationConflict, Run, State, TaskSetFull,
+)
 from copymgr.hosts import Reply, data_of
 from copymgr.wire import PLAIN_REPLAY, rod_token
 
@@ -75,6 +77,23 @@ class Disks:
         with self.assertRaises(TaskSetFull):
             self.disks[4].read(0, 1)
         self.assertEqual(self.disks[4].capacity().blocks, 100)
+
+    def test_a_reservation(self):
+        disk = self.disks[0]
+        disk.register(0, 0x1234)
+        disk.reserve(0x1234, 3)
+        self.assertEqual(disk.keys(), (1, [0x1234]))
+        self.assertEqual(disk.reservation(), (1, Reservation(0x1234, 3)))
+        disk.write(0, bytes(512))
+        with self.assertRaises(ReservationConflict):
+            disk.release(0x1235, 3)
+        with self.refused((5, 0x24, 0)):
+            disk.release(0x1234, 1)
+        disk.release(0x1234, 3)
+        disk.preempt(0x1234, 0x1234, 1)
+        disk.clear(0x1234)
+        self.assertEqual(disk.keys(), (3, []))
+        self.assertEqual(disk.reservation(), (3, None))
 
     def test_a_token_keeps_its_blocks(self):
         source, target = self.disks[:2]

@@ -143,6 +143,51 @@ fn a_refused_put_ends_the_copy(rt: HostRuntime) -> Result<(), Fail> {
     Ok(())
 }
 
+/// A Put that a reservation bars ends the segments: the record says that the copy failed, and the reply is RESERVATION
+/// CONFLICT, as it is where there is no record.
+#[test]
+fn a_reservation_ends_the_copy(rt: HostRuntime) -> Result<(), Fail> {
+    let close = Seen::Close {
+        end: End::Failed,
+        segments: 0,
+        bytes: 524_288,
+    };
+    let script = [
+        (OPEN, Came::Done),
+        (CAPTURE, CAPTURED),
+        (FIRST_PUT, Came::Done),
+        (SECOND_PUT, Came::Conflict),
+        (close, Came::Done),
+    ];
+    let out = copy_list(rt.alloc(), 0)?;
+    assert!(rt; plays(rt.alloc(), encode(&COPY), out, &script, Seen::Conflict)?);
+    let unrecorded = [(CAPTURE, Came::Conflict)];
+    let out = copy_list(rt.alloc(), 3)?;
+    assert!(rt; plays(rt.alloc(), encode(&COPY), out, &unrecorded, Seen::Conflict)?);
+    Ok(())
+}
+
+/// A Capture that a reservation bars ends the segments: the record has those that were copied before it.
+#[test]
+fn a_barred_capture_ends_the_copy(rt: HostRuntime) -> Result<(), Fail> {
+    let close = Seen::Close {
+        end: End::Failed,
+        segments: 1,
+        bytes: 768_000,
+    };
+    let script = [
+        (OPEN, Came::Done),
+        (CAPTURE, CAPTURED),
+        (FIRST_PUT, Came::Done),
+        (SECOND_PUT, Came::Done),
+        (CAPTURE_BACK, Came::Conflict),
+        (close, Came::Done),
+    ];
+    let out = copy_list(rt.alloc(), 0)?;
+    assert!(rt; plays(rt.alloc(), encode(&COPY), out, &script, Seen::Conflict)?);
+    Ok(())
+}
+
 /// A copy that gives up closes its record once.
 #[test]
 fn a_record_is_closed_once(rt: HostRuntime) -> Result<(), Fail> {

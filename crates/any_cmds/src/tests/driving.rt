@@ -50,8 +50,20 @@ fn has_kind(act: &Act, answer: &Answer) -> bool
     ensures { result ≡ true → (config : Configuration) (unit : ℕ) → HasForm config unit act.now answer.now }
 {
     match (act, answer) {
-        (Act::Pump | Act::Delete { .. }, Answer::Refused(_)) => false,
+        (Act::Pump | Act::Delete { .. } | Act::PrKeys | Act::PrHolder, Answer::Refused(_)) => false,
         (_, Answer::Refused(_)) => true,
+        (
+            Act::Read { .. }
+            | Act::Capture { .. }
+            | Act::MapStatus { .. }
+            | Act::Populate { .. }
+            | Act::Write { .. }
+            | Act::Unmap { .. }
+            | Act::Start { .. }
+            | Act::Put { .. }
+            | Act::PrOut { .. },
+            Answer::Conflict,
+        ) => true,
         (
             Act::Write { .. }
             | Act::Put { .. }
@@ -59,13 +71,15 @@ fn has_kind(act: &Act, answer: &Answer) -> bool
             | Act::Delete { .. }
             | Act::Abort { .. }
             | Act::Open { .. }
-            | Act::Close { .. },
+            | Act::Close { .. }
+            | Act::PrOut { .. },
             Answer::Done,
         ) => true,
         (Act::Populate { .. }, Answer::Made { .. }) => true,
         (Act::Start { .. } | Act::Advance { .. } | Act::End { .. }, Answer::Progress { .. }) =>
             true,
         (Act::Recall { .. }, Answer::Copy(_)) => true,
+        (Act::PrHolder, Answer::Holder { .. }) => true,
         _ => false,
     }
 }
@@ -81,6 +95,7 @@ fn has_form(config: &Config, unit: u16, act: &Act, answer: &Answer) -> bool
         (Act::MapStatus { .. }, Answer::Status(runs)) => runs.len() <= 64,
         (Act::Redeem { target, .. }, Answer::Rod(rod)) => is_rod(config, *target, rod),
         (Act::Report { .. }, Answer::Report(report)) => is_made(report),
+        (Act::PrKeys, Answer::Keys { keys, .. }) => keys.len() <= 64,
         _ => has_kind(act, answer),
     }
 }

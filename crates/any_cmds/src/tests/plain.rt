@@ -179,12 +179,31 @@ fn a_write_ends_as_it_must(rt: HostRuntime) -> Result<(), Fail> {
     };
     let ends = [
         (Came::Refused(Sense::new(0x07, 0x27, 0x07)), over_quota),
+        (Came::Conflict, Seen::Conflict),
         (Came::Full, Seen::Full),
         (Came::NoMemory, Seen::Busy),
     ];
     for (came, end) in ends {
         let out = Payload::from_static(&BLOCK);
         assert!(rt; plays(rt.alloc(), WRITE, out, &[(Seen::OtherAct, came)], end)?);
+    }
+    Ok(())
+}
+
+/// A reservation bars what reads and what writes.
+#[test]
+fn a_reservation_bars_a_command(rt: HostRuntime) -> Result<(), Fail> {
+    let none: &'static [u8] = &[];
+    let list: &'static [u8] = UNMAP_LIST;
+    let status = encode(&Cdb::GetLbaStatus { lba: 7, length: 24 });
+    let unmap = encode(&Cdb::Unmap { length: 31 });
+    let script = [(Seen::OtherAct, Came::Conflict)];
+    for (cdb, out) in [(READ, none), (status, none), (unmap, list)] {
+        let out = Payload::from_static(out);
+        assert!(rt;
+            plays(rt.alloc(), cdb, out, &script, Seen::Conflict)?,
+            "{cdb:?}"
+        );
     }
     Ok(())
 }

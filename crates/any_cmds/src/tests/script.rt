@@ -1,6 +1,6 @@
 // What a command does in turn, in short.
 use super::driving::steps;
-use cm_base::{Config, Payload, UnitConfig, UnitList};
+use cm_base::{Config, Holder, KeyList, Payload, UnitConfig, UnitList};
 use cm_frame::{Reply, Request};
 use cm_history::{Act, Answer, CopyEnd, CopyState, OpReport, OpState};
 use cmd_program::{Outcome, Step};
@@ -75,6 +75,19 @@ pub(super) enum Seen {
         unit: u16,
         id: u8,
     },
+    PrOut {
+        action: u8,
+        scope: u8,
+        kind: u8,
+        key: u64,
+        action_key: u64,
+    },
+    PrKeys {
+        unit: u16,
+    },
+    PrHolder {
+        unit: u16,
+    },
     OtherAct,
     Good {
         bytes: usize,
@@ -84,6 +97,7 @@ pub(super) enum Seen {
         asc: u8,
         ascq: u8,
     },
+    Conflict,
     Full,
     Busy,
 }
@@ -105,6 +119,13 @@ pub(super) enum Came {
     Blocks { count: u32 },
     /// The copy of two segments, 769,024 bytes, is done.
     Copied,
+    /// Generation 1, and the key 1234h.
+    Keys,
+    /// Generation 1, and a reservation of type 1 whose holder has the key 1234h.
+    Holder,
+    /// Generation 1, and no reservation.
+    Unheld,
+    Conflict,
     Refused(Sense),
     Full,
     NoMemory,
@@ -166,6 +187,22 @@ fn outcome_of(alloc: Global, came: Came) -> Result<Outcome, Fail> {
             segments: 2,
             bytes: 769_024,
         }),
+        Came::Keys => Answer::Keys {
+            generation: 1,
+            keys: KeyList::copy(alloc, &[0x1234])?,
+        },
+        Came::Holder => Answer::Holder {
+            generation: 1,
+            holder: Some(Holder {
+                key: 0x1234,
+                kind: 1,
+            }),
+        },
+        Came::Unheld => Answer::Holder {
+            generation: 1,
+            holder: None,
+        },
+        Came::Conflict => Answer::Conflict,
         Came::Refused(sense) => Answer::Refused(sense),
         Came::Full => return Ok(Outcome::Full),
         Came::NoMemory => return Ok(Outcome::NoMemory),
@@ -219,7 +256,29 @@ fn seen_token_act(unit: u16, act: &Act) -> Seen {
     }
 }
 
-/// What a copy of segments asks for, and else what a command with tokens does.
+/// What a command on reservations asks for, and else what a command with tokens does.
+fn seen_reservation_act(unit: u16, act: &Act) -> Seen {
+    match act {
+        Act::PrOut {
+            action,
+            scope,
+            kind,
+            key,
+            action_key,
+        } => Seen::PrOut {
+            action: *action,
+            scope: *scope,
+            kind: *kind,
+            key: *key,
+            action_key: *action_key,
+        },
+        Act::PrKeys => Seen::PrKeys { unit },
+        Act::PrHolder => Seen::PrHolder { unit },
+        other => seen_token_act(unit, other),
+    }
+}
+
+/// What a copy of segments asks for, and else what another command does.
 fn seen_act(unit: u16, act: &Act) -> Seen {
     match act {
         Act::Open { id } => Seen::Open { unit, id: *id },
@@ -240,7 +299,7 @@ fn seen_act(unit: u16, act: &Act) -> Seen {
             bytes: result.bytes,
         },
         Act::Recall { id } => Seen::Recall { unit, id: *id },
-        other => seen_token_act(unit, other),
+        other => seen_reservation_act(unit, other),
     }
 }
 
@@ -252,6 +311,7 @@ fn seen_reply(reply: &Reply) -> Seen {
             asc: sense.asc(),
             ascq: sense.ascq(),
         },
+        Reply::Conflict => Seen::Conflict,
         Reply::Full => Seen::Full,
         Reply::Busy => Seen::Busy,
     }

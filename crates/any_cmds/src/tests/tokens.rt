@@ -46,7 +46,7 @@ const RUNNING: Came = Came::Progress(OpState::Running);
 
 const FINISHED: Came = Came::Progress(OpState::Done);
 
-/// POPULATE TOKEN of three blocks from LBA 7 on, for 60 seconds.
+/// POPULATE TOKEN of three blocks from LBA 7 on, for 60 seconds, which a reservation may bar.
 #[test]
 fn a_token_is_populated(rt: HostRuntime) -> Result<(), Fail> {
     let list: &'static [u8] =
@@ -57,8 +57,10 @@ fn a_token_is_populated(rt: HostRuntime) -> Result<(), Fail> {
         timeout: 60,
         blocks: 3,
     };
-    let out = Payload::from_static(list);
-    assert!(rt; plays(rt.alloc(), cdb, out, &[(populate, Came::Made)], GOOD)?);
+    for (came, end) in [(Came::Made, GOOD), (Came::Conflict, Seen::Conflict)] {
+        let out = Payload::from_static(list);
+        assert!(rt; plays(rt.alloc(), cdb, out, &[(populate, came)], end)?);
+    }
     Ok(())
 }
 
@@ -202,6 +204,42 @@ fn an_operation_is_ended_once(rt: HostRuntime) -> Result<(), Fail> {
     ];
     let out = write_list(rt.alloc(), 0, 0, &zero())?;
     assert!(rt; plays(rt.alloc(), encode(&WRITE), out, &script, Seen::Full)?);
+    Ok(())
+}
+
+/// A reservation bars the start of a write, in the foreground or behind the command.
+#[test]
+fn a_reservation_bars_a_write(rt: HostRuntime) -> Result<(), Fail> {
+    for immed in [0, 1] {
+        let start = Seen::Start {
+            background: immed == 1,
+            blocks: 2000,
+            mapped: false,
+        };
+        let out = write_list(rt.alloc(), immed, 0, &zero())?;
+        let script = [(start, Came::Conflict)];
+        assert!(rt;
+            plays(rt.alloc(), encode(&WRITE), out, &script, Seen::Conflict)?,
+            "{immed}"
+        );
+    }
+    Ok(())
+}
+
+/// Where the start of a write is barred, its token is not deleted.
+#[test]
+fn a_token_of_a_barred_write_stays(rt: HostRuntime) -> Result<(), Fail> {
+    let start = Seen::Start {
+        background: false,
+        blocks: 2000,
+        mapped: false,
+    };
+    let script = [
+        (REDEEM, Came::Rod { blocks: 2000 }),
+        (start, Came::Conflict),
+    ];
+    let out = write_list(rt.alloc(), 2, 0, &named())?;
+    assert!(rt; plays(rt.alloc(), encode(&WRITE), out, &script, Seen::Conflict)?);
     Ok(())
 }
 

@@ -16,7 +16,7 @@ use Rattle.unit_gate.specs.declared.recorded_unit.ClosedUnit.{ClosedUnit}
 
 -- the marks of units of which nothing was asked yet
 abbrev pub opening_marks : List RecorderFacts → List (List ℕ)
-opening_marks recorders = map (λ (r : RecorderFacts). r.faults ∷ 0 ∷ []) recorders
+opening_marks recorders = map (λ (r : RecorderFacts). r.faults ∷ 0 ∷ 0 ∷ []) recorders
 
 -- Of the entries that were kept the first ones were recorded, up to the first that was refused, and so many were not.
 pub record HasRecordedKept (before after : RecorderFacts) (kept : List Entry) (left : ℕ) : Type 0 where

@@ -14,8 +14,8 @@ use unit_gate::ClosedUnit;
 fn record_unit<R: Recorder + Drop>(unit: &mut ClosedUnit<R>) -> Result<u64, OutOfMemory>
     requires fits { FirstFits (R.fits unit.old.recorder) unit.old.history.entries }
     requires short { All (λ (e : Entry). HasShortLists e.act) unit.old.history.entries }
-    ensures recorded { IfOk result (λ left. HasRecordedKept (facts R.recorded R.record_faults R.absent unit.old.recorder)
-        (facts R.recorded R.record_faults R.absent unit.new.recorder) unit.old.history.entries left) }
+    ensures recorded { IfOk result (λ left. HasRecordedKept (facts R.recorded R.record_faults R.absent R.front unit.old.recorder)
+        (facts R.recorded R.record_faults R.absent R.front unit.new.recorder) unit.old.history.entries left) }
     ensures fits { IfOk result (λ left. left < 2 ^ 64) }
     ensures stays { unit.new ≡ record unit.old { recorder = unit.new.recorder } }
 {
@@ -34,7 +34,7 @@ pub(crate) fn record_all<R: Recorder + Drop>(
     units: &mut Vec<ClosedUnit<R>>,
 ) -> Result<u128, OutOfMemory>
     requires { All (AreWritable R.fits) units.old.items }
-    ensures { IfOk result (HaveRecordedKept (facts R.recorded R.record_faults R.absent) units.old.items units.new.items) }
+    ensures { IfOk result (HaveRecordedKept (facts R.recorded R.record_faults R.absent R.front) units.old.items units.new.items) }
 {
     let mut kept = 0u128;
     for index in 0..units.len() {

@@ -7,6 +7,7 @@ pub mod generated;
 pub mod host_copies;
 pub mod long_data;
 pub mod operations;
+pub mod reservations;
 pub mod sessions;
 pub mod tokens;
 pub mod usual_copy;

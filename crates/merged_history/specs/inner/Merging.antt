@@ -1,13 +1,7 @@
 -- Lists of entries that are merged from their heads on
-use Rattle.std.specs.Prelude.{◌≡◌, ℕ, ◌<◌, List, [], ◌∷◌, ◌++◌, length, drop, slice_get, slice_index, slice_index_or, Option, Some, None, Bool, true}
+use Rattle.std.specs.Prelude.{◌≡◌, ℕ, ◌<◌, List, [], ◌∷◌, ◌++◌, length, slice_get, slice_index, slice_index_or, Option, Some, None, Bool, true}
 use Rattle.cm_history.specs.declared.act.Entry.{Entry}
-use Rattle.merged_history.specs.Merged.{is_earlier, merged}
-
--- what is left of each list once so many of its entries were taken
-abbrev pub rests : List ℕ → List (List Entry) → List (List Entry)
-rests [] hs = hs
-rests (n ∷ ns) [] = []
-rests (n ∷ ns) (h ∷ hs) = drop n h ∷ rests ns hs
+use Rattle.merged_history.specs.Merged.{is_earlier, merged, rests}
 
 -- the first entry that is left of a list
 abbrev pub head : List (List Entry) → List ℕ → ℕ → Option Entry

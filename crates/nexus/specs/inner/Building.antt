@@ -1,28 +1,124 @@
 -- The gates of a world, and the root's seats at them, as they are made
-use Rattle.std.specs.Prelude.{◌≡◌, ℕ, List, [], ◌∷◌, ◌++◌, length, map, Option, Some, None}
+use Rattle.std.specs.Prelude.{◌≡◌, ℕ, suc, ⊤, List, [], ◌∷◌, ◌++◌, length, map, Some}
 use Rattle.cm_base.specs.Configuration.{Configuration}
 use Rattle.cm_history.specs.declared.act.Entry.{Entry}
+use Rattle.cm_history.proofs.PublicLaws.{Each}
 use Rattle.turn_gate.specs.inner.Seats.{first_seat}
-use Rattle.unit_gate.specs.declared.kin.RecorderFacts.{RecorderFacts}
-use Rattle.unit_gate.specs.declared.kin.UnitKin.{UnitKin}
+use Rattle.unit_core.specs.UnitState.{UnitState, Stands}
+use Rattle.unit_gate.specs.Opening.{opening_entries}
+use Rattle.unit_gate.specs.Recorded.{RecordedState, StandsFor, kin_of, marks_of, without_last}
 use Rattle.unit_gate.specs.SeatActs.{UnitSeat}
-use Rattle.nexus.specs.Worlds.{UnitGate}
-use Rattle.nexus.specs.Opening.{kins_from}
+use Rattle.nexus.specs.Worlds.{UnitGate, WorldView}
+use Rattle.nexus.specs.Roots.{RootView}
+use Rattle.nexus.specs.Opening.{StoredUnit, AreStored, bad_history}
 
--- what the root knows of a unit's recorder at first
-abbrev pub marks_in : Option UnitKin → List ℕ
-marks_in None = []
-marks_in (Some kin) = kin.opening.faults ∷ 0 ∷ []
+-- ---- a unit and its recorder, and the history that was recorded before
 
--- the first seat at a gate
-abbrev pub begun : UnitGate → UnitSeat
-begun gate = first_seat gate [] (marks_in gate.kin)
+pub record BegunState : Type 0 where
+  pub unit : RecordedState
+  pub history : List Entry
 
--- the gates of the first n units are made
-pub record BuiltSoFar {R : Type 0} (facts : R → RecorderFacts) (config : Configuration) (all rest : List R) (gates : List UnitGate) (seats : List UnitSeat) (seqs : List ℕ) (n : ℕ) : Type 0 where
-  pub gone : List R
+-- the entries with which it begins
+abbrev pub entries_begun : BegunState → List Entry
+entries_begun b = opening_entries b.unit.unit.config b.unit.unit.unit b.history
+
+-- it is the unit of this number, and stands for them
+pub record IsBegunUnit (config : Configuration) (n : ℕ) (b : BegunState) : Type 0 where
+  pub config_is : b.unit.unit.config ≡ config
+  pub unit_is : b.unit.unit.unit ≡ n
+  pub stands : StandsFor b.unit (entries_begun b)
+
+abbrev pub AreBegunUnits : Configuration → ℕ → List BegunState → Type 0
+AreBegunUnits config n [] = ⊤
+AreBegunUnits config n (b ∷ bs) = IsBegunUnit config n b × AreBegunUnits config (suc n) bs
+
+-- it is what such a store comes to
+pub record IsBegunOf (config : Configuration) (n : ℕ) (s : StoredUnit) (b : BegunState) : Type 0 where
+  pub kin : kin_of b.unit ≡ record { config = config; unit = n; opening = without_last (length s.history) s.recorder; folded = length s.history }
+  pub history_is : b.history ≡ s.history
+  pub stands : StandsFor b.unit (opening_entries config n s.history)
+  pub marks : marks_of b.unit ≡ s.recorder.faults ∷ length s.history ∷ 0 ∷ []
+
+abbrev pub AreBegunOf : Configuration → ℕ → List StoredUnit → List BegunState → Type 0
+AreBegunOf config n [] [] = ⊤
+AreBegunOf config n (s ∷ ss) (b ∷ bs) = IsBegunOf config n s b × AreBegunOf config (suc n) ss bs
+AreBegunOf config n _ _ = ⊥
+
+-- the first n units are begun, of these, each of which comes to such a store
+pub record BegunSoFar {X : Type 0} (store_of : X → StoredUnit) (config : Configuration) (all rest : List X) (begun : List BegunState) (n : ℕ) : Type 0 where
+  pub gone : List X
   pub whole : gone ++ rest ≡ all
   pub count : length gone ≡ n
-  pub kins : map (λ (g : UnitGate). g.kin) gates ≡ kins_from config 0 (map facts gone)
-  pub seats_are : seats ≡ map begun gates
+  pub are : AreBegunOf config 0 (map store_of gone) begun
+
+-- ---- their gates
+
+-- the gate of such a unit, and the root's seat at it
+pub record IsSeatOf (gate : UnitGate) (seat : UnitSeat) (b : BegunState) : Type 0 where
+  pub kin : gate.kin ≡ Some (kin_of b.unit)
+  pub seat_is : seat ≡ first_seat gate (entries_begun b) (marks_of b.unit)
+
+abbrev pub AreSeatsOf : List UnitGate → List UnitSeat → List BegunState → Type 0
+AreSeatsOf [] [] [] = ⊤
+AreSeatsOf (g ∷ gs) (s ∷ ss) (b ∷ bs) = IsSeatOf g s b × AreSeatsOf gs ss bs
+AreSeatsOf _ _ _ = ⊥
+
+-- the gates of the first n units are made
+pub record BuiltSoFar (all rest : List BegunState) (gates : List UnitGate) (seats : List UnitSeat) (seqs : List ℕ) (n : ℕ) : Type 0 where
+  pub gone : List BegunState
+  pub whole : gone ++ rest ≡ all
+  pub count : length gone ≡ n
+  pub seated : AreSeatsOf gates seats gone
   pub seqs_are : seqs ≡ map (λ (g : UnitGate). 0) gates
+
+-- the world of these units, and its root, which has seen the entries with which they begin
+pub record IsBegunWith (config : Configuration) (units : List BegunState) (made : ℕ) (world : WorldView) (root : RootView) : Type 0 where
+  pub config_is : world.config ≡ config
+  pub gates : map (λ (g : UnitGate). g.kin) world.gates ≡ map (λ (b : BegunState). Some (kin_of b.unit)) units
+  pub root_is : root ≡ record {
+    config = world.config;
+    gates = world.gates;
+    register = world.register;
+    made = made;
+    out = [];
+    joined = [];
+    openings = map (λ (b : BegunState). length (entries_begun b)) units;
+    seen = map entries_begun units;
+    marks = map (λ (b : BegunState). marks_of b.unit) units;
+  }
+
+-- ---- units that go on with histories
+
+-- the unit of this number has gone on with the history: this was dropped
+pub record HasGoneOn (config : Configuration) (n : ℕ) (s : StoredUnit) (u : UnitState) : Type 0 where
+  pub stands : Stands u (opening_entries config n s.history)
+  pub folded : u.folded ≡ length s.history
+  pub config_is : u.config ≡ config
+  pub unit_is : u.unit ≡ n
+
+abbrev pub HaveGoneOn : Configuration → ℕ → List StoredUnit → List UnitState → Type 0
+HaveGoneOn config n [] [] = ⊤
+HaveGoneOn config n (s ∷ ss) (u ∷ us) = HasGoneOn config n s u × HaveGoneOn config (suc n) ss us
+HaveGoneOn config n _ _ = ⊥
+
+-- the first n have, and of the later ones some is bad exactly where some of all is
+pub record GoneOnSoFar (config : Configuration) (all : List StoredUnit) (units : List UnitState) (n : ℕ) : Type 0 where
+  pub gone : List StoredUnit
+  pub rest : List StoredUnit
+  pub whole : gone ++ rest ≡ all
+  pub count : length gone ≡ n
+  pub have : HaveGoneOn config 0 gone units
+  pub stored : AreStored config n rest
+  pub bad : bad_history config n rest ≡ bad_history config 0 all
+
+-- the units have their recorders so far, and these stores and units are left
+pub record RecordersSoFar {X : Type 0} (store_of : X → StoredUnit) (fits : X → Type 0) (config : Configuration) (all rest : List X) (units : List UnitState) (begun : List BegunState) (n : ℕ) : Type 0 where
+  pub begun_are : BegunSoFar store_of config all rest begun n
+  pub have : HaveGoneOn config n (map store_of rest) units
+  pub stored : AreStored config n (map store_of rest)
+  pub fits_rest : Each fits rest
+
+-- units of which nothing was asked yet are begun so far
+pub record NewSoFar {X : Type 0} (store_of : X → StoredUnit) (fits : X → Type 0) (config : Configuration) (all rest : List X) (begun : List BegunState) (n : ℕ) : Type 0 where
+  pub begun_are : BegunSoFar store_of config all rest begun n
+  pub fits_rest : Each fits rest

@@ -1,5 +1,5 @@
 -- The root's seats when the world is closed
-use Rattle.std.specs.Prelude.{◌≡◌, ◌≤◌, ℕ, zero, suc, ⊤, List, [], ◌∷◌, ◌++◌, length, map, true, false}
+use Rattle.std.specs.Prelude.{◌≡◌, ◌≤◌, ℕ, zero, suc, ⊤, List, [], ◌∷◌, ◌++◌, length, map, drop, true, false}
 use Rattle.cm_history.specs.declared.act.Entry.{Entry}
 use Rattle.cm_history.proofs.PublicLaws.{Each, In}
 use Rattle.merged_history.specs.PassRules.{IsHistory}
@@ -46,23 +46,23 @@ back_from zero seats = map given_back seats
 back_from (suc n) [] = []
 back_from (suc n) (s ∷ ss) = s ∷ back_from n ss
 
--- the first seat of a gate that began without entries, while no other is out; it has made nothing itself
+-- the first seat, while no other is out; it has made nothing itself
 pub record IsReady (s : UnitSeat) : Type 0 where
   pub first : s.first ≡ true
   pub out : s.out ≡ 0
   pub nothing : s.own ≡ []
-  pub opening : s.opening ≡ 0
 
 abbrev pub AreReady : List UnitSeat → Type 0
 AreReady seats = Each IsReady seats
 
 module _ {R : Type 0} (facts : R → RecorderFacts) (fits : R → Entry → Type 0) where
-  -- the gate is closed: each entry of the history was made by a joined seat
+  -- the gate is closed: the entries behind the opening ones are those that joined seats have made
   pub record IsClosed (s : UnitSeat) (unit : RecordedState) (left : ClosedUnit R) : Type 0 where
-    pub made : Each (λ (e : Entry). In e (entries_joined s.joined)) s.seen
+    pub made : Each (λ (e : Entry). In e (entries_joined s.joined)) (drop s.opening s.seen)
+    pub later : Each (λ (e : Entry). In e (drop s.opening s.seen)) (entries_joined s.joined)
     pub left_of : IsLeftOf facts fits (kin_of unit) s.seen left
     pub kept_is : left.history.entries ≡ unit.unit.kept
-    pub marks_are : (facts left.recorder).faults ∷ left.folded ∷ [] ≡ marks_of unit
+    pub marks_are : (facts left.recorder).faults ∷ left.folded ∷ left.late ∷ [] ≡ marks_of unit
 
   abbrev pub AreClosed : List UnitSeat → List RecordedState → List (ClosedUnit R) → Type 0
   AreClosed [] [] [] = ⊤

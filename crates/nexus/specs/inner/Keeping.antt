@@ -1,5 +1,5 @@
 -- What a world, a pass and the root keep from call to call
-use Rattle.std.specs.Prelude.{◌≡◌, ℕ, ◌+◌, ◌<◌, ⊤, List, [], ◌∷◌, ◌++◌, length, map, slice_get, slice_set, slice_index, Some}
+use Rattle.std.specs.Prelude.{◌≡◌, ℕ, ◌+◌, ◌<◌, ◌≤◌, ⊤, List, [], ◌∷◌, ◌++◌, length, map, take, slice_get, slice_set, slice_index, Some}
 use Rattle.atomic_table.specs.Seated.{TableId}
 use Rattle.cm_base.specs.Configuration.{Configuration}
 use Rattle.cm_history.specs.declared.act.Actor.{Actor}
@@ -7,7 +7,7 @@ use Rattle.cm_history.specs.declared.act.Actor.TheVariants.{Nexus, Pump}
 use Rattle.cm_history.specs.declared.act.Entry.{Entry}
 use Rattle.cm_history.proofs.PublicLaws.{Each}
 use Rattle.merged_history.specs.Merged.{merged}
-use Rattle.merged_history.specs.Own.{Rises}
+use Rattle.merged_history.specs.Own.{Rises, IsAsked}
 use Rattle.merged_history.specs.PassRules.{IsPass, IsRoot}
 use Rattle.pass_register.specs.declared.known.Ticket.{Ticket}
 use Rattle.pass_register.specs.Passes.{Joined, RootState, PassState, own_of}
@@ -42,6 +42,9 @@ owns {K} seats = map (λ (s : SeatState Entry K). entries_of s.own) seats
 abbrev pub seens : List UnitSeat → List (List Entry)
 seens seats = map (λ (s : UnitSeat). s.seen) seats
 
+abbrev pub openings : List UnitSeat → List ℕ
+openings seats = map (λ (s : UnitSeat). s.opening) seats
+
 -- what was made by the seats that were joined in
 abbrev pub entries_joined : List (JoinedSeat Entry) → List Entry
 entries_joined [] = []
@@ -71,6 +74,7 @@ root_view config made root seats = record {
   made = made;
   out = root.out;
   joined = root.joined;
+  openings = openings seats;
   seen = seens seats;
   marks = map (λ (s : UnitSeat). s.marks) seats;
 }
@@ -107,6 +111,11 @@ abbrev pub seqs_after : Actor → ℕ → List ℕ → List ℕ
 seqs_after (Nexus n) seq seqs = seqs
 seqs_after (Pump unit) seq seqs = slice_set seqs unit seq
 
+-- the entries that were there at the opening were seen, and might be asked
+pub record IsOpened (config : Configuration) (s : UnitSeat) : Type 0 where
+  pub low : s.opening ≤ length s.seen
+  pub asked : Each (IsAsked config) (take s.opening s.seen)
+
 pub record KeepsRoot (config : Configuration) (made : ℕ) (seqs : List ℕ) (root : RootState) (seats : List UnitSeat) : Type 0 where
   pub is : IsRoot config made (seens seats) (kepts seats) root.out root.joined
   pub gates_are : AreGates config (gates_of seats)
@@ -115,5 +124,5 @@ pub record KeepsRoot (config : Configuration) (made : ℕ) (seqs : List ℕ) (ro
   pub firsts : AreFirst seats
   pub outs : Each (λ (s : UnitSeat). s.out ≡ length root.out) seats
   pub nothing : Each (λ (s : UnitSeat). s.own ≡ []) seats
-  pub openings : Each (λ (s : UnitSeat). s.opening ≡ 0) seats
+  pub openings : Each (IsOpened config) seats
   pub seqs_are : AreSeqs seqs (length seats) root.joined

@@ -13,10 +13,10 @@ use std::test::Fail;
 const LBA: u64 = 0x1112_1314_1516_1718;
 
 /// How many codes of acts there are.
-pub(crate) const CODES: u8 = 18;
+pub(crate) const CODES: u8 = 21;
 
 /// Code and fields of each act but the sixth, which has only what stands before its token's text.
-const TEXTS: [&[u8]; 18] = [
+const TEXTS: [&[u8]; 21] = [
     &[
         0x01, 0x11, 0x12, 0x13, 0x14, 0x15, 0x16, 0x17, 0x18, 0x21, 0x22, 0x23, 0x24,
     ],
@@ -55,6 +55,12 @@ const TEXTS: [&[u8]; 18] = [
     &[0x10, 0x71],
     &[0x11, 0x71, 2, 0x81, 0x82, 0x91, 0x92, 0x93, 0x94],
     &[0x12, 0x71],
+    &[
+        0x13, 0x04, 0x0e, 0x05, 0x11, 0x12, 0x13, 0x14, 0x15, 0x16, 0x17, 0x18, 0, 0, 0x61, 0x62,
+        0x63, 0x64, 0x65, 0x66,
+    ],
+    &[0x14],
+    &[0x15],
 ];
 
 /// Adds code and fields of the act of a code.
@@ -209,13 +215,29 @@ fn high_act(alloc: Global, code: u8) -> Result<Act, Fail>
     }
 }
 
+fn reserving_act(code: u8) -> Act
+    ensures { HasShortLists result }
+{
+    match code {
+        19 => Act::PrOut {
+            action: 0x04,
+            scope: 0x0e,
+            kind: 0x05,
+            key: LBA,
+            action_key: 0x6162_6364_6566,
+        },
+        20 => Act::PrKeys,
+        _ => Act::PrHolder,
+    }
+}
+
 /// The act of a code.
 pub(crate) fn act(alloc: Global, code: u8) -> Result<Act, Fail>
     ensures { IfOk result HasShortLists }
 {
-    if code <= 9 {
-        low_act(alloc, code)
-    } else {
-        high_act(alloc, code)
+    match code {
+        ..=9 => low_act(alloc, code),
+        10..=18 => high_act(alloc, code),
+        _ => Ok(reserving_act(code)),
     }
 }

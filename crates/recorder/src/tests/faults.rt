@@ -41,7 +41,7 @@ const BYTES: [(u8, usize, u8); 17] = [
     (10, 10, 0xff),
     // the code of the act
     (1, 31, 0),
-    (1, 31, 19),
+    (1, 31, 22),
     (10, 31, 0xff),
     // whether an operation is in the background
     (8, 36, 2),

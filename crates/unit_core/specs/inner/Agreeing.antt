@@ -1,5 +1,5 @@
 -- What a unit keeps, and how that agrees with a list of entries
-use Rattle.std.specs.Prelude.{◌≡◌, ℕ, ◌+◌, ◌-◌, ◌^◌, ◌<◌, ◌≤◌, List, length, drop, sum_by}
+use Rattle.std.specs.Prelude.{◌≡◌, ℕ, ◌+◌, ◌^◌, ◌<◌, ◌≤◌, List, length, drop, sum_by}
 use Rattle.cm_base.specs.Configuration.{Configuration, IsUnit}
 use Rattle.cm_base.specs.Units.{unit_of}
 use Rattle.cm_base.specs.declared.config.UnitConfig.{UnitConfig}
@@ -11,6 +11,8 @@ use Rattle.cm_history.specs.Blocks.{held, mapped}
 use Rattle.cm_history.specs.Room.{bytes_in, reserved}
 use Rattle.cm_history.specs.History.{on, past_of}
 use Rattle.cm_history.specs.Asked.{AllAsked}
+use Rattle.cm_history.specs.Reserving.{reservations}
+use Rattle.pr_keys.specs.Reservations.{Reservations}
 use Rattle.rod_store.specs.Store.{Store}
 use Rattle.copy_jobs.specs.declared.job.Job.{Job}
 use Rattle.unit_core.specs.inner.Tables.{tokens_of, jobs_of}
@@ -34,11 +36,12 @@ pub record IsRecord (config : Configuration) (unit : ℕ) (entries : List Entry)
   pub asked : AllAsked config unit (past_of config unit entries)
 
 -- the tables and the counters are those that these entries make
-pub record TablesAgree (config : Configuration) (unit : ℕ) (own_blocks own_length : ℕ) (holds : ℕ → Held) (own_tokens : Store HeldBlocks) (own_jobs : List Job) (own_stamp own_moment : ℕ) (entries : List Entry) : Type 0 where
+pub record TablesAgree (config : Configuration) (unit : ℕ) (own_blocks own_length : ℕ) (holds : ℕ → Held) (own_tokens : Store HeldBlocks) (own_jobs : List Job) (own_reservations : Reservations) (own_stamp own_moment : ℕ) (entries : List Entry) : Type 0 where
   pub record_is : IsRecord config unit entries
   pub blocks : BlocksAgree (unit_of config unit) (past_of config unit entries) own_blocks own_length holds
   pub tokens : TokensAgree (unit_of config unit) unit (past_of config unit entries) own_tokens
   pub jobs : own_jobs ≡ jobs_of (past_of config unit entries)
+  pub reservations : own_reservations ≡ reservations (past_of config unit entries)
   pub stamp : own_stamp ≡ last_stamp (past_of config unit entries)
   pub moment : own_moment ≡ moment (past_of config unit entries)
   pub quota : mapped (unit_of config unit) (past_of config unit entries) ≤ (unit_of config unit).quota

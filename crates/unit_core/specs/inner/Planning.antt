@@ -1,5 +1,5 @@
 -- What is planned for an act: its answer, and what it is to change
-use Rattle.std.specs.Prelude.{◌≡◌, ◌⊎◌, ℕ, ◌+◌, ◌≤◌, List, ◌∷◌, length, max, Option, Some, None, Bool, true, ◌&&◌, ◌||◌, not, nat_lt, if◌then◌else◌}
+use Rattle.std.specs.Prelude.{◌≡◌, ◌⊎◌, ℕ, ◌+◌, ◌≤◌, List, ◌∷◌, length, max, Option, Some, None, unwrap_or, Bool, true, ◌&&◌, ◌||◌, not, nat_lt, if◌then◌else◌}
 use Rattle.cm_base.specs.declared.config.UnitConfig.{UnitConfig}
 use Rattle.lba_ranges.specs.Denoted.{blocks_of}
 use Rattle.lba_ranges.specs.HeldBlocks.{HeldBlocks}
@@ -31,14 +31,15 @@ use Rattle.unit_core.specs.inner.Seen.{ranges_made}
 use Rattle.unit_core.specs.Keys.{key_of}
 use Rattle.unit_core.specs.inner.Tables.{tokens_of, jobs_of}
 use Rattle.cm_history.specs.Ends.{ends_operation}
+use Rattle.cm_history.specs.Reserving.{reservations, reserved_by}
 
 -- nothing is to change
 abbrev pub quiet : Answer → Plan
-quiet answer = record { answer = answer; blocks = BlockChange.Nothing; jobs = JobChange.Nothing; tokens = TokenChange.Nothing }
+quiet answer = record { answer = answer; blocks = BlockChange.Nothing; jobs = JobChange.Nothing; tokens = TokenChange.Nothing; reservations = None }
 
 -- blocks alone are to change
 abbrev pub of_blocks : BlockPlan → Plan
-of_blocks plan = record { answer = plan.answer; blocks = plan.change; jobs = JobChange.Nothing; tokens = TokenChange.Nothing }
+of_blocks plan = record { answer = plan.answer; blocks = plan.change; jobs = JobChange.Nothing; tokens = TokenChange.Nothing; reservations = None }
 
 -- the deed of this act, after this past
 pub record IsDeed (config : Configuration) (unit : ℕ) (past : List Deed) (by : Actor) (at : ℕ) (asked : Act) (d : Deed) : Type 0 where
@@ -58,6 +59,7 @@ pub record IsPlan (config : Configuration) (unit : ℕ) (past : List Deed) (acto
   pub jobs : (d : Deed) → IsDeed config unit past actor at act d → jobs_of (d ∷ past) ≡ jobs_after plan.jobs (jobs_of past)
   pub tokens : (d : Deed) → IsDeed config unit past actor at act d
       → tokens_of (unit_of config unit) (d ∷ past) ≡ tokens_after (rod_now (unit_of config unit).block_length (held past)) plan.tokens (max at (moment past)) (tokens_of (unit_of config unit) past)
+  pub reservations : unwrap_or plan.reservations (reservations past) ≡ reserved_by (reservations past) actor act
   pub may_blocks : MayChange (unit_of config unit).blocks (unit_of config unit).block_length plan.blocks
   pub may_jobs : MayJob plan.jobs (jobs_of past)
   pub may_tokens : (spare : ℕ) → (is_make plan.tokens ≡ true → 1 ≤ spare)
@@ -101,10 +103,12 @@ piece_plan unit now piece =
       blocks = BlockChange.Nothing;
       jobs = JobChange.Stop piece.key;
       tokens = TokenChange.Nothing;
+      reservations = None;
     }
     else record {
       answer = Answer.Progress (if piece.is_last then OpState.Done else OpState.Running) (piece.written + length piece.list.items);
       blocks = BlockChange.Put piece.ranges piece.list;
       jobs = JobChange.Move piece.key (length piece.list.items);
       tokens = TokenChange.Nothing;
+      reservations = None;
     }

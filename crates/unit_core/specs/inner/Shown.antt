@@ -13,6 +13,7 @@ use Rattle.cm_history.specs.Image.{Image, TokenImage, OperationImage}
 use Rattle.rod_store.specs.declared.kept.Kept.{Kept}
 use Rattle.rod_store.specs.declared.kept.TokenState.{TokenState}
 use Rattle.copy_jobs.specs.declared.key.Key.{Key}
+use Rattle.pr_keys.specs.Reservations.{Reservations}
 use Rattle.copy_jobs.specs.declared.job.Job.{Job}
 use Rattle.copy_jobs.specs.declared.job.Work.{Work}
 use Rattle.copy_jobs.specs.declared.job.Work.TheVariants.{Populated, Writing, Copying}
@@ -62,12 +63,13 @@ abbrev pub job_shown : Job → OperationImage
 job_shown job = work_shown job.key job.work
 
 -- the image that these tables show, after so many entries
-abbrev pub image_shown : ℕ → ℕ → ℕ → ℕ → (ℕ → Held) → List (Kept HeldBlocks) → List Job → Image
-image_shown moment last_stamp entries blocks holds tokens jobs = record {
+abbrev pub image_shown : ℕ → ℕ → ℕ → ℕ → (ℕ → Held) → List (Kept HeldBlocks) → List Job → Reservations → Image
+image_shown moment last_stamp entries blocks holds tokens jobs reservations = record {
   moment = moment;
   last_stamp = last_stamp;
   entries = entries;
   blocks = map holds (row 0 blocks);
   tokens = map token_shown tokens;
   kept = map job_shown jobs;
+  reservations = reservations;
 }

@@ -1,7 +1,7 @@
 -- Which of the versions that a VersionUnit keeps are the same
-use Rattle.std.proofs.Common.{◌≡◌, ℕ, List, [], ◌∷◌, refl, ap, sym, ◌∙◌, subst, true, false, Bool, true≢false}
+use Rattle.std.proofs.Common.{◌≡◌, ℕ, List, [], ◌∷◌, refl, ap, sym, ◌∙◌, true, false, Bool, true≢false}
 use Rattle.std.proofs.lemmas.Bool.{eq-eqb, eqb-true}
-use Rattle.std.specs.Prelude.{◌<◌, Option, Some, None, is_some, nat_le, ◌||◌, ◌==◌, option_map, if◌then◌else◌}
+use Rattle.std.specs.Prelude.{Option, Some, None, is_some, nat_le, ◌||◌, ◌==◌, option_map, if◌then◌else◌}
 use Rattle.std.specs.List.{list_any}
 use Rattle.slab.specs.Slab.{get}
 use Rattle.lba_ranges.specs.declared.ranges.Range.{Range}
@@ -9,8 +9,8 @@ use Rattle.lba_ranges.specs.Denoted.{denotes, has_repeat}
 use Rattle.lba_ranges.specs.Versions.{Writers}
 use Rattle.lba_ranges.specs.Writings.{Held}
 use Rattle.lun_versions.specs.declared.pinned.Pinned.{Pinned}
-use Rattle.lun_versions.specs.Chains.{Slot, put_at, somes, AreAlike, AreWritten}
-use Rattle.lun_versions.specs.Units.{ranges_of, AreWrittenBy}
+use Rattle.lun_versions.specs.Chains.{Slot, put_at, somes, AreAlike}
+use Rattle.lun_versions.specs.Units.{ranges_of}
 use Rattle.lun_versions.specs.Versioned.{Versioned, holds, chain, WrittenBy}
 use Rattle.unit_core.specs.Versions.{same_put}
 use Rattle.unit_core.specs.Sharing.{put_of, IsSeenBy, AreShared}

@@ -32,6 +32,11 @@ pub(crate) enum Told {
     /// So many blocks are written, and no more for this reason.
     Stopped(u32, u8, u8, u8),
     Refused(u8, u8, u8),
+    Conflict,
+    /// The generation, and the first key.
+    Keys(u32, Option<u64>),
+    /// The generation, and the key and the type of the reservation.
+    Holder(u32, Option<(u64, u8)>),
     Idle,
     Other,
 }
@@ -63,6 +68,13 @@ fn answered(answer: Answer) -> Told {
         Answer::Progress { state, count } => progress(state, count),
         Answer::Report(report) => progress(report.state, report.count),
         Answer::Refused(sense) => Told::Refused(sense.key(), sense.asc(), sense.ascq()),
+        Answer::Conflict => Told::Conflict,
+        Answer::Keys { generation, keys } => {
+            Told::Keys(generation, keys.as_slice().first().copied())
+        }
+        Answer::Holder { generation, holder } => {
+            Told::Holder(generation, holder.map(|held| (held.key, held.kind)))
+        }
         Answer::Idle => Told::Idle,
         _ => Told::Other,
     }
@@ -103,6 +115,21 @@ pub(crate) fn ample(alloc: Global) -> Result<Config, Fail>
     machine(alloc, 1024, 4096, 4_194_304)
 }
 
+/// An act of a nexus at a moment.
+pub(crate) fn ask_as(config: &Config, unit: &mut Unit, nexus: u32, moment: u64, act: Act) -> Told
+    requires config { unit.old.config ≡ config.now }
+    requires unit { unit.old.unit ≡ 0 }
+    requires one { length config.now.units ≡ 1 }
+    requires asked { may_ask 0 (Actor.Nexus nexus) act ≡ true }
+    ensures config { unit.new.config ≡ unit.old.config }
+    ensures unit { unit.new.unit ≡ unit.old.unit }
+{
+    if !within_limits(config, 0, &act) {
+        return Told::PastLimits;
+    }
+    in_short(unit.act(Actor::Nexus(nexus), 0, 0, moment, act))
+}
+
 /// An act of nexus 1 at a moment.
 pub(crate) fn ask(config: &Config, unit: &mut Unit, moment: u64, act: Act) -> Told
     requires config { unit.old.config ≡ config.now }
@@ -112,10 +139,7 @@ pub(crate) fn ask(config: &Config, unit: &mut Unit, moment: u64, act: Act) -> To
     ensures config { unit.new.config ≡ unit.old.config }
     ensures unit { unit.new.unit ≡ unit.old.unit }
 {
-    if !within_limits(config, 0, &act) {
-        return Told::PastLimits;
-    }
-    in_short(unit.act(Actor::Nexus(1), 0, 0, moment, act))
+    ask_as(config, unit, 1, moment, act)
 }
 
 /// The pump's act.
@@ -128,7 +152,7 @@ pub(crate) fn pump(unit: &mut Unit) -> Told
 }
 
 /// Blocks of one byte.
-fn blocks(alloc: Global, byte: u8, count: u32) -> Result<BlockList, Fail>
+pub(crate) fn blocks(alloc: Global, byte: u8, count: u32) -> Result<BlockList, Fail>
     requires { count ≤ 2048 }
 {
     let bytes = vec![in alloc; byte; count as usize * 512]?;

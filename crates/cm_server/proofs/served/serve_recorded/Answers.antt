@@ -9,7 +9,7 @@ use Rattle.cm_server.proofs.served.serve_recorded.Goals as goal
 
 pub record_all-requires : goal.record_all-requires
 record_all-requires g c =
-    let facts_of = facts g.R.Recorder.recorded g.R.Recorder.record_faults g.R.Recorder.absent in
+    let facts_of = facts g.R.Recorder.recorded g.R.Recorder.record_faults g.R.Recorder.absent g.R.Recorder.front in
     let front = c.split_off.new.self.items in
     let many : length front ≡ length c.args.config.units =
     front-many c.args.recorders.items front c.from.result (length c.args.config.units) c.in_ok-spare.ensures.items (c.from.ensures ∙ c.units.ensures.count) c.requires.units in
@@ -18,7 +18,7 @@ record_all-requires g c =
 
 pub give_back-requires : goal.give_back-requires
 give_back-requires g c =
-    let facts_of = facts g.R.Recorder.recorded g.R.Recorder.record_faults g.R.Recorder.absent in
+    let facts_of = facts g.R.Recorder.recorded g.R.Recorder.record_faults g.R.Recorder.absent g.R.Recorder.front in
     let front = c.split_off.new.self.items in
     let many : length front ≡ length c.args.config.units =
     front-many c.args.recorders.items front c.from.result (length c.args.config.units) c.in_ok-spare.ensures.items (c.from.ensures ∙ c.units.ensures.count) c.requires.units in
@@ -33,7 +33,7 @@ give_back-requires g c =
 
 pub unreachable-requires : goal.unreachable-requires
 unreachable-requires g c =
-    let facts_of = facts g.R.Recorder.recorded g.R.Recorder.record_faults g.R.Recorder.absent in
+    let facts_of = facts g.R.Recorder.recorded g.R.Recorder.record_faults g.R.Recorder.absent g.R.Recorder.front in
     let front = c.split_off.new.self.items in
     let many : length front ≡ length c.args.config.units =
     front-many c.args.recorders.items front c.from.result (length c.args.config.units) c.in_ok-spare.ensures.items (c.from.ensures ∙ c.units.ensures.count) c.requires.units in
@@ -55,7 +55,7 @@ unreachable-requires g c =
 
 pub returns-clause-accept : goal.returns-clause-accept
 returns-clause-accept g c =
-    let facts_of = facts g.R.Recorder.recorded g.R.Recorder.record_faults g.R.Recorder.absent in
+    let facts_of = facts g.R.Recorder.recorded g.R.Recorder.record_faults g.R.Recorder.absent g.R.Recorder.front in
     let front = c.split_off.new.self.items in
     let many : length front ≡ length c.args.config.units =
     front-many c.args.recorders.items front c.from.result (length c.args.config.units) c.in_ok-spare.ensures.items (c.from.ensures ∙ c.units.ensures.count) c.requires.units in
@@ -64,7 +64,7 @@ returns-clause-accept g c =
 
 pub returns-clause-count : goal.returns-clause-count
 returns-clause-count g c =
-    let facts_of = facts g.R.Recorder.recorded g.R.Recorder.record_faults g.R.Recorder.absent in
+    let facts_of = facts g.R.Recorder.recorded g.R.Recorder.record_faults g.R.Recorder.absent g.R.Recorder.front in
     let front = c.split_off.new.self.items in
     let many : length front ≡ length c.args.config.units =
     front-many c.args.recorders.items front c.from.result (length c.args.config.units) c.in_ok-spare.ensures.items (c.from.ensures ∙ c.units.ensures.count) c.requires.units in
@@ -85,7 +85,7 @@ returns-clause-count g c =
 
 pub returns-clause-recorded : goal.returns-clause-recorded
 returns-clause-recorded g c =
-    let facts_of = facts g.R.Recorder.recorded g.R.Recorder.record_faults g.R.Recorder.absent in
+    let facts_of = facts g.R.Recorder.recorded g.R.Recorder.record_faults g.R.Recorder.absent g.R.Recorder.front in
     let front = c.split_off.new.self.items in
     let many : length front ≡ length c.args.config.units =
     front-many c.args.recorders.items front c.from.result (length c.args.config.units) c.in_ok-spare.ensures.items (c.from.ensures ∙ c.units.ensures.count) c.requires.units in

@@ -22,6 +22,6 @@ returns-in-Ok g c = λ recorders begun each.
         were = were-accepted c.run_threads-ran.result.end c.has_failed.result c.args.count (length s.0) _ _ s.1.were c.run_threads-ran.ensures.failed c.in_default.not-OutOfMemory
             c.has_failed.ensures.failed c.has_failed.ensures.other;
       },
-      closed-all (facts g.R.Recorder.recorded g.R.Recorder.record_faults g.R.Recorder.absent) g.R.Recorder.fits c.args.config (g.C.Clock.shows c.args.clock) _ _ _ _ s.0
+      closed-all (facts g.R.Recorder.recorded g.R.Recorder.record_faults g.R.Recorder.absent g.R.Recorder.front) g.R.Recorder.fits c.args.config (g.C.Clock.shows c.args.clock) _ _ _ _ s.0
           c.in-Ok.closed.units.items recorders c.args.world c.args.root _ _ c.in-Ok.closed.merged begun each s.2 c.in_ok-pump_all_out.ensures.settled c.in-Ok.ensures.closed,
     ))

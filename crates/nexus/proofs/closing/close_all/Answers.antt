@@ -9,7 +9,7 @@ use Rattle.nexus.proofs.closing.close_all.Goals as goal
 
 pub loop-held-init : goal.loop-held-init
 loop-held-init g c =
-    let start = closing-none (facts g.R.Recorder.recorded g.R.Recorder.record_faults g.R.Recorder.absent) g.R.Recorder.fits c.args.seats.items c.args.turns.items c.args.gates.items (vec_capacity c.args.units.now) (vec_capacity c.args.units.now)
+    let start = closing-none (facts g.R.Recorder.recorded g.R.Recorder.record_faults g.R.Recorder.absent g.R.Recorder.front) g.R.Recorder.fits c.args.seats.items c.args.turns.items c.args.gates.items (vec_capacity c.args.units.now) (vec_capacity c.args.units.now)
     c.requires.gates c.requires.held c.requires.ready (omega arith) in (
       rw (c.into_iter-seats.ensures.rest, c.into_iter-turns.ensures.rest, c.into_iter-gates.ensures.rest, c.requires.none) start,
       c.into_iter-turns.ensures.len ∙ c.args.turns.ok.0 ∙ ap length (sym c.into_iter-turns.ensures.rest),
@@ -19,7 +19,7 @@ loop-held-init g c =
 
 pub returns : goal.returns
 returns g c =
-    let facts_of = facts g.R.Recorder.recorded g.R.Recorder.record_faults g.R.Recorder.absent in
+    let facts_of = facts g.R.Recorder.recorded g.R.Recorder.record_faults g.R.Recorder.absent g.R.Recorder.front in
     let none = nothing-left (into_iter_items c.loop-held.turns) (sym c.loop-held.invariant.1 ∙ c.in_default.ensures.cases.0) in
     let all = closing-all facts_of g.R.Recorder.fits (into_iter_items c.into_iter-seats.result) (into_iter_items c.loop-held.seats) (into_iter_items c.into_iter-turns.result) (into_iter_items c.loop-held.turns) (into_iter_items c.loop-held.gates)
     c.loop-held.units.items (vec_capacity c.args.units.now) (vec_capacity c.loop-held.units) c.loop-held.invariant.0 none in
@@ -28,7 +28,7 @@ returns g c =
 
 pub push_reserved-requires : goal.push_reserved-requires
 push_reserved-requires g c =
-    let facts_of = facts g.R.Recorder.recorded g.R.Recorder.record_faults g.R.Recorder.absent in
+    let facts_of = facts g.R.Recorder.recorded g.R.Recorder.record_faults g.R.Recorder.absent g.R.Recorder.front in
     let next = closing-next facts_of g.R.Recorder.fits (into_iter_items c.into_iter-seats.result) (into_iter_items c.loop-held.seats) (into_iter_items c.next-in-Some-2.new.self) (into_iter_items c.into_iter-turns.result) (into_iter_items c.loop-held.turns) (into_iter_items c.next.new.self)
     (into_iter_items c.loop-held.gates) (into_iter_items c.next-in-Some.new.self) c.loop-held.units.items c.in-Some-next-2.seat c.in-Some.held c.in-Some-next.gate (vec_capacity c.args.units.now) (vec_capacity c.loop-held.units)
     c.loop-held.invariant.0 c.in-Some.ensures.items c.in-Some-next-2.ensures.items c.in-Some-next.ensures.items in
@@ -43,7 +43,7 @@ push_reserved-requires g c =
 
 pub loop-held-preserved : goal.loop-held-preserved
 loop-held-preserved g c =
-    let facts_of = facts g.R.Recorder.recorded g.R.Recorder.record_faults g.R.Recorder.absent in
+    let facts_of = facts g.R.Recorder.recorded g.R.Recorder.record_faults g.R.Recorder.absent g.R.Recorder.front in
     let next = closing-next facts_of g.R.Recorder.fits (into_iter_items c.into_iter-seats.result) (into_iter_items c.loop-held.seats) (into_iter_items c.next-in-Some-2.new.self) (into_iter_items c.into_iter-turns.result) (into_iter_items c.loop-held.turns) (into_iter_items c.next.new.self)
     (into_iter_items c.loop-held.gates) (into_iter_items c.next-in-Some.new.self) c.loop-held.units.items c.in-Some-next-2.seat c.in-Some.held c.in-Some-next.gate (vec_capacity c.args.units.now) (vec_capacity c.loop-held.units)
     c.loop-held.invariant.0 c.in-Some.ensures.items c.in-Some-next-2.ensures.items c.in-Some-next.ensures.items in

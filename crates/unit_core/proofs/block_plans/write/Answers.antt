@@ -4,8 +4,8 @@ use Rattle.std.specs.Prelude.{nat_le}
 use Rattle.lba_ranges.proofs.PublicLaws.{overlapping-cons}
 use Rattle.unit_core.proofs.block_plans.write.Goals as goal
 
-pub mapped_after-requires-clause-apart : goal.mapped_after-requires-clause-apart
-mapped_after-requires-clause-apart g c = rw c.in_ok-ranges.ensures (overlapping-cons (record { lba = c.args.lba; count = c.blocks-count.result }) [])
+pub exceeds_quota-requires-clause-apart : goal.exceeds_quota-requires-clause-apart
+exceeds_quota-requires-clause-apart g c = rw c.in_ok-ranges.ensures (overlapping-cons (record { lba = c.args.lba; count = c.blocks-count.result }) [])
 
 pub returns-clause-may : goal.returns-clause-may
 returns-clause-may g c =

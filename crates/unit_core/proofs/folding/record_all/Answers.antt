@@ -1,7 +1,5 @@
-use Rattle.std.proofs.Common.{◌≡◌, ◌∷◌, ◌+◌, ℕ, sym, ap, ◌∙◌, subst, arith, length, drop}
-use Rattle.cm_history.specs.Room.{bytes_in}
-use Rattle.unit_core.specs.inner.Agreeing.{payload_in}
-use Rattle.unit_core.proofs.Folds.{Moved, moved-start, moved-more, rose-later, first-any, is-front}
+use Rattle.std.proofs.Common.{◌∷◌, sym, ap, ◌∙◌, subst, arith}
+use Rattle.unit_core.proofs.Folds.{Moved, moved-more, first-any, is-front}
 use Rattle.unit_core.proofs.folding.record_all.Goals as goal
 
 pub bytes_in-bytes-requires : goal.bytes_in-bytes-requires
@@ -29,4 +27,5 @@ loop-history-preserved g c =
       omega (arith, before.6, c.record.ensures.counts),
       (λ gone. let no = sym c.in-Ok.ensures.present ∙ before.5 ∙ gone in cc),
       rw c.drop_first.ensures.dropped (omega (arith, f.bytes, before.8)),
+      c.record.ensures.front ∙ before.9,
     )

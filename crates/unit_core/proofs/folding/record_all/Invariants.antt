@@ -18,6 +18,7 @@ invariant-loop-history g l =
     × (g.R.Recorder.record_faults l.initial.recorder ≤ g.R.Recorder.record_faults l.recorder)
     × (g.R.Recorder.absent l.initial.recorder ≡ true → l.history.entries ≡ l.initial.history.entries)
     × (payload_in l.history.entries < 2 ^ 64)
+    × (g.R.Recorder.front l.recorder ≡ g.R.Recorder.front l.initial.recorder)
 
 abbrev pub decreases-loop-history : goal.decreases-loop-history
 decreases-loop-history g l = length l.history.entries

@@ -2,7 +2,7 @@ use Rattle.std.proofs.Common.{sym, ◌∙◌, subst}
 use Rattle.unit_gate.specs.Asking.{IsServed}
 use Rattle.unit_gate.specs.Recorded.{RecordedState, kin_of}
 use Rattle.unit_gate.specs.SeatActs.{UnitSeat}
-use Rattle.unit_gate.proofs.Seats.{acted-in-turn, counts, leaves, newest-some, refused-in-turn, was-done, was-refused}
+use Rattle.unit_gate.proofs.Seats.{acted-in-turn, counts, leaves, newest-some, refused-in-turn, saved-in-turn, was-done, was-refused}
 use Rattle.unit_gate.proofs.seat_acts.act_in_turn.Goals as goal
 
 pub returns-in-Ok-clause-done : goal.returns-in-Ok-clause-done
@@ -38,3 +38,12 @@ returns-in-Err-clause-served g c =
     let refused = was-refused c.args.turn _ c.act.new.self c.args.seat.now.seen c.args.asked c.in-Err.refused c.value.ensures.value c.requires.stands c.in-Err.ensures.refused in
     subst (λ (s : UnitSeat). IsServed (kin_of c.args.turn) s.seen c.args.asked c.in-Err.refused) (sym c.leave-in-Err.ensures)
     (subst (λ (s : RecordedState). IsServed (kin_of s) c.args.seat.now.seen c.args.asked c.in-Err.refused) c.value.ensures.value refused.served)
+
+pub returns-in-Ok-clause-saved : goal.returns-in-Ok-clause-saved
+returns-in-Ok-clause-saved g c =
+    saved-in-turn c.args.turn _ c.act.new.self _ _ c.fold_if_eager.new.self _ c.args.seat.now c.count.new.seat c.leave.new.seat
+    c.value.ensures.value c.requires.marks c.act.ensures.marks c.act.ensures.kin c.count.ensures.value c.value-in-Ok.ensures.value c.fold_if_eager.ensures.saved
+    (c.fold_if_eager.ensures.stands c.count.new.seat.seen
+    (leaves c.act.new.self _ c.args.seat.now c.count.new.seat (c.value-in-Ok.ensures.value ∙ c.count.ensures.value) c.count.ensures.seat
+    (counts c.args.turn _ c.act.new.self c.args.seat.now.seen c.args.asked c.in-Ok.acted c.value.ensures.value c.requires.stands c.in-Ok.ensures.done)))
+    c.leave.ensures

@@ -1,10 +1,11 @@
 use Rattle.std.proofs.Common.{◌≡◌, None, Some, false, inl, inr, sym, subst}
-use Rattle.journal_disk.specs.Opened.{opened}
+use Rattle.journal_disk.specs.Opened.{front_bytes, opened}
 use Rattle.journal_disk.specs.Journal.{StaysGood, SyncsFirst}
-use Rattle.journal_disk.specs.Recording.{recorded_in, IsFit}
+use Rattle.journal_disk.specs.Recording.{recorded_in, front_in, IsFit}
 use Rattle.journal_disk.specs.declared.log.Log.{Log}
 use Rattle.journal_disk.proofs.Good.{open-stays, refused-stays, never-bad}
 use Rattle.journal_disk.proofs.Openings.{told-or-not, journal-fits, journal-recorded}
+use Rattle.journal_disk.proofs.Told.{kept-front}
 use Rattle.journal_disk.proofs.journal.Journal.open.Goals as goal
 
 pub returns-in-Ok-clause-recorded : goal.returns-in-Ok-clause-recorded
@@ -13,6 +14,14 @@ returns-in-Ok-clause-recorded g c = λ file told.
     subst (λ (l : Log _). recorded_in l.start l.gate (g.D.Disk.reads l.disk) ≡ Some found.history.entries) (sym c.over.ensures)
     (journal-recorded c.args.config.now c.args.unit g.D.Disk.reads g.D.Disk.may_leave g.met.D.Disk.reads_left found.history.entries None
     (record { disk = c.open_disk.new.disk; start = found.start; gate = found.gate; begun = false }) (c.in-Ok.ensures.kept file told))
+
+pub returns-in-Ok-clause-front : goal.returns-in-Ok-clause-front
+returns-in-Ok-clause-front g c = λ file told.
+    let found = c.in-Ok.found in
+    let journal = c.in-Ok.ensures.kept file told in
+    subst (λ (l : Log _). front_in l.start (g.D.Disk.reads l.disk) ≡ Some (front_bytes c.args.config.now c.args.unit)) (sym c.over.ensures)
+    (kept-front g.D.Disk.reads g.D.Disk.may_leave g.met.D.Disk.reads_left (front_bytes c.args.config.now c.args.unit) journal.payloads journal.begun
+    (record { disk = c.open_disk.new.disk; start = found.start; gate = found.gate; begun = false }) journal.kept journal.start)
 
 pub returns-in-Ok-clause-fits : goal.returns-in-Ok-clause-fits
 returns-in-Ok-clause-fits g c = λ e.

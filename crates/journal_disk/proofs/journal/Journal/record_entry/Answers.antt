@@ -7,7 +7,7 @@ use Rattle.journal_disk.specs.inner.Texts.{HasText}
 use Rattle.journal_disk.specs.Journal.{OpensAsOrOneMore}
 use Rattle.journal_disk.specs.declared.log.Log.{Log}
 use Rattle.journal_disk.proofs.Moments.{started, weaker}
-use Rattle.journal_disk.proofs.Told.{on-ok, on-ok-then, on-err-then}
+use Rattle.journal_disk.proofs.Told.{on-ok, on-ok-then, on-err-then, tried-by}
 use Rattle.journal_disk.proofs.Entries.{read-in, one-more, or-one-more, journal-grown, journal-kept}
 use Rattle.journal_disk.proofs.journal.Journal.record_entry.Goals as goal
 
@@ -21,7 +21,7 @@ returns-clause-text g c =
     let e = c.args.entry.now in
     let text : c.as_slice.result.now ≡ entry_bytes e = c.as_slice.ensures ∙ c.in_ok-text.ensures.written in
     let short : length (entry_bytes e) < 2 ^ 64 = subst (λ (t : List ℕ). length t < 2 ^ 64) text c.append.ensures.short in
-    let has : HasText e = (subst (λ (t : List ℕ). entry_in t ≡ Some e) c.in_ok-text.ensures.written (read-in _ e c.in_ok-text.ensures.read_back), short) in
+    let has : HasText e = (short, subst (λ (t : List ℕ). entry_in t ≡ Some e) c.in_ok-text.ensures.written (read-in _ e c.in_ok-text.ensures.read_back)) in
     on-ok c.append.result has
 
 pub returns-clause-grown_records : goal.returns-clause-grown_records
@@ -32,9 +32,14 @@ returns-clause-grown_records g c = λ front ps last kept.
 
 pub returns-clause-kept_records : goal.returns-clause-kept_records
 returns-clause-kept_records g c = λ front ps last kept.
-    let text : c.as_slice.result.now ≡ entry_bytes c.args.entry.now = c.as_slice.ensures ∙ c.in_ok-text.ensures.written in
-    subst (λ (t : List ℕ). OnErr c.append.result ((next : Option (List ℕ)) × IsTried last t next × IsKept g.D.Disk.reads g.D.Disk.may_leave front ps next c.append.new.self)) text
-    (c.append.ensures.kept front ps last (subst (λ (l : Log _). IsKept g.D.Disk.reads g.D.Disk.may_leave front ps last l) (sym c.self.view_is) kept))
+    let e = c.args.entry.now in
+    let text : c.as_slice.result.now ≡ entry_bytes e = c.as_slice.ensures ∙ c.in_ok-text.ensures.written in
+    let short : length (entry_bytes e) < 2 ^ 64 = subst (λ (t : List ℕ). length t < 2 ^ 64) text c.append.ensures.short in
+    let has : HasText e = (short, subst (λ (t : List ℕ). entry_in t ≡ Some e) c.in_ok-text.ensures.written (read-in _ e c.in_ok-text.ensures.read_back)) in
+    on-err-then c.append.result
+    (λ after. (after.0, tried-by last e after.0 has after.1, after.2))
+    (subst (λ (t : List ℕ). OnErr c.append.result ((next : Option (List ℕ)) × IsTried last t next × IsKept g.D.Disk.reads g.D.Disk.may_leave front ps next c.append.new.self)) text
+    (c.append.ensures.kept front ps last (subst (λ (l : Log _). IsKept g.D.Disk.reads g.D.Disk.may_leave front ps last l) (sym c.self.view_is) kept)))
 
 pub returns-clause-recorded : goal.returns-clause-recorded
 returns-clause-recorded g c = λ config unit es tried journal may.

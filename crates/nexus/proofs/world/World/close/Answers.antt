@@ -35,7 +35,7 @@ invariant_of-root g c =
 
 pub returns-in-Ok-merge-clause-closed : goal.returns-in-Ok-merge-clause-closed
 returns-in-Ok-merge-clause-closed g c =
-    let facts_of = facts g.R.Recorder.recorded g.R.Recorder.record_faults g.R.Recorder.absent in
+    let facts_of = facts g.R.Recorder.recorded g.R.Recorder.record_faults g.R.Recorder.absent g.R.Recorder.front in
     let none = ap (λ (v : RootView). v.out) c.root.view_is ∙ nothing-left c.args.root.out c.requires.none in
     let is = c.in-Ok-merge.ensures ∙ ap (λ l. merged (map (λ (u : RecordedState). u.unit.kept) l)) c.as_slice.ensures.value in
     subst (λ (v : RootView). WasClosed facts_of g.R.Recorder.fits v c.close_all.new.units.items c.in-Ok-merge.merged) c.root.view_is

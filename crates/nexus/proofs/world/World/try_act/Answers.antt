@@ -3,12 +3,12 @@ use Rattle.cm_history.specs.Legal.{may_ask}
 use Rattle.cm_history.specs.Limits.{within_limits}
 use Rattle.unit_gate.specs.declared.kin.UnitKin.{UnitKin}
 use Rattle.unit_gate.specs.Asking.{IsServed as IsServedAt}
-use Rattle.unit_gate.specs.SeatActs.{HasActed, IfAct, IsTryRefused}
-use Rattle.nexus.specs.Worlds.{UnitGate, PassView, WasAnswered, IsServed, NotTaken, Stays}
+use Rattle.unit_gate.specs.SeatActs.{HasActed, IsSaved as IsSavedAt, IfAct, IsTryRefused}
+use Rattle.nexus.specs.Worlds.{UnitGate, PassView, WasAnswered, IsSaved, IsServed, NotTaken, Stays}
 use Rattle.nexus.specs.inner.Gates.{config_of}
 use Rattle.nexus.specs.inner.Keeping.{gates_of, pass_view, KeepsPass}
 use Rattle.nexus.proofs.Acted.{asking, done}
-use Rattle.nexus.proofs.NotDone.{not-taken, not-taken-keeps, served-there}
+use Rattle.nexus.proofs.NotDone.{not-taken, not-taken-keeps, saved, served-there}
 use Rattle.nexus.proofs.Staying.{stays-answered, stays-not-taken}
 use Rattle.nexus.proofs.Turning.{place, if-some, some-if}
 use Rattle.nexus.proofs.world.World.try_act.Goals as goal
@@ -37,7 +37,7 @@ next_seq-pass-inside-requires g c =
     (if-some (λ k. HasActed k c.index_mut-seat.result.now c.try_act.new.seat (asking c.pass.inside.actor c.pass.inside.seq c.pass.inside.last_stamp c.args.moment c.args.act) c.in-Ok.field-0)
     c.index-gate.result.now.kin p.kin p.has c.in-Ok.ensures.done) in
     let d = done c.pass.inside.slip c.pass.inside.seats.items c.pass.inside.actor c.pass.inside.seq c.pass.inside.last_stamp c.pass.invariant c.from-index.result c.index_mut-seat.result.now c.try_act.new.seat p.low
-    c.index_mut-seat.ensures.value p.kin.opening c.args.moment c.args.act c.in-Ok.field-0 p.limits p.asked did in
+    c.index_mut-seat.ensures.value p.kin c.args.moment c.args.act c.in-Ok.field-0 p.limits p.asked did in
     let low = d.low in
     omega (arith, low)
 
@@ -50,7 +50,7 @@ invariant_of-pass g c =
     (if-some (λ k. HasActed k c.index_mut-seat.result.now c.try_act.new.seat (asking c.pass.inside.actor c.pass.inside.seq c.pass.inside.last_stamp c.args.moment c.args.act) c.in-Ok.field-0)
     c.index-gate.result.now.kin p.kin p.has c.in-Ok.ensures.done) in
     let d = done c.pass.inside.slip c.pass.inside.seats.items c.pass.inside.actor c.pass.inside.seq c.pass.inside.last_stamp c.pass.invariant c.from-index.result c.index_mut-seat.result.now c.try_act.new.seat p.low
-    c.index_mut-seat.ensures.value p.kin.opening c.args.moment c.args.act c.in-Ok.field-0 p.limits p.asked did in
+    c.index_mut-seat.ensures.value p.kin c.args.moment c.args.act c.in-Ok.field-0 p.limits p.asked did in
     subst (λ n. KeepsPass (config_of (gates_of (slice_set c.pass.inside.seats.items c.from-index.result c.try_act.new.seat))) c.pass.inside.slip.ticket (slice_set c.pass.inside.seats.items c.from-index.result c.try_act.new.seat)
     c.pass.inside.actor n c.in-Ok.field-0.stamp) (sym c.next_seq-pass-inside.ensures) d.keeps
 
@@ -75,7 +75,7 @@ returns-in-Ok-clause-done g c =
     (if-some (λ k. HasActed k c.index_mut-seat.result.now c.try_act.new.seat (asking c.pass.inside.actor c.pass.inside.seq c.pass.inside.last_stamp c.args.moment c.args.act) c.in-Ok.field-0)
     c.index-gate.result.now.kin p.kin p.has c.in-Ok.ensures.done) in
     let d = done c.pass.inside.slip c.pass.inside.seats.items c.pass.inside.actor c.pass.inside.seq c.pass.inside.last_stamp c.pass.invariant c.from-index.result c.index_mut-seat.result.now c.try_act.new.seat p.low
-    c.index_mut-seat.ensures.value p.kin.opening c.args.moment c.args.act c.in-Ok.field-0 p.limits p.asked did in
+    c.index_mut-seat.ensures.value p.kin c.args.moment c.args.act c.in-Ok.field-0 p.limits p.asked did in
     subst (λ u. WasAnswered c.args.pass.now (pass_view (config_of (gates_of (slice_set c.pass.inside.seats.items c.from-index.result c.try_act.new.seat))) c.pass.inside.slip (slice_set c.pass.inside.seats.items c.from-index.result c.try_act.new.seat)) u c.args.moment c.args.act c.in-Ok.field-0.answer) c.from-index.ensures
     (subst (λ (b : PassView). WasAnswered b (pass_view (config_of (gates_of (slice_set c.pass.inside.seats.items c.from-index.result c.try_act.new.seat))) c.pass.inside.slip (slice_set c.pass.inside.seats.items c.from-index.result c.try_act.new.seat)) c.from-index.result c.args.moment c.args.act c.in-Ok.field-0.answer) c.pass.view_is d.answered)
 
@@ -102,7 +102,7 @@ returns-in-Ok-clause-stays g c =
     (if-some (λ k. HasActed k c.index_mut-seat.result.now c.try_act.new.seat (asking c.pass.inside.actor c.pass.inside.seq c.pass.inside.last_stamp c.args.moment c.args.act) c.in-Ok.field-0)
     c.index-gate.result.now.kin p.kin p.has c.in-Ok.ensures.done) in
     let d = done c.pass.inside.slip c.pass.inside.seats.items c.pass.inside.actor c.pass.inside.seq c.pass.inside.last_stamp c.pass.invariant c.from-index.result c.index_mut-seat.result.now c.try_act.new.seat p.low
-    c.index_mut-seat.ensures.value p.kin.opening c.args.moment c.args.act c.in-Ok.field-0 p.limits p.asked did in
+    c.index_mut-seat.ensures.value p.kin c.args.moment c.args.act c.in-Ok.field-0 p.limits p.asked did in
     subst (λ (b : PassView). Stays b (pass_view (config_of (gates_of (slice_set c.pass.inside.seats.items c.from-index.result c.try_act.new.seat))) c.pass.inside.slip (slice_set c.pass.inside.seats.items c.from-index.result c.try_act.new.seat))) c.pass.view_is
     (stays-answered (pass_view (config_of (gates_of c.pass.inside.seats.items)) c.pass.inside.slip c.pass.inside.seats.items) (pass_view (config_of (gates_of (slice_set c.pass.inside.seats.items c.from-index.result c.try_act.new.seat))) c.pass.inside.slip (slice_set c.pass.inside.seats.items c.from-index.result c.try_act.new.seat)) c.from-index.result c.args.moment c.args.act c.in-Ok.field-0.answer d.answered)
 
@@ -132,3 +132,15 @@ returns-in-Err-clause-served g c =
     (subst (λ (b : PassView). IfAct c.in-Err.refused (IsServed b (pass_view (config_of (gates_of (slice_set c.pass.inside.seats.items c.from-index.result c.try_act.new.seat))) c.pass.inside.slip (slice_set c.pass.inside.seats.items c.from-index.result c.try_act.new.seat)) c.from-index.result c.args.act)) c.pass.view_is
     (served-there c.pass.inside.slip c.pass.inside.seats.items c.pass.inside.actor c.pass.inside.seq c.pass.inside.last_stamp c.pass.invariant c.from-index.result c.index_mut-seat.result.now c.try_act.new.seat p.low
     c.index_mut-seat.ensures.value p.kin has c.args.moment c.args.act c.in-Err.refused at))
+
+pub returns-in-Ok-clause-saved : goal.returns-in-Ok-clause-saved
+returns-in-Ok-clause-saved g c =
+    let p = place c.self.inside.gates.items c.self.inside.register c.index-gate.result.now c.pass.inside.slip c.pass.inside.seats.items c.index_mut-seat.result.now c.pass.inside.actor c.pass.inside.seq c.pass.inside.last_stamp
+    c.args.act c.args.unit c.from-index.result c.args.self.now c.args.pass.now c.self.view_is c.pass.view_is c.pass.invariant c.requires.pass c.requires.configured c.requires.limits c.requires.asked
+    c.from-index.ensures c.index-gate.ensures c.index_mut-seat.ensures.value in
+    let was = if-some (λ k. IsSavedAt _ k c.index_mut-seat.result.now c.try_act.new.seat) c.index-gate.result.now.kin p.kin p.has c.in-Ok.ensures.saved in
+    let has = ap (λ (g : UnitGate). g.kin) p.gate_is ∙ p.has in
+    subst (λ u. IsSaved _ c.args.pass.now (pass_view (config_of (gates_of (slice_set c.pass.inside.seats.items c.from-index.result c.try_act.new.seat))) c.pass.inside.slip (slice_set c.pass.inside.seats.items c.from-index.result c.try_act.new.seat)) u) c.from-index.ensures
+    (subst (λ (b : PassView). IsSaved _ b (pass_view (config_of (gates_of (slice_set c.pass.inside.seats.items c.from-index.result c.try_act.new.seat))) c.pass.inside.slip (slice_set c.pass.inside.seats.items c.from-index.result c.try_act.new.seat)) c.from-index.result) c.pass.view_is
+    (saved c.pass.inside.slip c.pass.inside.seats.items c.pass.inside.actor c.pass.inside.seq c.pass.inside.last_stamp c.pass.invariant c.from-index.result c.index_mut-seat.result.now c.try_act.new.seat p.low
+    c.index_mut-seat.ensures.value p.kin has c.args.moment c.args.act _ was))

@@ -6,6 +6,9 @@ use Rattle.cmd_machine.specs.Rest.{rest_of}
 use Rattle.plain_cmds.specs.Meaning.{by_phase}
 use Rattle.plain_cmds.proofs.phase.PlainPhasePhase.begin.Goals as goal
 
+pub returns-in-RequestSense-clause-program : goal.returns-in-RequestSense-clause-program
+returns-in-RequestSense-clause-program c = let it = c.request_sense.ensures.program c.args.config.now in rw c.in-RequestSense.is it
+
 pub returns-in-RequestSense-clause-sound : goal.returns-in-RequestSense-clause-sound
 returns-in-RequestSense-clause-sound c = c.request_sense.ensures.sound c.args.config.now
 
@@ -33,3 +36,6 @@ returns-in-ReadCapacity16-clause-sound c = c.told.ensures.sound c.args.config.no
 
 pub returns-in-CopyParameters-clause-sound : goal.returns-in-CopyParameters-clause-sound
 returns-in-CopyParameters-clause-sound c = c.told-in-CopyParameters.ensures.sound c.args.config.now
+
+pub returns-in-PersistentIn-clause-program : goal.returns-in-PersistentIn-clause-program
+returns-in-PersistentIn-clause-program c = let it = c.reserve_in.ensures.program c.args.config.now in rw c.in-PersistentIn.is it

@@ -4,6 +4,7 @@ use Rattle.cmd_program.specs.Program.{next}
 use Rattle.cmd_program.specs.Meaning.{MayFollow}
 use Rattle.cmd_program.specs.TokenWrite.{zero_rod}
 use Rattle.token_cmds.specs.Meaning.{by_writing, given}
+use Rattle.token_cmds.proofs.Progress.{advance-progress}
 use Rattle.token_cmds.proofs.writing.Writing.after.Goals as goal
 
 pub started-requires : goal.started-requires
@@ -16,4 +17,5 @@ started-requires c =
 pub advanced-requires : goal.advanced-requires
 advanced-requires c =
     let config = c.args.config.now in
-    subst (λ w. MayFollow config (next (by_writing config w)) (Outcome.Answered c.args.answer)) c.in-Advancing.is c.requires.follows
+    advance-progress c.in-Advancing.write.id c.args.answer
+    (subst (λ w. MayFollow config (next (by_writing config w)) (Outcome.Answered c.args.answer)) c.in-Advancing.is c.requires.follows)

@@ -4,8 +4,8 @@ use Rattle.std.specs.Ordering.{nat_cmp}
 use Rattle.std.specs.BTreeMap.{get}
 use Rattle.cmd_program.specs.Judging.{step}
 use Rattle.cmd_program.specs.Meaning.{MayFollow}
-use Rattle.cmd_machine.specs.Rest.{StandsFor}
-use Rattle.any_cmds.specs.Meaning.{by_any}
+use Rattle.cmd_machine.specs.Rest.{StandsFor, IsSoundAt}
+use Rattle.any_cmds.specs.Meaning.{by_any, IsSoundAny}
 use Rattle.trace_check.proofs.Machining.{waits-there, its, mine, after-act, after-note, beside-act, noted-so, ran-on}
 use Rattle.trace_check.proofs.machine.Machine.run.Goals as goal
 
@@ -25,6 +25,15 @@ note-requires-clause-notable c =
       follows = subst (λ k. MayFollow k (step k one.p.initiator one.p.request one.p.outcomes) c.in_ok-outcome.outcome) (sym told)
           (subst (λ next. MayFollow config next c.in_ok-outcome.outcome) (sym one.is.asks) c.in_ok-outcome.ensures.follows);
     }
+
+pub note-requires-clause-sound : goal.note-requires-clause-sound
+note-requires-clause-sound c =
+    let m = c.args.self.now in
+    let w = c.in-Some.waiting in
+    let found : get nat_cmp m.waiting c.args.initiator ≡ Some w = sym c.in-Some.ensures.value in
+    let one = waits-there m.units.config c.requires.s m c.args.initiator w c.requires.is found in
+    let told : c.config.result.now ≡ m.units.config = c.config.ensures ∙ c.in_ok-outcome.ensures.config in
+    subst (λ k. IsSoundAt IsSoundAny k w.command) (sym told) one.is.sound
 
 pub returns : goal.returns
 returns c = λ config s is.

@@ -14,4 +14,4 @@ returns g c = λ h a.
     let holds = g.B.Blocks.holds u.tables.blocks in
     let told = c.in_ok-plan.ensures.answer ∙ ap (λ (t : UnitConfig). answer_read t holds c.args.lba c.args.count) c.unit-unit.ensures.told
     ∙ read-agrees (unit_of u.config u.unit) past _ _ holds c.args.lba c.args.count a.blocks in
-    rw (c.of_blocks.ensures) (λ actor at act reads. read-plan u.config u.unit past actor at act c.args.lba c.args.count c.in_ok-plan.plan reads told c.in_ok-plan.ensures.change)
+    rw (c.of_blocks.ensures) (λ actor at act reads free. read-plan u.config u.unit past actor at act c.args.lba c.args.count c.in_ok-plan.plan reads free told c.in_ok-plan.ensures.change)

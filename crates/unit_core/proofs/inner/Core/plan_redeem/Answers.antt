@@ -99,7 +99,7 @@ returns-in-Err g c = λ h a.
     sym same ∙ judged-err f u.config u.tables.tokens.unit c.max-now.result text c.args.target all c.in-Err.sense c.in-Err.ensures.err in
     rw (c.answered.ensures)
     (λ actor. refused-plan u.config u.unit past actor c.args.moment (Act.Redeem text c.args.target) c.in-Err.sense (sym (redeem-is u.config u.unit past actor c.args.moment text c.args.target ∙ ap answer_of told))
-    (λ s. refl) (find-none (running past)))
+    (λ s. refl) (find-none (running past)) refl)
 
 pub cut_at-requires-clause-live : goal.cut_at-requires-clause-live
 cut_at-requires-clause-live g c =

@@ -14,4 +14,4 @@ returns g c = λ h a.
     let holds = g.B.Blocks.holds u.tables.blocks in
     let told = c.in_ok-plan.ensures.answer ∙ ap (λ (t : UnitConfig). answer_status t holds c.args.lba) c.unit-unit.ensures.told
     ∙ status-agrees (unit_of u.config u.unit) past _ _ holds c.args.lba a.blocks in
-    rw (c.of_blocks.ensures) (λ actor at. status-plan u.config u.unit past actor at c.args.lba c.in_ok-plan.plan told c.in_ok-plan.ensures.change)
+    rw (c.of_blocks.ensures) (λ actor at free. status-plan u.config u.unit past actor at c.args.lba c.in_ok-plan.plan free told c.in_ok-plan.ensures.change)

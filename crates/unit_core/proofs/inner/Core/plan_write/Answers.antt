@@ -17,4 +17,4 @@ returns g c = λ h a.
     let told = c.in_ok-plan.ensures.answer ∙ ap (λ (t : UnitConfig). answer_write t holds c.args.lba list.items) c.unit-unit.ensures.told
     ∙ write-agrees (unit_of u.config u.unit) past _ _ holds c.args.lba list.items a.blocks in
     let may = subst (λ (t : UnitConfig). MayChange t.blocks t.block_length c.in_ok-plan.plan.change) c.unit-unit.ensures.told c.in_ok-plan.ensures.may in
-    rw (c.of_blocks.ensures) (λ actor at act writes. write-plan u.config u.unit past actor at act c.args.lba list c.in_ok-plan.plan writes told c.in_ok-plan.ensures.change may)
+    rw (c.of_blocks.ensures) (λ actor at act writes free. write-plan u.config u.unit past actor at act c.args.lba list c.in_ok-plan.plan writes free told c.in_ok-plan.ensures.change may)

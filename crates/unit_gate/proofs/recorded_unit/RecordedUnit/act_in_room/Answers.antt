@@ -2,19 +2,20 @@ use Rattle.std.proofs.Common.{◌∙◌, ℕ, ap}
 use Rattle.std.proofs.lemmas.Result.{err_from_is_err_and}
 use Rattle.std.specs.Prelude.{max}
 use Rattle.cm_history.specs.Image.{Image}
+use Rattle.unit_gate.specs.Recorded.{facts}
 use Rattle.unit_gate.specs.inner.Keeping.{state_of}
 use Rattle.unit_gate.proofs.Acting.{stands-acted, newest-acted, stamp-acted, keeps-acted}
 use Rattle.unit_gate.proofs.recorded_unit.RecordedUnit.act_in_room.Goals as goal
 
 pub invariant_of-self-2 : goal.invariant_of-self-2
 invariant_of-self-2 g c =
-    let s = state_of g.R.Recorder.recorded g.R.Recorder.record_faults g.R.Recorder.absent c.self.inside.unit c.self.inside.recorder c.self.inside.opening.value in
+    let s = state_of (facts g.R.Recorder.recorded g.R.Recorder.record_faults g.R.Recorder.absent g.R.Recorder.front) c.self.inside.unit c.self.inside.recorder c.self.inside.opening.value c.self.inside.folded_then c.self.inside.late in
     let made = c.in_ok-answer.ensures in
     keeps-acted s c.act.new.self c.args.asked made.stands made.kept made.folded (g.R.Recorder.fits c.self.inside.recorder) c.self.invariant
 
 pub returns-clause-done : goal.returns-clause-done
 returns-clause-done g c =
-    let s = state_of g.R.Recorder.recorded g.R.Recorder.record_faults g.R.Recorder.absent c.self.inside.unit c.self.inside.recorder c.self.inside.opening.value in
+    let s = state_of (facts g.R.Recorder.recorded g.R.Recorder.record_faults g.R.Recorder.absent g.R.Recorder.front) c.self.inside.unit c.self.inside.recorder c.self.inside.opening.value c.self.inside.folded_then c.self.inside.late in
     let made = c.in_ok-answer.ensures in
     rw (← c.self.view_is) (λ h is. record {
       answered = made.answer h is.unit;

@@ -1,0 +1,29 @@
+use Rattle.std.proofs.Common.{◌≡◌, ◌∙◌, ap, subst, map, false}
+use Rattle.std.proofs.lemmas.List.{length-map}
+use Rattle.cm_history.specs.declared.act.Entry.{Entry}
+use Rattle.cm_history.proofs.PublicLaws.{Each}
+use Rattle.unit_gate.specs.Opening.{has_late_number}
+use Rattle.unit_gate.specs.Recorded.{facts}
+use Rattle.nexus.specs.Opening.{GoesOn, StoredUnit, stored}
+use Rattle.nexus.proofs.GoingOn.{each-of, good-numbers}
+use Rattle.nexus.proofs.Opening.{begun-long, begun-units, goes-on}
+use Rattle.nexus.proofs.world.World.resume.Goals as goal
+
+pub next_nexus-made-requires : goal.next_nexus-made-requires
+next_nexus-made-requires g c =
+    each-of (stored (facts g.R.Recorder.recorded g.R.Recorder.record_faults g.R.Recorder.absent g.R.Recorder.front)) (λ (s : StoredUnit). Each (λ (e : Entry). has_late_number e.actor ≡ false) s.history) c.args.stores.items
+    (good-numbers c.args.config.now 0 (map (stored (facts g.R.Recorder.recorded g.R.Recorder.record_faults g.R.Recorder.absent g.R.Recorder.front)) c.args.stores.items) c.in-Ok.ensures.good)
+
+pub begin-requires-clause-one_each : goal.begin-requires-clause-one_each
+begin-requires-clause-one_each g c =
+    begun-long c.args.config.now 0 (map (stored (facts g.R.Recorder.recorded g.R.Recorder.record_faults g.R.Recorder.absent g.R.Recorder.front)) c.args.stores.items) c.in-Ok-begun_of.units.items c.in-Ok-begun_of.ensures
+    ∙ length-map c.args.stores.items (stored (facts g.R.Recorder.recorded g.R.Recorder.record_faults g.R.Recorder.absent g.R.Recorder.front))
+    ∙ c.requires.one_each
+
+pub begin-requires-clause-units : goal.begin-requires-clause-units
+begin-requires-clause-units g c = begun-units c.args.config.now 0 (map (stored (facts g.R.Recorder.recorded g.R.Recorder.record_faults g.R.Recorder.absent g.R.Recorder.front)) c.args.stores.items) c.in-Ok-begun_of.units.items c.in-Ok-begun_of.ensures
+
+pub returns-in-Ok-begin-clause-resumed : goal.returns-in-Ok-begin-clause-resumed
+returns-in-Ok-begin-clause-resumed g c =
+    subst (λ n. GoesOn c.args.config.now (map (stored (facts g.R.Recorder.recorded g.R.Recorder.record_faults g.R.Recorder.absent g.R.Recorder.front)) c.args.stores.items) n c.in-Ok-begin.made.0 c.in-Ok-begin.made.1) c.next_nexus-made.ensures
+    (goes-on c.args.config.now (map (stored (facts g.R.Recorder.recorded g.R.Recorder.record_faults g.R.Recorder.absent g.R.Recorder.front)) c.args.stores.items) c.in-Ok-begun_of.units.items c.next_nexus-made.result c.in-Ok-begin.made.0 c.in-Ok-begin.made.1 c.in-Ok-begun_of.ensures c.in-Ok-begin.ensures)

@@ -1,0 +1,4 @@
+mod Maps
+mod Registered
+mod Sound
+pub mod PublicLaws

@@ -1,0 +1,22 @@
+use Rattle.std.proofs.Common.{◌≡◌, ◌≤◌, ◌<◌, ◌+◌, ◌-◌, ◌++◌, ◌∷◌, [], ℕ, List, length, true, false, Bool, ◌∙◌, ap, refl, sym, subst, arith}
+use Rattle.std.specs.Prelude.{is_some, max}
+use Rattle.cm_base.specs.Units.{unit_of}
+use Rattle.cm_history.specs.Folding.{StandsFor}
+use Rattle.cm_history.specs.History.{past_of}
+use Rattle.unit_core.specs.UnitState.{Stands}
+use Rattle.unit_core.proofs.AnswersAs.{answers_as}
+use Rattle.unit_core.specs.inner.Agreeing.{TablesAgree}
+use Rattle.unit_core.specs.inner.Shown.{image_shown}
+use Rattle.unit_core.proofs.Standing.{stands-own}
+use Rattle.unit_core.proofs.Steps.{known-of}
+use Rattle.cm_history.specs.Image.{Image}
+use Rattle.token_pins.specs.Pinning.{rods_of}
+use Rattle.unit_core.proofs.unit.UnitOver.moment.Goals as goal
+
+pub returns-clause-told : goal.returns-clause-told
+returns-clause-told g c = λ h s.
+    let u = c.self.inside in
+    let o = u.core in
+    let shown = image_shown o.moment o.last_stamp (u.folded + length u.history.entries) (g.B.Blocks.blocks o.tables.blocks) (g.B.Blocks.holds o.tables.blocks) (rods_of g.B.Pins.number (g.B.Blocks.block_length o.tables.blocks) (g.B.Blocks.shown o.tables.blocks) o.tables.tokens).tokens o.tables.jobs o.tables.reservations in
+    let stood : StandsFor o.config o.unit shown u.history.entries u.folded h = rw (← c.self.view_is) at (answers_as c.args.self.now h s) in
+    rw (← c.self.view_is) (sym (ap (λ (j : Image). j.moment) stood.image))
