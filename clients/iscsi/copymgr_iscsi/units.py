@@ -70,7 +70,8 @@ class Units:
             return 0
         if read.name == "write":
             return read.count * self.capacity(unit).block_length if self.capacity(unit) else 0
-        is_list = read.name in ("unmap", "populate token", "write using token", "extended copy")
+        lists = ("unmap", "populate token", "write using token", "extended copy")
+        is_list = read.name in lists or cdb[0] == cdbs.RESERVE_OUT
         return read.length if is_list else 0
 
     def answer(self, unit, cdb, out):

@@ -13,7 +13,7 @@ from copymgr_iscsi.wire import cdbs, frames, lists
 
 from .support import SHAPES, Behind, Initiator, run_command
 
-GOOD, CHECK = frames.GOOD, frames.CHECK
+GOOD, CHECK, CONFLICT = frames.GOOD, frames.CHECK, frames.CONFLICT
 
 
 class Logins(unittest.TestCase):
@@ -219,8 +219,20 @@ class Sessions(unittest.TestCase):
             self.assertEqual((answer.status, answer.sense), (CHECK if sense else GOOD, sense))
 
     def test_what_is_refused(self):
-        for cdb in [b"\xa3\x0c", b"\x5e\0", b"\x1b\0", b"\x93\0", b"\x08\0", b"\x7f\0"]:
+        for cdb in [b"\xa3\x0c", b"\x5e\x02", b"\x5f\x07", b"\x1b\0", b"\x93\0", b"\x08\0", b"\x7f\0"]:
             self.assertEqual(self.one.raw(cdb).sense, (5, 0x20, 0))
+
+    def test_reservations(self):
+        def register(key, action_key):
+            cdb = cdbs.encode(cdbs.RESERVE_OUT, 0x00, length=24).ljust(16, b"\0")
+            return self.one.answer(self.one.begin(cdb, 0, 24, b"", True), lists.reserve_bytes(key, action_key)).status
+
+        self.assertEqual(register(0, 0x11), GOOD)
+        self.assertEqual(register(0x12, 0x13), CONFLICT)
+        read_keys = cdbs.encode(cdbs.RESERVE_IN, cdbs.READ_KEYS, length=255)
+        self.assertEqual(self.one.raw(read_keys).told, (GOOD, None, struct.pack(">IIQ", 1, 8, 0x11)))
+        self.assertEqual(register(0x11, 0), GOOD)
+        self.assertEqual(self.one.raw(read_keys).told, (GOOD, None, struct.pack(">II", 2, 0)))
 
     def test_task_management(self):
         waits = self.one.begin(cdbs.encode(0x2A, lba=0, count=4), 0, 2048, write=True)
