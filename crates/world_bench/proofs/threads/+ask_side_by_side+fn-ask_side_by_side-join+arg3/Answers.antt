@@ -29,10 +29,10 @@ no-recorder : IsSend NoRecorder.the_row
 no-recorder = search (absent.the_send, sendable)
 
 world : IsSync (World.the_row NoRecorder.the_row NoRecorderRecorder.ghosts)
-world = world-shared _ _ no-recorder
+world = world-shared NoRecorder.the_row NoRecorderRecorder.ghosts no-recorder
 
 pass : IsSend (Pass.the_row NoRecorder.the_row NoRecorderRecorder.ghosts)
-pass = pass-sent _ _ no-recorder
+pass = pass-sent NoRecorder.the_row NoRecorderRecorder.ghosts no-recorder
 
 alloc : IsSync Global.the_row
 alloc = search (global.the_sync, sendable)
