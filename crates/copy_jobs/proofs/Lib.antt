@@ -5,6 +5,7 @@ pub mod Trims
 pub mod Counts
 pub mod Keeps
 pub mod Found
+mod Highest
 pub mod Places
 pub mod Changed
 pub mod Stepping

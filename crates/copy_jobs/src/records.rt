@@ -5,6 +5,7 @@ ghost use Rattle.std.specs.VecDeque.{deque_len, deque_capacity};
 ghost use Rattle.copy_jobs.specs.Jobs.{has_key, is_running, running as running_jobs, runs_as, is_busy};
 ghost use Rattle.copy_jobs.specs.Keeping.{is_other, keep, with_room};
 ghost use Rattle.copy_jobs.specs.Tables.{KeysApart};
+ghost use Rattle.copy_jobs.specs.inner.Tables.{AreUpTo};
 
 use crate::job::Job;
 use crate::key::Key;
@@ -70,12 +71,17 @@ pub(crate) fn of_key(jobs: &VecDeque<Job>, key: Key) -> Option<&Job>
 }
 
 /// Drops the job of the key, if it has ended.
-fn drop_ended(jobs: &mut VecDeque<Job>, key: Key)
-    requires { KeysApart jobs.old.items }
+fn drop_ended(jobs: &mut VecDeque<Job>, highest: u32, key: Key)
+    requires apart { KeysApart jobs.old.items }
+    requires highest { AreUpTo highest jobs.old.items }
     ensures others { jobs.new.items ≡ filter (is_other key) jobs.old.items }
     ensures length { deque_len jobs.new ≤ deque_len jobs.old }
     ensures capacity { deque_capacity jobs.new ≡ deque_capacity jobs.old }
 {
+    // hosts mostly count their identifiers up, and then no job has this one
+    if key.id > highest {
+        return;
+    }
     if let Some(place) = jobs.iter().position(|job| !job.is_other(key)) {
         let _ = jobs.remove(place);
     }
@@ -95,13 +101,14 @@ fn make_room(jobs: &mut VecDeque<Job>)
 }
 
 /// Keeps a job behind the others, in the place of the one of its key. At `OutOfMemory` they are as before.
-pub(crate) fn keep(jobs: &mut VecDeque<Job>, job: Job) -> Result<(), OutOfMemory>
-    requires { KeysApart jobs.old.items }
+pub(crate) fn keep(jobs: &mut VecDeque<Job>, highest: u32, job: Job) -> Result<(), OutOfMemory>
+    requires apart { KeysApart jobs.old.items }
+    requires highest { AreUpTo highest jobs.old.items }
     ensures kept { OnOk result (jobs.new.items ≡ keep jobs.old.items job) }
     ensures refused { OnErr result (jobs.new.items ≡ jobs.old.items) }
 {
     jobs.reserve(1)?;
-    drop_ended(jobs, job.key);
+    drop_ended(jobs, highest, job.key);
     make_room(jobs);
     jobs.push_back_reserved(job);
     Ok(())

@@ -37,6 +37,8 @@ const RUNNING_OPERATIONS: u32 = 64;
 pub struct JobTable {
     alloc: Global,
     jobs: VecDeque<Job>,
+    // no job that is kept has a greater identifier
+    highest: u32,
     running: u32,
     reserved: u64,
 }
@@ -44,13 +46,13 @@ pub struct JobTable {
 impl Model for JobTable {
     ghost use Rattle.std.specs.Prelude.{List};
     ghost use Rattle.copy_jobs.specs.declared.job.Job.{Job};
-    ghost use Rattle.copy_jobs.specs.inner.Tables.{IsTable};
+    ghost use Rattle.copy_jobs.specs.inner.Tables.{IsTable, AreUpTo};
 
     ghost Value = { List Job };
 
     ghost view = { λ t. t.jobs.items };
 
-    ghost invariant = { λ t. IsTable t.jobs.items t.running t.reserved };
+    ghost invariant = { λ t. IsTable t.jobs.items t.running t.reserved × AreUpTo t.highest t.jobs.items };
 }
 
 impl JobTable {
@@ -61,6 +63,7 @@ impl JobTable {
         JobTable {
             alloc,
             jobs: VecDeque::new(alloc),
+            highest: 0,
             running: 0,
             reserved: 0,
         }
@@ -148,7 +151,9 @@ impl JobTable {
     {
         let runs = u32::from(job.work.is_running());
         let reserved = job.work.reserved();
-        records::keep(&mut self.jobs, job)?;
+        let highest = self.highest.max(job.key.id);
+        records::keep(&mut self.jobs, self.highest, job)?;
+        self.highest = highest;
         self.running += runs;
         self.reserved += reserved;
         Ok(())

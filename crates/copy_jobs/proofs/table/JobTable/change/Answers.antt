@@ -11,6 +11,7 @@ use Rattle.copy_jobs.specs.inner.Steps.{stepped, MayStep}
 use Rattle.copy_jobs.specs.inner.Tables.{IsTable}
 use Rattle.copy_jobs.proofs.Counts.{one_if, byte-one, reserved-few}
 use Rattle.copy_jobs.proofs.Changed.{change-set, change-running}
+use Rattle.copy_jobs.proofs.Highest.{up-change}
 use Rattle.copy_jobs.proofs.Stepping.{Stepping, stepping, stepped-table, stepped-frees}
 use Rattle.copy_jobs.proofs.table.JobTable.change.Goals as goal
 
@@ -55,63 +56,64 @@ was-counted step key jobs s =
 
 pub reserved-before-requires : goal.reserved-before-requires
 reserved-before-requires c =
-    let t = turn c.args.step c.args.key c.index_mut.result.now c.self.view_is c.self.invariant c.requires.busy c.requires.step
+    let t = turn c.args.step c.args.key c.index_mut.result.now c.self.view_is c.self.invariant.0 c.requires.busy c.requires.step
     refl c.place_of-place.ensures.place c.index_mut.ensures.value in
     rw t.here t.s.is.work
 
 pub take-requires-clause-work : goal.take-requires-clause-work
 take-requires-clause-work c =
-    let t = turn c.args.step c.args.key c.index_mut.result.now c.self.view_is c.self.invariant c.requires.busy c.requires.step
+    let t = turn c.args.step c.args.key c.index_mut.result.now c.self.view_is c.self.invariant.0 c.requires.busy c.requires.step
     refl c.place_of-place.ensures.place c.index_mut.ensures.value in
     rw t.here t.s.is.work
 
 pub take-requires-clause-step : goal.take-requires-clause-step
 take-requires-clause-step c =
-    let t = turn c.args.step c.args.key c.index_mut.result.now c.self.view_is c.self.invariant c.requires.busy c.requires.step
+    let t = turn c.args.step c.args.key c.index_mut.result.now c.self.view_is c.self.invariant.0 c.requires.busy c.requires.step
     refl c.place_of-place.ensures.place c.index_mut.ensures.value in
     rw t.here t.s.may
 
 pub reserved-requires : goal.reserved-requires
 reserved-requires c =
-    let t = turn c.args.step c.args.key c.index_mut.result.now c.self.view_is c.self.invariant c.requires.busy c.requires.step
+    let t = turn c.args.step c.args.key c.index_mut.result.now c.self.view_is c.self.invariant.0 c.requires.busy c.requires.step
     refl c.place_of-place.ensures.place c.index_mut.ensures.value in
     rw (c.take.ensures, t.here) t.s.after.work
 
 pub overflow_add-self : goal.overflow_add-self
 overflow_add-self c =
-    let is = c.self.invariant in
+    let is = c.self.invariant.0 in
     omega (arith, is.counts_reserved, is.few_running, reserved-few c.self.inside.jobs.items is.jobs, c.reserved.ensures.few)
 
 pub overflow_sub-self-2 : goal.overflow_sub-self-2
 overflow_sub-self-2 c =
-    let t = turn c.args.step c.args.key c.index_mut.result.now c.self.view_is c.self.invariant c.requires.busy c.requires.step
+    let t = turn c.args.step c.args.key c.index_mut.result.now c.self.view_is c.self.invariant.0 c.requires.busy c.requires.step
     refl c.place_of-place.ensures.place c.index_mut.ensures.value in
     let work = left-work _ _ _ _ _ c.take.new.self t c.take.ensures in
     let runs : c.from.result ≡ one_if (not (is_running_work (stepped c.args.step t.s.it.job.work))) =
     c.from.ensures ∙ byte-one (not c.is_running.result) ∙ ap (λ b. one_if (not b)) (c.is_running.ensures ∙ ap is_running_work work) in
     let counted = was-counted c.args.step c.args.key c.self.inside.jobs.items t.s in
-    omega (arith, c.self.invariant.counts_running, runs, counted)
+    omega (arith, c.self.invariant.0.counts_running, runs, counted)
 
 pub invariant_of-self : goal.invariant_of-self
 invariant_of-self c =
-    let t = turn c.args.step c.args.key c.index_mut.result.now c.self.view_is c.self.invariant c.requires.busy c.requires.step
+    let t = turn c.args.step c.args.key c.index_mut.result.now c.self.view_is c.self.invariant.0 c.requires.busy c.requires.step
     refl c.place_of-place.ensures.place c.index_mut.ensures.value in
     let work = left-work _ _ _ _ _ c.take.new.self t c.take.ensures in
     let runs : c.from.result ≡ one_if (not (is_running_work (stepped c.args.step t.s.it.job.work))) =
     c.from.ensures ∙ byte-one (not c.is_running.result) ∙ ap (λ b. one_if (not b)) (c.is_running.ensures ∙ ap is_running_work work) in
     let before : c.reserved-before.result ≡ reserved_for t.s.it.job.work = c.reserved-before.ensures.reserved ∙ ap (λ (j : Job). reserved_for j.work) t.here in
     let after : c.reserved.result ≡ reserved_for (stepped c.args.step t.s.it.job.work) = c.reserved.ensures.reserved ∙ ap reserved_for work in
-    let kept = stepped-table c.args.step c.args.key c.self.inside.jobs.items c.self.inside.running c.self.inside.reserved c.self.invariant t.s in
-    rw (left _ _ _ _ _ c.take.new.self t c.take.ensures, runs, before, after) kept
+    let kept = stepped-table c.args.step c.args.key c.self.inside.jobs.items c.self.inside.running c.self.inside.reserved c.self.invariant.0 t.s in
+    let up = up-change c.self.inside.highest (runs_as c.args.key) (stepped c.args.step) c.self.inside.jobs.items c.self.invariant.1 in
+    rw (left _ _ _ _ _ c.take.new.self t c.take.ensures, runs, before, after) (kept, up)
 
 pub returns-clause-changed : goal.returns-clause-changed
 returns-clause-changed c =
-    let t = turn c.args.step c.args.key c.index_mut.result.now c.self.view_is c.self.invariant c.requires.busy c.requires.step
+    let t = turn c.args.step c.args.key c.index_mut.result.now c.self.view_is c.self.invariant.0 c.requires.busy c.requires.step
     refl c.place_of-place.ensures.place c.index_mut.ensures.value in
     left _ _ _ _ _ c.take.new.self t c.take.ensures ∙ ap (change (runs_as c.args.key) (with_work (stepped c.args.step))) c.self.view_is
 
 pub returns-clause-frees : goal.returns-clause-frees
 returns-clause-frees c =
-    let t = turn c.args.step c.args.key c.index_mut.result.now c.self.view_is c.self.invariant c.requires.busy c.requires.step
+    let t = turn c.args.step c.args.key c.index_mut.result.now c.self.view_is c.self.invariant.0 c.requires.busy c.requires.step
     refl c.place_of-place.ensures.place c.index_mut.ensures.value in
     rw (left _ _ _ _ _ c.take.new.self t c.take.ensures, ← c.self.view_is) (stepped-frees c.args.step c.args.key c.self.inside.jobs.items t.s)

@@ -22,7 +22,7 @@ next_piece-requires-clause-work c =
     (YieldsList-from_deque (drop c.first_to_run.result jobs) (c.range-later.ensures.rest ∙ rest-all jobs c.first_to_run.result _ (omega arith))) (λ x b q k. search (rules, tests)) in
     let told : find (is_next c.args.key) jobs ≡ Some c.in-Some.job.now =
     sym (find-later (is_next c.args.key) jobs c.first_to_run.result (next-runs c.args.key) (rw c.self.view_is c.first_to_run.ensures.none)) ∙ sym is ∙ rw c.in-Some.is refl in
-    let job = find-job (is_next c.args.key) jobs c.in-Some.job.now c.self.invariant.jobs told in
+    let job = find-job (is_next c.args.key) jobs c.in-Some.job.now c.self.invariant.0.jobs told in
     job.work
 
 each : (key : Option Key) (jobs : List Job) (job : Job) (r : Result (Option NextPiece) OutOfMemory) → KeysApart jobs → IsJob job → find (is_next key) jobs ≡ Some job
@@ -38,8 +38,8 @@ returns-in-Some-clause-piece c =
     (YieldsList-from_deque (drop c.first_to_run.result jobs) (c.range-later.ensures.rest ∙ rest-all jobs c.first_to_run.result _ (omega arith))) (λ x b q k. search (rules, tests)) in
     let told : find (is_next c.args.key) jobs ≡ Some c.in-Some.job.now =
     sym (find-later (is_next c.args.key) jobs c.first_to_run.result (next-runs c.args.key) (rw c.self.view_is c.first_to_run.ensures.none)) ∙ sym is ∙ rw c.in-Some.is refl in
-    let job = find-job (is_next c.args.key) jobs c.in-Some.job.now c.self.invariant.jobs told in
-    rw (← c.self.view_is) (each c.args.key jobs c.in-Some.job.now c.next_piece.result c.self.invariant.apart job told c.next_piece.ensures.piece)
+    let job = find-job (is_next c.args.key) jobs c.in-Some.job.now c.self.invariant.0.jobs told in
+    rw (← c.self.view_is) (each c.args.key jobs c.in-Some.job.now c.next_piece.result c.self.invariant.0.apart job told c.next_piece.ensures.piece)
 
 pub returns-in-None-clause-none : goal.returns-in-None-clause-none
 returns-in-None-clause-none c =

@@ -4,5 +4,5 @@ use Rattle.copy_jobs.proofs.table.JobTable.reserved.Goals as goal
 
 pub returns-clause-few : goal.returns-clause-few
 returns-clause-few c =
-    let is = c.self.invariant in
+    let is = c.self.invariant.0 in
     omega (arith, is.counts_reserved, is.few_running, reserved-few c.self.inside.jobs.items is.jobs)

@@ -33,4 +33,4 @@ returns-clause-byte c =
     (YieldsList-from_deque (drop c.first_to_run.result jobs) (c.range-later.ensures.rest ∙ rest-all jobs c.first_to_run.result _ (omega arith))) (λ x b q k. search (rules, tests)) in
     let first = find-later is_unended jobs c.first_to_run.result unended-runs (rw c.self.view_is c.first_to_run.ensures.none) in
     let found : find is_unended jobs ≡ Some c.in_ok-job.job.now = sym first ∙ sym is ∙ rw c.in_ok-job.was refl in
-    (find-job is_unended jobs c.in_ok-job.job.now c.self.invariant.jobs found).byte
+    (find-job is_unended jobs c.in_ok-job.job.now c.self.invariant.0.jobs found).byte
