@@ -33,7 +33,7 @@ pub(crate) fn next_first(map: &Stored, from: u64, to: u64) -> Option<u64>
 }
 
 /// The nearest extent at a block or below it, and its first block.
-fn nearest(map: &Stored, block: u64) -> Option<(u64, &Piece)>
+pub(crate) fn nearest(map: &Stored, block: u64) -> Option<(u64, &Piece)>
     ensures found { IfSome result (λ near. (near.0 ≤ block) × (stored map.now.entries near.0 ≡ Some near.1.now)) }
     ensures above { IfSome result (λ near. (b : ℕ) → near.0 < b → b ≤ block → stored map.now.entries b ≡ None) }
     ensures none { IfNone result ((b : ℕ) → b ≤ block → stored map.now.entries b ≡ None) }
@@ -45,7 +45,7 @@ fn nearest(map: &Stored, block: u64) -> Option<(u64, &Piece)>
 }
 
 /// A place in an extent, if it reaches as far.
-fn place_in(piece: &Piece, place: u64) -> Option<u32>
+pub(crate) fn place_in(piece: &Piece, place: u64) -> Option<u32>
     ensures inside { IfSome result (λ same. (same ≡ place) × (same < piece.now.count)) }
     ensures outside { IfNone result (piece.now.count ≤ place) }
     ensures count { piece.now.count < 2 ^ 32 }

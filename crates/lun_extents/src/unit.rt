@@ -4,7 +4,7 @@ ghost use Rattle.lba_ranges.specs.HeldBlocks.{IsFull, filled};
 ghost use Rattle.lba_ranges.specs.Denoted.{row, blocks_of, total, is_within, is_overlapping};
 ghost use Rattle.lba_ranges.specs.Writings.{paired, unmapped, after, mapped_below, mapped_among};
 ghost use Rattle.lun_extents.specs.Extents.{stored, held_in};
-ghost use Rattle.lun_extents.specs.inner.Runs.{ranges_of, items_of_runs, is_mapped, AreRuns, IsSplitAt, IsAlone, IsOneAlone, HoldsSame};
+ghost use Rattle.lun_extents.specs.inner.Runs.{ranges_of, items_of_runs, is_mapped, AreRuns, IsSplitAt, IsAlone, HoldsSame};
 
 use crate::map::{self, Stored};
 use crate::runs::{self, Filling};
@@ -177,17 +177,38 @@ impl ExtentUnit {
         }
     }
 
-    /// There is one run, and it can be set by one extent.
-    fn is_one_alone(&self, runs: &[Filling]) -> bool
-        requires { AreRuns self.now.blocks self.now.block_length runs.now }
-        ensures { result ≡ true → IsOneAlone self.now.entries runs.now }
+    /// The run that a list is put as, where it is one that can be set by one extent.
+    fn one_alone(
+        &self,
+        ranges: &RangeList,
+        list: &BlockList,
+    ) -> Result<Option<Filling>, OutOfMemory>
+        requires within { IsTrue (is_within self.now.blocks ranges.now) }
+        requires total { total ranges.now ≡ length list.now.items }
+        ensures range { IfOk result (λ found. IfSome found (λ run. ranges.now ≡ run.range ∷ [])) }
+        ensures items { IfOk result (λ found. IfSome found (λ run. list.now.items
+            ≡ filled list.now.block_length run.range.count run.fill)) }
+        ensures some { IfOk result (λ found. IfSome found (λ run. 1 ≤ run.range.count)) }
+        ensures within { IfOk result (λ found. IfSome found (λ run. run.range.lba + run.range.count ≤ self.now.blocks)) }
+        ensures full { IfOk result (λ found. IfSome found (λ run. IsFull list.now.block_length run.range.count run.fill)) }
+        ensures alone { IfOk result (λ found. IfSome found (λ run. IsAlone self.now.entries run.range.lba run.range.count)) }
     {
         let _blocks = self.blocks;
-        if runs.len() != 1 {
-            return false;
+        if ranges.len() != 1 {
+            return Ok(None);
         }
-        let Range { lba, count } = runs[0].range;
-        map::is_alone(&self.extents, lba, count)
+        let range = ranges.at(0);
+        if range.count == 0 || !map::is_alone(&self.extents, range.lba, range.count) {
+            return Ok(None);
+        }
+        let piece = list.run(0, range.count)?;
+        if piece.count < range.count {
+            return Ok(None);
+        }
+        Ok(Some(Filling {
+            range,
+            fill: piece.fill,
+        }))
     }
 
     /// Gives the blocks of a run what they are to hold, where it can be set by one extent. At
@@ -215,24 +236,6 @@ impl ExtentUnit {
         let others = self.mapped - before;
         self.mapped = others + now;
         Ok(())
-    }
-
-    /// The same of runs that are one.
-    fn set_one(&mut self, runs: Vec<Filling>) -> Result<(), OutOfMemory>
-        requires runs { AreRuns self.old.blocks self.old.block_length runs.items }
-        requires alone { IsOneAlone self.old.entries runs.items }
-        ensures blocks { self.new.blocks ≡ self.old.blocks }
-        ensures length { self.new.block_length ≡ self.old.block_length }
-        ensures held { OnOk result ((block : ℕ) → held_in self.new.block_length self.new.entries block
-            ≡ after (paired (blocks_of (ranges_of runs.items)) (items_of_runs self.old.block_length runs.items)) block
-            (held_in self.old.block_length self.old.entries block)) }
-        ensures same { OnErr result (self.new ≡ self.old) }
-    {
-        let mut runs = runs;
-        match runs.pop() {
-            Some(run) => self.set_alone(run),
-            None => unreachable!(),
-        }
     }
 
     /// Unmaps the blocks of a range, where an extent begins at its start and at its end. It takes no memory.
@@ -317,10 +320,10 @@ impl Blocks for ExtentUnit {
     }
 
     fn put(&mut self, ranges: &RangeList, list: &BlockList) -> Result<(), OutOfMemory> {
-        let runs = runs::runs_of(self.alloc, self.blocks, ranges, list)?;
-        if self.is_one_alone(&runs) {
-            return self.set_one(runs);
+        if let Some(run) = self.one_alone(ranges, list)? {
+            return self.set_alone(run);
         }
+        let runs = runs::runs_of(self.alloc, self.blocks, ranges, list)?;
         if let Err(refused) = self.split_at_fillings(&runs) {
             self.remove_empty_extents(ranges);
             return Err(refused);

@@ -44,9 +44,3 @@ pub record HoldsSame (was now : Extents) : Type 0 where
 pub record IsAlone (entries : List (ℕ × Piece)) (lba count : ℕ) : Type 0 where
   pub inside : (block : ℕ) → lba < block → block < lba + count → stored entries block ≡ None
   pub ended : (size i : ℕ) → held_from size (stored entries) (lba + count - 1) (1 + i) ≡ None
-
--- there is one run, and it is so
-pub record IsOneAlone (entries : List (ℕ × Piece)) (runs : List Filling) : Type 0 where
-  pub run : Filling
-  pub is : runs ≡ run ∷ []
-  pub alone : IsAlone entries run.range.lba run.range.count
