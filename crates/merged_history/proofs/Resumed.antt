@@ -1,22 +1,24 @@
 -- The merged history of a resumed world
-use Rattle.std.proofs.Common.{◌<◌, ◌≡◌, ℕ, zero, suc, List, [], ◌∷◌, length, drop, refl, ap, ◌∙◌, arith, inl, inr}
-use Rattle.std.specs.Prelude.{slice_index, All, AllPairs, IsTrue}
+use Rattle.std.proofs.Common.{◌<◌, ◌≡◌, ℕ, zero, suc, List, [], ◌∷◌, length, take, drop, refl, ap, sym, subst, ◌∙◌, arith, inl, inr}
+use Rattle.std.specs.Prelude.{◌⊎◌, ◌≢◌, slice_index, All, AllPairs, IsTrue}
+use Rattle.std.proofs.lemmas.List.{take-append-drop}
 use Rattle.cm_base.specs.Configuration.{Configuration}
 use Rattle.cm_history.specs.declared.act.Actor.{Actor}
 use Rattle.cm_history.specs.declared.act.Entry.{Entry}
+use Rattle.cm_history.specs.Deeds.{same_actor}
 use Rattle.cm_history.specs.History.{on}
 use Rattle.cm_history.specs.Legal.{may_ask}
 use Rattle.cm_history.specs.Limits.{within_limits}
-use Rattle.cm_history.proofs.PublicLaws.{Each, Each-in, Each-by, Each-all, In}
-use Rattle.merged_history.proofs.Members.{Pairs, Pairs-all}
-use Rattle.merged_history.specs.Merged.{merged}
-use Rattle.merged_history.specs.Resumed.{IsOrdered, IsResumed}
+use Rattle.cm_history.proofs.PublicLaws.{Each, Each-in, Each-by, Each-all, In, In-filter, filter-passes, same_actor-is, same_actor-self}
+use Rattle.merged_history.proofs.Members.{In-append_right, In-split, Pairs, Pairs-all, in-filter}
+use Rattle.merged_history.proofs.OfActor.{rises-sorted}
+use Rattle.merged_history.specs.Merged.{all_of, fronts, merged, rests}
+use Rattle.merged_history.specs.Resumed.{IsNewTo, IsOrdered, IsResumed}
 use Rattle.merged_history.specs.Own.{by, IsAsked}
-use Rattle.merged_history.specs.Merged.{rests}
 use Rattle.pass_register.specs.Passes.{Joined, own_of}
 use Rattle.merged_history.specs.Passes.{AreJoined, of_unit}
-use Rattle.merged_history.proofs.Sorted.{Before, Sorted}
-use Rattle.merged_history.proofs.Whole.{sorted, stands-on, part, of_actor}
+use Rattle.merged_history.proofs.Sorted.{Before, Sorted, in-merged, sorted-filter, sorted-same}
+use Rattle.merged_history.proofs.Whole.{all-in, of_actor, part, sorted, stands-on}
 use Rattle.merged_history.proofs.Steps.{rises-drop, each-drop}
 use Rattle.merged_history.proofs.Given.{AreHistories}
 
@@ -47,6 +49,42 @@ rest-of (n ∷ ns) [] (suc unit) = none (slice_index ns unit)
 rest-of (n ∷ ns) (h ∷ hs) zero = refl
 rest-of (n ∷ ns) (h ∷ hs) (suc unit) = rest-of ns hs unit
 
+front-of : (at : List ℕ) (hs : List (List Entry)) (unit : ℕ) → of_unit (fronts at hs) unit ≡ take (slice_index at unit) (of_unit hs unit)
+front-of [] hs zero = refl
+front-of [] hs (suc unit) = refl
+front-of (n ∷ ns) [] zero = none n
+  where
+    none : (k : ℕ) → [] ≡ take {A = Entry} k []
+    none zero = refl
+    none (suc k) = refl
+front-of (n ∷ ns) [] (suc unit) = none (slice_index ns unit)
+  where
+    none : (k : ℕ) → [] ≡ take {A = Entry} k []
+    none zero = refl
+    none (suc k) = refl
+front-of (n ∷ ns) (h ∷ hs) zero = refl
+front-of (n ∷ ns) (h ∷ hs) (suc unit) = front-of ns hs unit
+
+-- an entry is one of the first ones of its unit, or of the later ones
+first-or-rest : (at : List ℕ) (hs : List (List Entry)) (unit : ℕ) (e : Entry) → In e (of_unit hs unit)
+    → In e (all_of (fronts at hs)) ⊎ In e (of_unit (rests at hs) unit)
+first-or-rest at hs unit e i =
+    let n = slice_index at unit in
+    let here = of_unit hs unit in
+    go (In-split (take n here) (drop n here) e (subst (In e) (sym (take-append-drop n here)) i))
+  where
+    go : In e (take (slice_index at unit) (of_unit hs unit)) ⊎ In e (drop (slice_index at unit) (of_unit hs unit))
+        → In e (all_of (fronts at hs)) ⊎ In e (of_unit (rests at hs) unit)
+    go (inl j) = inl (all-in (fronts at hs) unit e (subst (In e) (sym (front-of at hs unit)) j))
+    go (inr j) = inr (subst (In e) (sym (rest-of at hs unit)) j)
+
+-- a later one is one of all
+rest-in : (at : List ℕ) (hs : List (List Entry)) (unit : ℕ) (e : Entry) → In e (of_unit (rests at hs) unit) → In e (of_unit hs unit)
+rest-in at hs unit e i =
+    let n = slice_index at unit in
+    let here = of_unit hs unit in
+    subst (In e) (take-append-drop n here) (In-append_right (take n here) (drop n here) e (subst (In e) (rest-of at hs unit) i))
+
 pub rests-histories : (config : Configuration) (at : List ℕ) (hs : List (List Entry)) → AreHistories config hs → AreHistories config (rests at hs)
 rests-histories config at hs are = record {
   units = rests-long at hs ∙ are.units;
@@ -62,17 +100,52 @@ rising-pairs (x ∷ xs) s = (Each-by _ xs (λ e i. go e (Each-in (Before x) xs e
     go e (inl less) u = less
     go e (inr same) u = let high = same.1 in absurd (omega (arith, high, u))
 
-pub resumed : (config : Configuration) (openings : List ℕ) (hs : List (List Entry)) (joined : List Joined) → AreHistories config hs → AreJoined config joined → AreMadeAfter config openings hs joined → IsResumed config openings hs joined
-resumed config openings hs joined are passes made = record {
-  ordered = record {
-    configured = Each-all _ (merged hs) (Each-by _ (merged hs) (λ e i. (asked e i).configured));
-    limits = Each-all _ (merged hs) (Each-by _ (merged hs) (λ e i. (asked e i).limits));
-    asked = Each-all _ (merged hs) (Each-by _ (merged hs) (λ e i. (asked e i).asked));
-    rising = Pairs-all _ (merged hs) (rising-pairs (merged hs) (sorted config hs are));
-  };
-  parts = part config hs are;
-  actors = of_actor config (rests openings hs) (rests-histories config openings hs are) joined passes record { stands = made.stands; made = made.made };
-}
-  where
-    asked : (e : Entry) → In e (merged hs) → IsAsked config e
-    asked e i = Each-in (IsAsked config) (of_unit hs e.unit) e (made.asked e.unit) (stands-on config hs are e i)
+module _ (config : Configuration) (openings : List ℕ) (hs : List (List Entry)) (joined : List Joined) (are : AreHistories config hs) (passes : AreJoined config joined)
+    (made : AreMadeAfter config openings hs joined) where
+  asked : (e : Entry) → In e (merged hs) → IsAsked config e
+  asked e i = Each-in (IsAsked config) (of_unit hs e.unit) e (made.asked e.unit) (stands-on config hs are e i)
+
+  made-by : (e : Entry) → In e (merged hs) → In e (all_of (fronts openings hs)) ⊎ In e (own_of e.actor joined)
+  made-by e i = go (first-or-rest openings hs e.unit e (stands-on config hs are e i))
+    where
+      go : In e (all_of (fronts openings hs)) ⊎ In e (of_unit (rests openings hs) e.unit) → In e (all_of (fronts openings hs)) ⊎ In e (own_of e.actor joined)
+      go (inl j) = inl j
+      go (inr j) = inr (Each-in (λ (o : Entry). In o (own_of o.actor joined)) (of_unit (rests openings hs) e.unit) e (made.made e.unit) j)
+
+  module _ (actor : Actor) (new : IsNewTo (all_of (fronts openings hs)) actor) where
+    new-sound : (e : Entry) → In e (by actor (merged hs)) → In e (own_of actor joined)
+    new-sound e i = go (made-by e (In-filter (λ (o : Entry). same_actor o.actor actor) (merged hs) e i))
+      where
+        same : e.actor ≡ actor
+        same = same_actor-is e.actor actor (filter-passes (λ (o : Entry). same_actor o.actor actor) (merged hs) e i)
+
+        go : In e (all_of (fronts openings hs)) ⊎ In e (own_of e.actor joined) → In e (own_of actor joined)
+        go (inl j) = absurd (Each-in (λ (o : Entry). o.actor ≢ actor) (all_of (fronts openings hs)) e new j same)
+        go (inr j) = subst (λ a. In e (own_of a joined)) same j
+
+    new-whole : (e : Entry) → In e (own_of actor joined) → In e (by actor (merged hs))
+    new-whole e i =
+        let same : e.actor ≡ actor = Each-in (λ (o : Entry). o.actor ≡ actor) (own_of actor joined) e (passes actor).mine i in
+        let stands = Each-in (λ (o : Entry). In o (of_unit (rests openings hs) o.unit)) (own_of actor joined) e (made.stands actor) i in
+        in-filter (λ (o : Entry). same_actor o.actor actor) (merged hs) e (in-merged hs e (all-in hs e.unit e (rest-in openings hs e.unit e stands)))
+        (ap (λ a. same_actor a actor) same ∙ same_actor-self actor)
+
+    new-actor : by actor (merged hs) ≡ own_of actor joined
+    new-actor =
+        sorted-same (by actor (merged hs)) (own_of actor joined) (sorted-filter (λ (o : Entry). same_actor o.actor actor) (merged hs) (sorted config hs are))
+        (rises-sorted 0 (own_of actor joined) (passes actor).rising) new-sound new-whole
+
+  pub resumed : IsResumed config openings hs joined
+  resumed = record {
+    ordered = record {
+      configured = Each-all _ (merged hs) (Each-by _ (merged hs) (λ e i. (asked e i).configured));
+      limits = Each-all _ (merged hs) (Each-by _ (merged hs) (λ e i. (asked e i).limits));
+      asked = Each-all _ (merged hs) (Each-by _ (merged hs) (λ e i. (asked e i).asked));
+      rising = Pairs-all _ (merged hs) (rising-pairs (merged hs) (sorted config hs are));
+    };
+    parts = part config hs are;
+    actors = of_actor config (rests openings hs) (rests-histories config openings hs are) joined passes record { stands = made.stands; made = made.made };
+    rising = are.rising;
+    made = Each-by (λ (e : Entry). In e (all_of (fronts openings hs)) ⊎ In e (own_of e.actor joined)) (merged hs) made-by;
+    new = new-actor;
+  }

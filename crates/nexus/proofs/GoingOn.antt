@@ -1,10 +1,14 @@
 -- A world goes on with histories that were recorded before
 use Rattle.std.proofs.Common.{◌<◌, ◌≤◌, ◌≡◌, ℕ, zero, suc, ◌+◌, List, [], ◌∷◌, ◌++◌, length, map, take, refl, ap, sym, ◌∙◌, subst, arith, false, true, Bool, Some, None, Ok, Err, IfOk, length-append, append_assoc, append-nil, add-one}
-use Rattle.std.specs.Prelude.{slice_get, slice_index_or, max, Option, ◌||◌, if◌then◌else◌}
+use Rattle.std.specs.Prelude.{slice_get, slice_index_or, max, nat_lt, Option, ◌||◌, if◌then◌else◌}
 use Rattle.std.specs.declared.result.Result.{Result}
+use Rattle.std.proofs.Math.Nat.{max-le}
+use Rattle.std.proofs.lemmas.Bool.Decides.{nat_tests}
 use Rattle.std.proofs.lemmas.List.{length-map}
 use Rattle.cm_base.specs.Configuration.{Configuration}
 use Rattle.cm_base.specs.Units.{unit_of}
+use Rattle.cm_history.specs.declared.act.Actor.{Actor}
+use Rattle.cm_history.specs.declared.act.Actor.TheVariants.{Nexus, Pump}
 use Rattle.cm_history.specs.declared.act.Entry.{Entry}
 use Rattle.cm_history.specs.History.{past_of}
 use Rattle.cm_history.specs.Room.{is_full}
@@ -12,7 +16,7 @@ use Rattle.cm_history.proofs.PublicLaws.{Each}
 use Rattle.unit_core.specs.UnitState.{UnitState, Stands}
 use Rattle.unit_gate.specs.declared.kin.RecorderFacts.{RecorderFacts}
 use Rattle.unit_gate.specs.declared.resuming.ResumeRefused.{ResumeRefused}
-use Rattle.unit_gate.specs.Opening.{IsGiven, bad_entry, first_bad, has_late_number, is_bad_behind, opening_entries}
+use Rattle.unit_gate.specs.Opening.{IsGiven, bad_entry, first_bad, has_late_number, is_bad_behind, last_number, opening_entries}
 use Rattle.unit_gate.specs.Recorded.{HasRecorded, RecordedState, StandsFor, kin_of, marks_of, without_last}
 use Rattle.unit_gate.proofs.PublicLaws.{opening-recorded}
 use Rattle.nexus.specs.Opening.{StoredUnit, IsStored, AreStored, bad_history, first_of, number_after, numbers_after, next_nexus}
@@ -165,6 +169,19 @@ good-numbers config n (s ∷ ss) none = go (bad_entry config n s.history) refl n
         → Each (λ (e : Entry). has_late_number e.actor ≡ false) s.history × Each (λ (t : StoredUnit). Each (λ (e : Entry). has_late_number e.actor ≡ false) t.history) ss
     go None is none later = (none-late config n [] s.history is, later none)
     go (Some k) is none later = cc
+
+number-few : (actor : Actor) → has_late_number actor ≡ false → number_after actor ≤ last_number + 1
+number-few (Nexus n) early = let high : nat_lt last_number n ≡ false = early in grind (arith, nat_tests)
+number-few (Pump unit) early = omega arith
+
+numbers-few : (es : List Entry) → Each (λ (e : Entry). has_late_number e.actor ≡ false) es → numbers_after es ≤ last_number + 1
+numbers-few [] early = omega arith
+numbers-few (e ∷ es) early = max-le (number-few e.actor early.0) (numbers-few es early.1)
+
+-- so the next nexus has a number that leaves room
+pub nexus-few : (ss : List StoredUnit) → Each (λ (s : StoredUnit). Each (λ (e : Entry). has_late_number e.actor ≡ false) s.history) ss → next_nexus ss ≤ last_number + 1
+nexus-few [] early = omega arith
+nexus-few (s ∷ ss) early = max-le (numbers-few s.history early.0) (nexus-few ss early.1)
 
 pub each-of : {X Y : Type 0} (f : X → Y) (P : Y → Type 0) (xs : List X) → Each P (map f xs) → Each (λ x. P (f x)) xs
 each-of f P [] all = tt

@@ -1,5 +1,5 @@
 // A world goes on with histories that were recorded before.
-ghost use Rattle.std.specs.Prelude.{◌≡◌, ◌≢◌, ◌<◌, length, map, None, Some, IfOk, IfErr, OnOk, false};
+ghost use Rattle.std.specs.Prelude.{◌≡◌, ◌≢◌, ◌≤◌, ◌<◌, length, map, None, Some, IfOk, IfErr, OnOk, false};
 ghost use Rattle.cm_history.specs.declared.act.Entry.{Entry};
 ghost use Rattle.cm_history.proofs.PublicLaws.{Each};
 ghost use Rattle.unit_gate.specs.declared.resuming.ResumeRefused.{ResumeRefused};
@@ -134,6 +134,7 @@ impl<R: Recorder + Drop> World<R> {
         ensures resumed { IfOk result (λ w. GoesOn config.now
             (map (stored (facts R.recorded R.record_faults R.absent R.front)) stores.items)
             (next_nexus (map (stored (facts R.recorded R.record_faults R.absent R.front)) stores.items)) w.0 w.1) }
+        ensures few { IfOk result (λ w. w.1.made ≤ 4_294_967_039) }
         ensures good { OnOk result (bad_history config.now 0
             (map (stored (facts R.recorded R.record_faults R.absent R.front)) stores.items) ≡ None) }
         ensures bad { IfErr result (λ e. e.1 ≢ ResumeRefused.OutOfMemory → bad_history config.now 0

@@ -1,3 +1,5 @@
+ghost use Rattle.std.specs.Prelude.{◌≡◌};
+
 use pass_register::RootSeat;
 use recorder::Recorder;
 use std::marker::Model;
@@ -27,4 +29,13 @@ impl<R: Recorder + Drop> Model for Root<R> {
     ghost view = { λ r. root_view (config_of (gates_of r.seats.items)) r.made r.slip r.seats.items };
 
     ghost invariant = { λ r. KeepsRoot (config_of (gates_of r.seats.items)) r.made r.seqs.items r.slip r.seats.items };
+}
+
+impl<R: Recorder + Drop> Root<R> {
+    /// The number of the next nexus that gets a pass.
+    pub fn next_nexus(&self) -> u32
+        ensures { result ≡ self.now.made }
+    {
+        self.made
+    }
 }

@@ -4,6 +4,7 @@ pub mod Standing
 pub mod Endings
 pub mod Replaying
 pub mod Ending
+pub mod OpeningActors
 pub mod Acting
 pub mod Refusing
 pub mod Seats

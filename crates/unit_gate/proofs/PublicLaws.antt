@@ -2,3 +2,4 @@
 pub use Rattle.unit_gate.proofs.Sent.{recorded-sent}
 pub use Rattle.unit_gate.proofs.Standing.{all-folded, stands-asked, stands-history, stands-long, without-none}
 pub use Rattle.unit_gate.proofs.Ending.{opening-recorded}
+pub use Rattle.unit_gate.proofs.OpeningActors.{opening-actors}

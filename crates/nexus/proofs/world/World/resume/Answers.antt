@@ -1,11 +1,12 @@
-use Rattle.std.proofs.Common.{◌≡◌, ◌∙◌, ap, subst, map, false}
+use Rattle.std.proofs.Common.{◌≡◌, ◌∙◌, ap, arith, subst, map, false}
 use Rattle.std.proofs.lemmas.List.{length-map}
 use Rattle.cm_history.specs.declared.act.Entry.{Entry}
 use Rattle.cm_history.proofs.PublicLaws.{Each}
 use Rattle.unit_gate.specs.Opening.{has_late_number}
 use Rattle.unit_gate.specs.Recorded.{facts}
-use Rattle.nexus.specs.Opening.{GoesOn, StoredUnit, stored}
-use Rattle.nexus.proofs.GoingOn.{each-of, good-numbers}
+use Rattle.nexus.specs.Opening.{GoesOn, StoredUnit, next_nexus, stored}
+use Rattle.nexus.specs.Roots.{RootView}
+use Rattle.nexus.proofs.GoingOn.{each-of, good-numbers, nexus-few}
 use Rattle.nexus.proofs.Opening.{begun-long, begun-units, goes-on}
 use Rattle.nexus.proofs.world.World.resume.Goals as goal
 
@@ -27,3 +28,11 @@ pub returns-in-Ok-begin-clause-resumed : goal.returns-in-Ok-begin-clause-resumed
 returns-in-Ok-begin-clause-resumed g c =
     subst (λ n. GoesOn c.args.config.now (map (stored (facts g.R.Recorder.recorded g.R.Recorder.record_faults g.R.Recorder.absent g.R.Recorder.front)) c.args.stores.items) n c.in-Ok-begin.made.0 c.in-Ok-begin.made.1) c.next_nexus-made.ensures
     (goes-on c.args.config.now (map (stored (facts g.R.Recorder.recorded g.R.Recorder.record_faults g.R.Recorder.absent g.R.Recorder.front)) c.args.stores.items) c.in-Ok-begun_of.units.items c.next_nexus-made.result c.in-Ok-begin.made.0 c.in-Ok-begin.made.1 c.in-Ok-begun_of.ensures c.in-Ok-begin.ensures)
+
+pub returns-in-Ok-begin-clause-few : goal.returns-in-Ok-begin-clause-few
+returns-in-Ok-begin-clause-few g c =
+    let units = map (stored (facts g.R.Recorder.recorded g.R.Recorder.record_faults g.R.Recorder.absent g.R.Recorder.front)) c.args.stores.items in
+    let begun = goes-on c.args.config.now units c.in-Ok-begun_of.units.items c.next_nexus-made.result c.in-Ok-begin.made.0 c.in-Ok-begin.made.1 c.in-Ok-begun_of.ensures c.in-Ok-begin.ensures in
+    let few = nexus-few units (good-numbers c.args.config.now 0 units c.in-Ok.ensures.good) in
+    let is : c.in-Ok-begin.made.1.made ≡ next_nexus units = ap (λ (r : RootView). r.made) begun.root_is ∙ c.next_nexus-made.ensures in
+    omega (arith, few, is)
