@@ -8,9 +8,9 @@ use Rattle.cm_history.specs.declared.act.Act.{Act}
 use Rattle.cm_history.specs.declared.act.Actor.{Actor}
 use Rattle.cm_history.specs.declared.act.Entry.{Entry}
 use Rattle.recorder.specs.Text.{actor_bytes, behind_actor, entry_bytes}
-use Rattle.journal_disk.specs.Opened.{front_bytes, entry_in, may_follow}
+use Rattle.journal_disk.specs.Opened.{front_bytes, entry_in}
 use Rattle.journal_disk.specs.Log.{framed, records, Behind, HasNext, IsKept}
-use Rattle.journal_disk.specs.Journal.{last_stamp, MayFollow, AreSpelled, BegunSpells, IsJournal}
+use Rattle.journal_disk.specs.Journal.{last_stamp, AreInOrder, MayFollow, AreSpelled, BegunSpells, IsJournal}
 use Rattle.journal_disk.specs.Recording.{if_spelled, entries_of, recorded_in, front_in, IsTextOf, AreTexts, IsReady, IsFit}
 use Rattle.journal_disk.specs.declared.log.Log.{Log}
 use Rattle.journal_disk.proofs.Entries.{journal-of}
@@ -62,11 +62,6 @@ not-both bytes zero one =
     let same : big_from 0 8 (big_bytes 8 0 ++ []) ≡ big_from 0 8 (big_bytes 8 1 ++ []) = ap (λ (l : List ℕ). big_from 0 8 (l ++ [])) (sym zero ∙ one) in
     let no : 0 ≡ 1 = sym first ∙ same ∙ second in
     cc
-
--- each of them may be recorded behind the one before it, and the first behind one of this stamp
-abbrev pub AreInOrder : Configuration → ℕ → ℕ → List Entry → Type 0
-AreInOrder config unit last [] = Unit {0}
-AreInOrder config unit last (e ∷ es) = (may_follow config unit last e ≡ true) × AreInOrder config unit e.stamp es
 
 module _ (config : Configuration) (unit : ℕ) where
   -- records that spell entries, each of which may follow the one before

@@ -8,7 +8,7 @@ use Rattle.cm_base.specs.Configuration.{Configuration}
 use Rattle.cm_history.specs.declared.act.Entry.{Entry}
 use Rattle.journal_disk.specs.Opened.{open_gate, begins_open, front_bytes, entry_in, may_follow, allowed, told_size, payload_in, good_entry, opened}
 use Rattle.journal_disk.specs.Log.{framed, records}
-use Rattle.journal_disk.specs.Journal.{Spells}
+use Rattle.journal_disk.specs.Journal.{AreInOrder, Spells, last_stamp}
 use Rattle.journal_disk.specs.inner.Scanning.{IsNext, IsScanned, IsFound}
 use Rattle.journal_disk.proofs.Gates.{length-framed, records-push}
 use Rattle.journal_disk.proofs.Found.{good-none, holds-opens, cut-is-bad}
@@ -56,6 +56,12 @@ module _ (config : Configuration) (unit : ℕ) where
       let on : gate + 1 + 8 ≡ gate + 9 = omega arith in
       let same : payload_in bytes ≡ p = ap (λ k. take k (drop 8 bytes)) (sym told) ∙ ap (λ (l : List ℕ). take size l) (drop-drop 8 (gate + 1) file) ∙ ap (λ k. take size (drop k file)) on ∙ sym is in
       good-none config unit last bytes (omega (arith, within, told, length-drop (gate + 1) file)) (ap (λ (l : List ℕ). allowed (may_follow config unit last) (entry_in l)) same ∙ sym none)
+
+  -- one more that may stand behind them
+  pub order-push : (last : ℕ) (es : List Entry) (e : Entry) → AreInOrder config unit last es → may_follow config unit (last_stamp last es) e ≡ true
+      → AreInOrder config unit last (es ++ (e ∷ []))
+  order-push last [] e order may = (may, tt)
+  order-push last (x ∷ xs) e order may = (order.0, order-push x.stamp xs e order.1 may)
 
   -- ---- all of them
 

@@ -16,6 +16,11 @@ last_stamp last (e ∷ es) = last_stamp e.stamp es
 abbrev pub MayFollow : Configuration → ℕ → List Entry → Entry → Type 0
 MayFollow config unit es e = may_follow config unit (last_stamp 0 es) e ≡ true
 
+-- each of them may be recorded behind the one before it, and the first behind one of this stamp
+abbrev pub AreInOrder : Configuration → ℕ → ℕ → List Entry → Type 0
+AreInOrder config unit last [] = Unit {0}
+AreInOrder config unit last (e ∷ es) = (may_follow config unit last e ≡ true) × AreInOrder config unit e.stamp es
+
 -- the record spells the entry, which may stand behind one of this stamp
 abbrev pub Spells : Configuration → ℕ → ℕ → List ℕ → Entry → Type 0
 Spells config unit last p e = (length p < 2 ^ 64) × (entry_in p ≡ Some e) × (may_follow config unit last e ≡ true)

@@ -4,7 +4,7 @@ ghost use Rattle.cm_history.specs.declared.act.Entry.{Entry};
 ghost use Rattle.recorder.specs.Recording.{Rose};
 ghost use Rattle.journal_disk.specs.Disk.{IsSynced, LeavesOnly};
 ghost use Rattle.journal_disk.specs.Opened.{front_bytes, opened};
-ghost use Rattle.journal_disk.specs.Journal.{IsJournal, IsGood, StaysGood, SyncsFirst};
+ghost use Rattle.journal_disk.specs.Journal.{AreInOrder, IsJournal, IsGood, StaysGood, SyncsFirst};
 ghost use Rattle.journal_disk.specs.Log.{IsTold};
 ghost use Rattle.journal_disk.specs.declared.opening.OpenFault.{OpenFault};
 
@@ -78,6 +78,7 @@ fn open_synced<D: Disk>(
     ensures told { IsTold (D.reads disk.old) → IsTold (D.reads disk.new) }
     ensures untold { D.reads disk.old ≡ None → D.reads disk.new ≡ None }
     ensures within { IfOk result (λ r. IfSome (D.reads disk.new) (λ bytes. r.gate < length bytes)) }
+    ensures order { IfOk result (λ r. AreInOrder config.now unit 0 r.history.entries) }
     ensures opened { (file : List ℕ) → D.reads disk.old ≡ Some file → IsSynced (D.reads disk.old) (D.may_leave disk.old)
         → IfOk result (λ r. opened config.now unit file ≡ Ok r.history.entries) }
     ensures kept { (file : List ℕ) → D.reads disk.old ≡ Some file → IsSynced (D.reads disk.old) (D.may_leave disk.old)
@@ -123,6 +124,7 @@ fn open_disk<D: Disk>(
     ensures told { IsTold (D.reads disk.old) → IsTold (D.reads disk.new) }
     ensures untold { D.reads disk.old ≡ None → D.reads disk.new ≡ None }
     ensures within { IfOk result (λ r. IfSome (D.reads disk.new) (λ bytes. r.gate < length bytes)) }
+    ensures order { IfOk result (λ r. AreInOrder config.now unit 0 r.history.entries) }
     ensures opened { (file : List ℕ) → D.reads disk.old ≡ Some file → IfOk result (λ r. opened config.now unit file ≡ Ok r.history.entries) }
     ensures kept { (file : List ℕ) → D.reads disk.old ≡ Some file
         → IfOk result (λ r. IsJournal D.reads D.may_leave config.now unit r.history.entries None
@@ -135,6 +137,7 @@ fn open_disk<D: Disk>(
         → OnErr result (LeavesOnly D.moment D.left_since disk.old disk.new (D.may_leave disk.old)
         ⊎ SyncsFirst D.reads D.may_leave D.moment D.left_since disk.old disk.new (λ c. opened config.now unit c ≡ opened config.now unit file)) }
     ensures failed { IfErr result (λ e. e ≡ OpenFault.DiskFault → Rose (D.disk_faults disk.old) (D.disk_faults disk.new)) }
+    ensures counts { D.disk_faults disk.old ≤ D.disk_faults disk.new }
 {
     disk.sync()?;
     open_synced(alloc, disk, config, unit)
@@ -157,6 +160,9 @@ impl<D: Disk + Drop> Journal<D> {
         ensures opened { (file : List ℕ) → D.reads disk ≡ Some file → IfOk result (λ r. opened config.now unit file ≡ Ok r.1.entries) }
         ensures bad { (file : List ℕ) → D.reads disk ≡ Some file
             → IfErr result (λ e. (place : ℕ) → e.1 ≡ OpenFault.BadJournal place → opened config.now unit file ≡ Err place) }
+
+        // Each of them might be asked of the unit, and their stamps rise.
+        ensures order { IfOk result (λ r. AreInOrder config.now unit 0 r.1.entries) }
 
         // The journal has recorded these entries.
         ensures kept { (file : List ℕ) → D.reads disk ≡ Some file
@@ -183,6 +189,8 @@ impl<D: Disk + Drop> Journal<D> {
         ensures never_bad { IsGood D.reads D.may_leave config.now unit disk → IfErr result (λ e. (place : ℕ) → e.1 ≢ OpenFault.BadJournal place) }
 
         ensures failed { IfErr result (λ e. e.1 ≡ OpenFault.DiskFault → Rose (D.disk_faults disk) (D.disk_faults e.0)) }
+        ensures counts { IfOk result (λ r. D.disk_faults disk ≤ D.disk_faults r.0.disk) }
+        ensures counts_refused { IfErr result (λ e. D.disk_faults disk ≤ D.disk_faults e.0) }
     {
         let mut disk = disk;
         match open_disk(alloc, &mut disk, config, unit) {

@@ -1,7 +1,8 @@
 // The records of a file, one behind another.
-ghost use Rattle.std.specs.Prelude.{◌≡◌, ◌∷◌, [], ◌≤◌, ◌<◌, ◌+◌, ◌^◌, ◌&&◌, ◌==◌, ℕ, List, Some, None, Err, Option, Bool, length, take, drop, IfOk, IfErr, IfSome, OnOk, OnErr};
+ghost use Rattle.std.specs.Prelude.{◌≡◌, ◌∷◌, [], ◌≤◌, ◌<◌, ◌+◌, ◌^◌, ◌&&◌, ◌==◌, ℕ, List, Some, None, Err, Option, Bool, true, length, take, drop, IfOk, IfErr, IfSome, OnOk, OnErr};
 ghost use Rattle.cm_history.specs.declared.act.Entry.{Entry};
 ghost use Rattle.recorder.specs.Recording.{Rose};
+ghost use Rattle.journal_disk.specs.Journal.{AreInOrder};
 ghost use Rattle.journal_disk.specs.Opened.{begins_open, entry_in, may_follow, allowed, opened};
 ghost use Rattle.cm_history.specs.Limits.{within_limits};
 ghost use Rattle.cm_history.specs.Legal.{may_ask};
@@ -74,7 +75,8 @@ fn allowed_in(
     payload: &[u8],
 ) -> Result<Option<Entry>, OutOfMemory>
     requires { unit < length config.now.units }
-    ensures { IfOk result (λ found. found ≡ allowed (may_follow config.now unit last) (entry_in payload.now)) }
+    ensures found { IfOk result (λ found. found ≡ allowed (may_follow config.now unit last) (entry_in payload.now)) }
+    ensures follows { IfOk result (λ found. IfSome found (λ e. may_follow config.now unit last e ≡ true)) }
 {
     let Some(entry) = entry_in(alloc, payload)? else {
         return Ok(None);
@@ -136,6 +138,7 @@ fn next_at<D: Disk>(
     ensures reads { OnlyReads D.reads D.may_leave D.moment D.left_since D.disk_faults disk.old disk.new }
     ensures next { (file : List ℕ) → D.reads disk.old ≡ Some file → IfOk result (IfNext config.now unit last gate file) }
     ensures inside { IfOk result (λ found. IfSome found (λ n. gate + 9 + n.size < size)) }
+    ensures follows { IfOk result (λ found. IfSome found (λ n. may_follow config.now unit last n.entry ≡ true)) }
     ensures bad { IfErr result (λ e. (place : ℕ) → e ≡ OpenFault.BadJournal place → ⊥) }
     ensures failed { IfErr result (λ e. e ≡ OpenFault.DiskFault → Rose (D.disk_faults disk.old) (D.disk_faults disk.new)) }
 {
@@ -175,6 +178,7 @@ pub(crate) fn scan<D: Disk>(
     requires within { start < size }
     ensures reads { OnlyReads D.reads D.may_leave D.moment D.left_since D.disk_faults disk.old disk.new }
     ensures inside { IfOk result (λ r. r.gate < size) }
+    ensures order { IfOk result (λ r. AreInOrder config.now unit 0 r.history.entries) }
     ensures found { (file : List ℕ) → D.reads disk.old ≡ Some file → IsScanned config.now unit file start 0 []
         → IfOk result (λ r. IsFound config.now unit file r.gate r.history.entries) }
     ensures bad { (file : List ℕ) → D.reads disk.old ≡ Some file → IsScanned config.now unit file start 0 []

@@ -1,11 +1,13 @@
 use Rattle.std.proofs.Common.{◌≡◌, ◌∙◌, ◌<◌, ◌+◌, ◌++◌, ◌∷◌, [], List, Option, None, Err, length, drop, true, false, sym, ap, subst, arith, rules, refl}
 use Rattle.std.specs.Prelude.{IfSome}
 use Rattle.cm_history.specs.declared.act.Entry.{Entry}
-use Rattle.journal_disk.specs.Opened.{begins_open}
+use Rattle.journal_disk.specs.Journal.{AreInOrder, last_stamp}
+use Rattle.journal_disk.specs.Opened.{begins_open, may_follow}
 use Rattle.journal_disk.specs.inner.Scanning.{IfNext, IsScanned}
 use Rattle.journal_disk.specs.declared.scanning.Next.{Next}
 use Rattle.journal_disk.proofs.FileReads.{of-told, to-told, reads-then}
-use Rattle.journal_disk.proofs.Scans.{scanned-cut, scanned-more, scanned-found}
+use Rattle.journal_disk.proofs.Entries.{last-push}
+use Rattle.journal_disk.proofs.Scans.{order-push, scanned-cut, scanned-more, scanned-found}
 use Rattle.journal_disk.proofs.scanning.scan.Goals as goal
 
 pub returns-in_default-clause-bad : goal.returns-in_default-clause-bad
@@ -36,6 +38,13 @@ loop-opens-preserved g c =
           let next = subst (λ (o : Option Next). IfNext c.args.config.now c.args.unit c.loop-opens.last gate file o) c.in-Some.is (c.in_ok-next.ensures.next file (i.reads.kept ∙ told)) in
           subst (λ (es : List Entry). IsScanned c.args.config.now c.args.unit file (gate + (9 + n.size)) n.entry.stamp es) (sym grown)
           (scanned-more c.args.config.now c.args.unit file gate c.loop-opens.last n.size c.loop-opens.history.entries n.entry (gate + (9 + n.size)) refl (i.scanned file told start) opens next);
+      order =
+          let may : may_follow c.args.config.now c.args.unit c.loop-opens.last n.entry ≡ true =
+          subst (λ (o : Option Next). IfSome o (λ m. may_follow c.args.config.now c.args.unit c.loop-opens.last m.entry ≡ true)) c.in-Some.is c.in_ok-next.ensures.follows in
+          subst (AreInOrder c.args.config.now c.args.unit 0) (sym grown)
+          (order-push c.args.config.now c.args.unit 0 c.loop-opens.history.entries n.entry i.order
+          (subst (λ k. may_follow c.args.config.now c.args.unit k n.entry ≡ true) i.stamp may));
+      stamp = sym (last-push 0 c.loop-opens.history.entries n.entry) ∙ ap (last_stamp 0) (sym grown);
       opens = to-told (g.D.Disk.reads c.next_at.new.disk) (g.D.Disk.reads c.args.disk.now) (λ f. c.in_ok-opens-2.opens ≡ begins_open (drop (gate + (9 + n.size)) f)) (sym until.kept) c.in_ok-opens-2.ensures.told;
     }
 
