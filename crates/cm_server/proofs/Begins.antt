@@ -146,37 +146,37 @@ module _ {K R C : Type 0} (state : K → LinkState) (shows : C → ℕ → Type 
 
   -- the first ones were begun
   pub record BegunSoFar (world : WorldView) (before now : RootView) (coming rest : Option (List (List ℕ))) (out left : Option ℕ) (begun : List (Begun K R C))
-      (number : ℕ) : Type 0 where
+      (first number : ℕ) : Type 0 where
     pub starts : List Start
-    pub are : AreBegun state shows config clock 0 starts begun
-    pub have : HaveBegun world 0 before now coming rest starts
+    pub are : AreBegun state shows config clock first starts begun
+    pub have : HaveBegun world first before now coming rest starts
     pub count : length begun ≡ number
-    pub made : now.made ≡ number
+    pub made : now.made ≡ first + number
     pub told : left ≡ option_map (λ n. n + length begun) out
 
-  pub sofar-none : (world : WorldView) (root : RootView) (coming : Option (List (List ℕ))) (out : Option ℕ) (begun : List (Begun K R C)) → IsReady world root
-      → root.made ≡ 0 → begun ≡ [] → BegunSoFar world root root coming coming out out begun 0
-  sofar-none world root coming out begun ready none empty = record {
+  pub sofar-none : (world : WorldView) (root : RootView) (coming : Option (List (List ℕ))) (out : Option ℕ) (begun : List (Begun K R C)) (first : ℕ) → IsReady world root
+      → root.made ≡ first → begun ≡ [] → BegunSoFar world root root coming coming out out begun first 0
+  sofar-none world root coming out begun first ready made empty = record {
     starts = [];
-    are = subst (AreBegun state shows config clock 0 []) (sym empty) tt;
-    have = none-begun world 0 root coming ready;
+    are = subst (AreBegun state shows config clock first []) (sym empty) tt;
+    have = none-begun world first root coming ready;
     count = ap (λ (l : List (Begun K R C)). length l) empty;
-    made = none;
+    made = omega (arith, made);
     told = out-none out ∙ ap (λ (l : List (Begun K R C)). option_map (λ n. n + length l) out) (sym empty);
   }
 
   pub sofar-one : (world : WorldView) (before now after : RootView) (coming between rest : Option (List (List ℕ))) (out left less : Option ℕ)
-      (begun all : List (Begun K R C)) (number : ℕ) (s : Start) (b : Begun K R C) → BegunSoFar world before now coming between out left begun number
-      → IsBegun state shows config clock number s b → HasBegun world number now after between rest s → less ≡ option_map suc left → all ≡ begun ++ b ∷ []
-      → BegunSoFar world before after coming rest out less all (number + 1)
-  sofar-one world before now after coming between rest out left less begun all number s b so is has more same =
-      let many : 0 + length so.starts ≡ number = (let x = begun-count 0 so.starts begun so.are in let y = so.count in omega (arith, x, y)) in
+      (begun all : List (Begun K R C)) (first number : ℕ) (s : Start) (b : Begun K R C) → BegunSoFar world before now coming between out left begun first number
+      → IsBegun state shows config clock (first + number) s b → HasBegun world (first + number) now after between rest s → less ≡ option_map suc left → all ≡ begun ++ b ∷ []
+      → BegunSoFar world before after coming rest out less all first (number + 1)
+  sofar-one world before now after coming between rest out left less begun all first number s b so is has more same =
+      let many : first + length so.starts ≡ first + number = (let x = begun-count first so.starts begun so.are in let y = so.count in omega (arith, x, y)) in
       let long : length all ≡ length begun + 1 = ap (λ (l : List (Begun K R C)). length l) same ∙ length-append begun (b ∷ []) in
       record {
         starts = so.starts ++ s ∷ [];
-        are = subst (AreBegun state shows config clock 0 (so.starts ++ s ∷ [])) (sym same)
-            (begun-more 0 so.starts s begun b so.are (subst (λ k. IsBegun state shows config clock k s b) (sym many) is));
-        have = one-begun world 0 before now after coming between rest so.starts s so.have (subst (λ k. HasBegun world k now after between rest s) (sym many) has);
+        are = subst (AreBegun state shows config clock first (so.starts ++ s ∷ [])) (sym same)
+            (begun-more first so.starts s begun b so.are (subst (λ k. IsBegun state shows config clock k s b) (sym many) is));
+        have = one-begun world first before now after coming between rest so.starts s so.have (subst (λ k. HasBegun world k now after between rest s) (sym many) has);
         count = long ∙ ap (λ k. k + 1) so.count;
         made = (let x = so.made in let y = has.made in omega (arith, x, y));
         told = more ∙ ap (option_map suc) so.told ∙ (out-one out (option_map (λ n. n + length begun) out) (length begun) refl)

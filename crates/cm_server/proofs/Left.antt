@@ -1,6 +1,7 @@
 -- What is left of a world that was served, and what is told of it
 use Rattle.std.proofs.Common.{◌≡◌, ◌≢◌, ◌≤◌, ℕ, zero, suc, List, [], ◌∷◌, ◌++◌, length, refl, ap, sym, ◌∙◌, subst, arith, true, false, Bool, append-nil}
 use Rattle.std.specs.Prelude.{All, Option, Some, None, Result, Ok, Err, IfOk, map, take, drop}
+use Rattle.std.specs.Result.{result_unwrap_or}
 use Rattle.std.proofs.lemmas.List.{length-map, length-take-le, take-append-drop}
 use Rattle.cm_base.specs.Configuration.{Configuration}
 use Rattle.cm_base.specs.Listening.{Gone}
@@ -9,26 +10,28 @@ use Rattle.cm_frame.proofs.PublicLaws.{request-stays}
 use Rattle.cm_history.specs.Legal.{IsLegal}
 use Rattle.cm_history.specs.Record.{Record}
 use Rattle.cm_history.specs.declared.act.Entry.{Entry}
-use Rattle.cm_history.proofs.PublicLaws.{map-append}
-use Rattle.cmd_program.specs.Conversations.{KeepsAll}
+use Rattle.cm_history.proofs.PublicLaws.{Each, map-append}
+use Rattle.cmd_program.specs.Conversations.{Folding, KeepsAll}
 use Rattle.cmd_program.specs.Judging.{step}
 use Rattle.cm_server.specs.Recorders.{FoldsBy}
 use Rattle.cm_server.specs.Reports.{report_text}
 use Rattle.cm_server.specs.Served.{WasServed, counts_from, unit_counts}
-use Rattle.cm_server.specs.Serving.{HasReported, IfReported, Reports, ReportsKept}
+use Rattle.cm_server.specs.Serving.{HasReported, IfReported, IfUnserved, Reports, ReportsKept}
 use Rattle.cm_server.specs.declared.sessions.accepting.AcceptEnd.{AcceptEnd}
 use Rattle.cm_server.specs.declared.status.Status.{Status}
 use Rattle.cm_server.specs.inner.Begun.{HasFailed, WereBegun}
 use Rattle.cm_server.specs.inner.Counting.{counts_in, kept_line}
 use Rattle.cm_server.specs.inner.Left.{WereAccepted, IsClosed, IsClosedWhole}
+use Rattle.cm_server.specs.inner.Opened.{AreNew, IsLegalBehind, IsOlder, IsOpened, MayHold, OpenedUnit, entries_of, kins_of, new_units, opening_marks, recorders_of}
 use Rattle.cm_server.specs.inner.Recording.{finals, HaveRecordedKept, IsReckoned, AreWritable}
 use Rattle.cm_server.specs.inner.Serving.{HasServed, HasSettled}
 use Rattle.cm_server.proofs.Folds.{folded-as, none-folded}
 use Rattle.cm_server.proofs.Recorded.{all-writable}
 use Rattle.cm_server.proofs.Reporting.{served-kept}
-use Rattle.cm_server.proofs.WorldServed.{served-as, world-recorded}
+use Rattle.cm_server.proofs.WorldServed.{legal-as, served-as, world-recorded}
+use Rattle.merged_history.specs.Merged.{all_of}
 use Rattle.nexus.specs.Closing.{WasClosed}
-use Rattle.nexus.specs.Opening.{IsBegun, no_recorder}
+use Rattle.nexus.specs.Opening.{IsBegun, kins_from, no_recorder}
 use Rattle.nexus.specs.Roots.{RootView}
 use Rattle.nexus.specs.Worlds.{WorldView}
 use Rattle.pass_register.specs.declared.known.Ticket.{Ticket}
@@ -37,47 +40,159 @@ use Rattle.unit_gate.specs.declared.kin.RecorderFacts.{RecorderFacts}
 use Rattle.unit_gate.specs.declared.recorded_unit.ClosedUnit.{ClosedUnit}
 use Rattle.unit_gate.specs.declared.recorded_unit.UnitCount.{UnitCount}
 
+-- ---- new units
+
+new-entries : (recorders : List RecorderFacts) → all_of (entries_of (new_units recorders)) ≡ []
+new-entries [] = refl
+new-entries (r ∷ rs) = new-entries rs
+
+new-recorders : (recorders : List RecorderFacts) → recorders_of (new_units recorders) ≡ recorders
+new-recorders [] = refl
+new-recorders (r ∷ rs) = ap (λ l. r ∷ l) (new-recorders rs)
+
+new-new : (recorders : List RecorderFacts) → AreNew (new_units recorders)
+new-new [] = tt
+new-new (r ∷ rs) = (refl, new-new rs)
+
+new-may : (recorders : List RecorderFacts) → Each MayHold (new_units recorders)
+new-may [] = tt
+new-may (r ∷ rs) = ((λ gone. refl), new-may rs)
+
+new-kins : (config : Configuration) (unit : ℕ) (recorders : List RecorderFacts) → kins_from config unit recorders ≡ kins_of config unit (new_units recorders)
+new-kins config unit [] = refl
+new-kins config unit (r ∷ rs) = ap (λ l. Some (record { config = config; unit = unit; opening = r; folded = 0 }) ∷ l) (new-kins config (suc unit) rs)
+
+new-openings : (recorders : List RecorderFacts) → map (λ (r : RecorderFacts). 0) recorders ≡ map (λ (es : List Entry). length es) (entries_of (new_units recorders))
+new-openings [] = refl
+new-openings (r ∷ rs) = ap (λ l. 0 ∷ l) (new-openings rs)
+
+new-seen : (recorders : List RecorderFacts) → map (λ (r : RecorderFacts). []) recorders ≡ entries_of (new_units recorders)
+new-seen [] = refl
+new-seen (r ∷ rs) = ap (λ l. [] ∷ l) (new-seen rs)
+
+new-marks : (recorders : List RecorderFacts) → map (λ (r : RecorderFacts). r.faults ∷ 0 ∷ 0 ∷ []) recorders ≡ opening_marks (new_units recorders)
+new-marks [] = refl
+new-marks (r ∷ rs) = ap (λ l. (r.faults ∷ 0 ∷ 0 ∷ []) ∷ l) (new-marks rs)
+
+module _ (config : Configuration) (recorders : List RecorderFacts) (world : WorldView) (root : RootView) (begun : IsBegun config recorders world root) where
+  -- no nexus has a pass yet
+  pub begun-first : root.made ≡ 0
+  begun-first = ap (λ (r : RootView). r.made) begun.root_is
+
+  -- a new world is one that begins
+  pub begun-opened : length recorders ≡ length config.units → IsOpened config (new_units recorders) world root
+  begun-opened each = record {
+    config_is = begun.config_is;
+    each_unit = length-map recorders (λ (r : RecorderFacts). record { recorder = r; folded = 0; entries = [] }) ∙ each;
+    gates = begun.gates ∙ new-kins config 0 recorders;
+    older = subst (Each (IsOlder root.made)) (sym (new-entries recorders)) tt;
+    may = new-may recorders;
+    root_is = begun.root_is
+        ∙ ap (λ (n : ℕ). record {
+          config = world.config;
+          gates = world.gates;
+          register = world.register;
+          made = n;
+          out = [];
+          joined = [];
+          openings = map (λ (r : RecorderFacts). 0) recorders;
+          seen = map (λ (r : RecorderFacts). []) recorders;
+          marks = map (λ (r : RecorderFacts). r.faults ∷ 0 ∷ 0 ∷ []) recorders;
+        }) (sym begun-first)
+        ∙ ap (λ (l : List ℕ). record {
+          config = world.config;
+          gates = world.gates;
+          register = world.register;
+          made = root.made;
+          out = [];
+          joined = [];
+          openings = l;
+          seen = map (λ (r : RecorderFacts). []) recorders;
+          marks = map (λ (r : RecorderFacts). r.faults ∷ 0 ∷ 0 ∷ []) recorders;
+        }) (new-openings recorders)
+        ∙ ap (λ (l : List (List Entry)). record {
+          config = world.config;
+          gates = world.gates;
+          register = world.register;
+          made = root.made;
+          out = [];
+          joined = [];
+          openings = map (λ (es : List Entry). length es) (entries_of (new_units recorders));
+          seen = l;
+          marks = map (λ (r : RecorderFacts). r.faults ∷ 0 ∷ 0 ∷ []) recorders;
+        }) (new-seen recorders)
+        ∙ ap (λ (l : List (List ℕ)). record {
+          config = world.config;
+          gates = world.gates;
+          register = world.register;
+          made = root.made;
+          out = [];
+          joined = [];
+          openings = map (λ (es : List Entry). length es) (entries_of (new_units recorders));
+          seen = entries_of (new_units recorders);
+          marks = l;
+        }) (new-marks recorders);
+  }
+
 -- ---- a world that was closed
 
 module _ {R : Type 0} (facts : R → RecorderFacts) (fits : R → Entry → Type 0) (config : Configuration) (Shows : ℕ → Type 0)
     (coming rest : Option (List (List ℕ))) (before after : Option (List Gone)) (ends : List SessionEnd) (units : List (ClosedUnit R)) where
   -- a world that was served, settled and closed
-  pub closed-all : (recorders : List RecorderFacts) (world : WorldView) (begin one two : RootView) (kept : Record) → IsBegun config recorders world begin
-      → length recorders ≡ length config.units → HasServed world Shows 0 begin one coming rest before after ends → HasSettled world Shows one two
-      → WasClosed facts fits two units kept → IsClosed facts fits config recorders Shows coming rest before after ends units
-  closed-all recorders world begin one two kept begun each served settled closed =
+  pub closed-all : (opened : List OpenedUnit) (world : WorldView) (begin one two : RootView) (kept : Record) → IsOpened config opened world begin
+      → HasServed world Shows begin.made begin one coming rest before after ends → HasSettled world Shows one two
+      → WasClosed facts fits two units kept → IsClosed facts fits config opened begin.made Shows coming rest before after ends units
+  closed-all opened world begin one two kept begun served settled closed =
       let same : world.config ≡ config = begun.config_is in
-      let here : IsBegun world.config recorders world begin = subst (λ (k : Configuration). IsBegun k recorders world begin) (sym same) begun in
-      let many : length recorders ≡ length world.config.units = subst (λ (k : Configuration). length recorders ≡ length k.units) (sym same) each in
+      let here : IsOpened world.config opened world begin = subst (λ (k : Configuration). IsOpened k opened world begin) (sym same) begun in
       record {
         gates = world.gates;
-        served = subst (λ (k : Configuration). WasServed step k (IsLegal k) (FoldsBy recorders (finals facts units)) [] 0 Shows coming rest before after
-            (λ entries told. (told ≡ ends) × IsReckoned facts fits recorders world.gates units k entries)) same
-            (world-recorded facts fits request-stays world Shows 0 recorders begin one two coming rest before after ends units kept here many served settled closed);
+        served = subst (λ (k : Configuration). WasServed step k (IsLegalBehind k opened) (FoldsBy (recorders_of opened) (finals facts units)) (all_of (entries_of opened)) begin.made Shows
+            coming rest before after (λ entries told. (told ≡ ends) × IsReckoned facts fits opened world.gates units k entries)) same
+            (world-recorded facts fits request-stays world Shows opened begin one two coming rest before after ends units kept here served settled closed);
       }
 
+  -- of new units the history is legal, and nothing was there at the opening
+  pub closed-new : (recorders : List RecorderFacts) (Folds : Folding) (first : ℕ) (Reports : List Entry → List SessionEnd → Type 0) → first ≡ 0
+      → WasServed step config (IsLegalBehind config (new_units recorders)) Folds (all_of (entries_of (new_units recorders))) first Shows coming rest before after Reports
+      → WasServed step config (IsLegal config) Folds [] 0 Shows coming rest before after Reports
+  closed-new recorders Folds first Reports none s =
+      subst (λ n. WasServed step config (IsLegal config) Folds [] n Shows coming rest before after Reports) none
+      (subst (λ o. WasServed step config (IsLegal config) Folds o first Shows coming rest before after Reports) (new-entries recorders)
+      (legal-as step config (IsLegalBehind config (new_units recorders)) (IsLegal config) Folds (all_of (entries_of (new_units recorders))) first Shows coming rest before after Reports
+      (λ entries l. l.legal (new-new recorders)) s))
+
   -- units without recorders keep all their entries
-  pub closed-whole : (all : List UnitConfig) → IsClosed facts fits config (map (λ (u : UnitConfig). no_recorder) all) Shows coming rest before after ends units
+  pub closed-whole : (all : List UnitConfig) (first : ℕ) → first ≡ 0
+      → IsClosed facts fits config (new_units (map (λ (u : UnitConfig). no_recorder) all)) first Shows coming rest before after ends units
       → IsClosedWhole config Shows coming rest before after ends units
-  closed-whole all c =
+  closed-whole all first zero-first c =
       let none = map (λ (u : UnitConfig). no_recorder) all in
-      let told : List Entry → List SessionEnd → Type 0 = λ entries told. (told ≡ ends) × IsReckoned facts fits none c.gates units config entries in
+      let told : List Entry → List SessionEnd → Type 0 = λ entries told. (told ≡ ends) × IsReckoned facts fits (new_units none) c.gates units config entries in
       let whole : List Entry → List SessionEnd → Type 0 = λ entries told. (told ≡ ends) × (counts_in units ≡ unit_counts config entries) in
       served-as step config (IsLegal config) KeepsAll [] 0 Shows coming rest before after told whole (λ entries is r. (r.0, r.1.counts))
-      (folded-as (FoldsBy none (finals facts units)) KeepsAll (none-folded all (finals facts units)) step config (IsLegal config) [] 0 Shows coming rest before after told c.served)
+      (folded-as (FoldsBy none (finals facts units)) KeepsAll (none-folded all (finals facts units)) step config (IsLegal config) [] 0 Shows coming rest before after told
+      (subst (λ rs. WasServed step config (IsLegal config) (FoldsBy rs (finals facts units)) [] 0 Shows coming rest before after told) (new-recorders none)
+      (closed-new none (FoldsBy (recorders_of (new_units none)) (finals facts units)) first told zero-first c.served)))
 
   -- the entries that are left of its units may be recorded
-  pub closed-writable : (recorders : List RecorderFacts) → IsClosed facts fits config recorders Shows coming rest before after ends units → All (AreWritable fits) units
-  closed-writable recorders c = all-writable facts fits config recorders c.gates c.served.entries units c.served.legal c.served.reported.1
+  pub closed-writable : (opened : List OpenedUnit) (first : ℕ) → IsClosed facts fits config opened first Shows coming rest before after ends units → All (AreWritable fits) units
+  closed-writable opened first c = all-writable facts fits config opened c.gates c.served.entries units c.served.legal.ordered c.served.reported.1
 
   -- it was recorded what was left of the units, and the report was pushed; the last recorders are spare
-  pub told-kept : (recorders spare : List RecorderFacts) (zs : List (ClosedUnit R)) (left asked : ℕ) (status : Status) (taken given : Option (List ℕ))
-      → IsClosed facts fits config recorders Shows coming rest before after ends units → HaveRecordedKept facts units zs left
+  pub told-kept : (recorders spare : List RecorderFacts) (zs : List (ClosedUnit R)) (left asked first : ℕ) (status : Status) (taken given : Option (List ℕ)) → first ≡ 0
+      → IsClosed facts fits config (new_units recorders) first Shows coming rest before after ends units → HaveRecordedKept facts fits units zs left
       → HasReported status asked taken given (length ends) (report_text ends (counts_in zs) ++ kept_line (Some left))
       → WasServed step config (IsLegal config) (FoldsBy (recorders ++ spare) (finals facts zs ++ spare)) [] 0 Shows coming rest before after
       (ReportsKept (recorders ++ spare) (finals facts zs ++ spare) status asked config taken given)
-  told-kept recorders spare zs left asked status taken given c kept told =
-      served-kept facts fits recorders c.gates units config status asked taken given ends Shows coming rest before after 0 spare zs left kept told c.served
+  told-kept recorders spare zs left asked first status taken given none c kept told =
+      let opened = new_units recorders in
+      let last = finals facts zs ++ spare in
+      subst (λ rs. WasServed step config (IsLegal config) (FoldsBy (rs ++ spare) last) [] 0 Shows coming rest before after (ReportsKept (rs ++ spare) last status asked config taken given))
+      (new-recorders recorders)
+      (closed-new recorders (FoldsBy (recorders_of opened ++ spare) last) first (ReportsKept (recorders_of opened ++ spare) last status asked config taken given) none
+      (served-kept facts fits opened c.gates units config status asked taken given ends Shows coming rest before after (IsLegalBehind config opened) (all_of (entries_of opened)) first
+      spare zs left kept told c.served))
 
 -- ---- without recorders
 
@@ -121,10 +236,34 @@ if-reported Status.WriteFault P Q f p = f p
 if-reported Status.OutOfMemory P Q f p = tt
 if-reported Status.Usage P Q f p = tt
 if-reported (Status.BadHeader place) P Q f p = tt
+if-reported (Status.BadJournal unit place) P Q f p = tt
+if-reported Status.DiskFault P Q f p = tt
+if-reported (Status.BadHistory unit entry) P Q f p = tt
+
+-- a status that was served is none of those that were not
+pub served-not : (status : Status) (P : Type 0) → IfUnserved status ⊥ → IfUnserved status P
+served-not Status.Done P none = tt
+served-not Status.AcceptFault P none = tt
+served-not Status.WriteFault P none = tt
+served-not Status.OutOfMemory P none = tt
+served-not Status.Usage P none = absurd none
+served-not (Status.BadHeader place) P none = absurd none
+served-not (Status.BadJournal unit place) P none = absurd none
+served-not Status.DiskFault P none = absurd none
+served-not (Status.BadHistory unit entry) P none = absurd none
 
 pub ok-then : {X E : Type 0} (r : Result X E) (P Q : X → Type 0) → ((x : X) → P x → Q x) → IfOk r P → IfOk r Q
 ok-then (Ok x) P Q f p = f x p
 ok-then (Err e) P Q f p = tt
+
+-- a result, or else another value
+pub unwrapped : {X E : Type 0} (r : Result X E) (other x : X) (P : X → Type 0) → x ≡ result_unwrap_or r other → IfOk r P → P other → P x
+unwrapped (Ok y) other x P is p q = subst P (sym is) p
+unwrapped (Err e) other x P is p q = subst P (sym is) q
+
+pub ok-both : {X E : Type 0} (r : Result X E) (P Q : X → Type 0) → IfOk r P → IfOk r Q → IfOk r (λ x. P x × Q x)
+ok-both (Ok x) P Q p q = (p, q)
+ok-both (Err e) P Q p q = tt
 
 pub front-many : {X : Type 0} (xs front : List X) (n k : ℕ) → front ≡ take n xs → n ≡ k → k ≤ length xs → length front ≡ k
 front-many xs front n k is same low = ap (λ (l : List _). length l) is ∙ ap (λ i. length (take i xs)) same ∙ length-take-le k xs low
@@ -137,11 +276,11 @@ counts-long config entries unit zero = refl
 counts-long config entries unit (suc n) = ap suc (counts-long config entries (suc unit) n)
 
 module _ {R : Type 0} (facts : R → RecorderFacts) where
-  pub kept-many : (us zs : List (ClosedUnit R)) (left : ℕ) → HaveRecordedKept facts us zs left → length zs ≡ length us
-  kept-many [] [] left kept = refl
-  kept-many [] (z ∷ zs) left kept = absurd kept
-  kept-many (u ∷ us) [] left kept = absurd kept
-  kept-many (u ∷ us) (z ∷ zs) left kept = ap suc (kept-many us zs kept.1 kept.5)
+  pub kept-many : (fits : R → Entry → Type 0) (us zs : List (ClosedUnit R)) (left : ℕ) → HaveRecordedKept facts fits us zs left → length zs ≡ length us
+  kept-many fits [] [] left kept = refl
+  kept-many fits [] (z ∷ zs) left kept = absurd kept
+  kept-many fits (u ∷ us) [] left kept = absurd kept
+  kept-many fits (u ∷ us) (z ∷ zs) left kept = ap suc (kept-many fits us zs kept.1 kept.5)
 
   finals-are : (zs : List (ClosedUnit R)) → finals facts zs ≡ map facts (map (λ (u : ClosedUnit R). u.recorder) zs)
   finals-are [] = refl
@@ -149,22 +288,22 @@ module _ {R : Type 0} (facts : R → RecorderFacts) where
 
   module _ (fits : R → Entry → Type 0) (config : Configuration) (Shows : ℕ → Type 0)
       (coming rest : Option (List (List ℕ))) (before after : Option (List Gone)) (ends : List SessionEnd) (units : List (ClosedUnit R)) where
-    pub units-many : (recorders : List RecorderFacts) → IsClosed facts fits config recorders Shows coming rest before after ends units → length units ≡ length config.units
-    units-many recorders c =
+    pub units-many : (opened : List OpenedUnit) (first : ℕ) → IsClosed facts fits config opened first Shows coming rest before after ends units → length units ≡ length config.units
+    units-many opened first c =
         sym (length-map units (λ (u : ClosedUnit R). u.count)) ∙ ap (λ (l : List UnitCount). length l) c.served.reported.1.counts ∙ counts-long config c.served.entries 0 (length config.units)
 
     -- said of the recorders that were given, and of those that come back
-    pub told-back : (all front spare back : List R) (zs : List (ClosedUnit R)) (left asked : ℕ) (status : Status) (taken given : Option (List ℕ))
-        → all ≡ front ++ spare → back ≡ map (λ (u : ClosedUnit R). u.recorder) zs ++ spare
-        → IsClosed facts fits config (map facts front) Shows coming rest before after ends units → HaveRecordedKept facts units zs left
+    pub told-back : (all front spare back : List R) (zs : List (ClosedUnit R)) (left asked first : ℕ) (status : Status) (taken given : Option (List ℕ))
+        → first ≡ 0 → all ≡ front ++ spare → back ≡ map (λ (u : ClosedUnit R). u.recorder) zs ++ spare
+        → IsClosed facts fits config (new_units (map facts front)) first Shows coming rest before after ends units → HaveRecordedKept facts fits units zs left
         → HasReported status asked taken given (length ends) (report_text ends (counts_in zs) ++ kept_line (Some left))
         → WasServed step config (IsLegal config) (FoldsBy (map facts all) (map facts back)) [] 0 Shows coming rest before after
         (ReportsKept (map facts all) (map facts back) status asked config taken given)
-    told-back all front spare back zs left asked status taken given whole again c kept told =
+    told-back all front spare back zs left asked first status taken given none whole again c kept told =
         let last = finals facts zs ++ map facts spare in
-        let first : map facts front ++ map facts spare ≡ map facts all = sym (map-append facts front spare) ∙ ap (map facts) (sym whole) in
+        let given-are : map facts front ++ map facts spare ≡ map facts all = sym (map-append facts front spare) ∙ ap (map facts) (sym whole) in
         let end : last ≡ map facts back =
         ap (λ l. l ++ map facts spare) (finals-are zs) ∙ sym (map-append facts (map (λ (u : ClosedUnit R). u.recorder) zs) spare) ∙ ap (map facts) (sym again) in
         subst (λ k. WasServed step config (IsLegal config) (FoldsBy (map facts all) k) [] 0 Shows coming rest before after (ReportsKept (map facts all) k status asked config taken given)) end
-        (subst (λ k. WasServed step config (IsLegal config) (FoldsBy k last) [] 0 Shows coming rest before after (ReportsKept k last status asked config taken given)) first
-        (told-kept facts fits config Shows coming rest before after ends units (map facts front) (map facts spare) zs left asked status taken given c kept told))
+        (subst (λ k. WasServed step config (IsLegal config) (FoldsBy k last) [] 0 Shows coming rest before after (ReportsKept k last status asked config taken given)) given-are
+        (told-kept facts fits config Shows coming rest before after ends units (map facts front) (map facts spare) zs left asked first status taken given none c kept told))

@@ -35,3 +35,7 @@ pub mod Lines
 pub mod Starting
 pub mod Ran
 pub mod Left
+pub mod Stores
+pub mod StoredOn
+pub mod StoredWorld
+pub mod Ended

@@ -16,9 +16,10 @@ use Rattle.cmd_program.specs.Running.{Call}
 use Rattle.cm_server.specs.Served.{works_behind, IsIdle}
 use Rattle.cm_server.specs.inner.Pumping.{IsSomePump, IsLast, AreLast}
 use Rattle.cm_server.specs.inner.Sessions.{EndedSession, IsStart, IsSession, AreSessions}
-use Rattle.cm_server.proofs.Closed.{IsClosedWorld, SeesIn, Place, AtSpare, AtSession, AtWorker, AtLast, maker, place-of, all_passes, passes_of}
+use Rattle.cm_server.proofs.Closed.{IsClosedWorld, IsMaker, SeesIn, Place, AtSpare, AtSession, AtWorker, AtLast, all_passes, in-contains, maker, opening-on, passes_of, place-of}
 use Rattle.cm_server.proofs.Passing.{prefix-in, led-ticket, led-stands, led-shown}
 use Rattle.merged_history.proofs.PublicLaws.{In-append}
+use Rattle.merged_history.specs.Merged.{all_of}
 use Rattle.merged_history.specs.PassRules.{AreLonger, AreSeen}
 use Rattle.merged_history.specs.Passes.{of_unit}
 use Rattle.nexus.specs.Roots.{RootView}
@@ -150,11 +151,11 @@ module _ (world : WorldView) (Shows : ℕ → Type 0) (seen : List (List Entry))
 
 -- ---- all entries
 
-module _ (world : WorldView) (root : RootView) (Shows : ℕ → Type 0) (first : ℕ) (seen : List (List Entry)) (entries : List Entry) (high : List (List ℕ))
+module _ (world : WorldView) (root : RootView) (Shows : ℕ → Type 0) (first : ℕ) (opening seen : List (List Entry)) (entries : List Entry) (high : List (List ℕ))
     (spare : List PassView) (sessions : List EndedSession) (workers lasts : List PassView)
-    (is : IsClosedWorld world root Shows first seen entries high spare sessions workers lasts) where
+    (is : IsClosedWorld world root Shows first opening seen entries high spare sessions workers lasts) where
   abbrev Stood : PassView → Type 0
-  Stood p = Place world root Shows first seen entries high spare sessions workers lasts is p
+  Stood p = Place world root Shows first opening seen entries high spare sessions workers lasts is p
 
   -- each pass has the moments of its entries from the clock
   shown-at : (p : PassView) → Stood p → Each (λ (e : Entry). Shows e.moment) p.own
@@ -165,13 +166,28 @@ module _ (world : WorldView) (root : RootView) (Shows : ℕ → Type 0) (first :
   shown-at p (AtWorker i) = (Each-in (IsSomePump world Shows) workers p is.workers_are i).1.shown
   shown-at p (AtLast i) = (last-of world Shows seen 0 lasts p is.lasts_are i).2.pump.shown
 
-  -- each entry has a moment that the clock shows
-  pub all-shown : All (λ (e : Entry). Contains [] e ⊎ Shows e.moment) entries
+  placed : (p : PassView) → In p (all_passes spare sessions workers lasts) → Stood p
+  placed p i = place-of world root Shows first opening seen entries high spare sessions workers lasts is p i
+
+  abbrev Made : Entry → PassView → Type 0
+  Made e p = IsMaker world root Shows first opening seen entries high spare sessions workers lasts is e p
+
+  made-by : (e : Entry) → In e entries → In e (all_of opening) ⊎ ((p : PassView) × Made e p)
+  made-by e i = maker world root Shows first opening seen entries high spare sessions workers lasts is e i
+
+  -- what is so of each entry that a pass made
+  each-made : (P : Entry → Type 0) → ((e : Entry) (p : PassView) → Made e p → P e) → Each (λ (e : Entry). Contains (all_of opening) e ⊎ P e) entries
+  each-made P all = Each-by (λ (e : Entry). Contains (all_of opening) e ⊎ P e) entries (λ e i. go e (made-by e i))
+    where
+      go : (e : Entry) → In e (all_of opening) ⊎ ((p : PassView) × Made e p) → Contains (all_of opening) e ⊎ P e
+      go e (inl there) = inl (in-contains (all_of opening) e there)
+      go e (inr m) = inr (all e m.0 m.1)
+
+  -- each entry was there at the opening, or has a moment that the clock shows
+  pub all-shown : All (λ (e : Entry). Contains (all_of opening) e ⊎ Shows e.moment) entries
   all-shown =
-      Each-all (λ (e : Entry). Contains [] e ⊎ Shows e.moment) entries
-      (Each-by (λ (e : Entry). Contains [] e ⊎ Shows e.moment) entries
-      (λ e i. (let m = maker world root Shows first seen entries high spare sessions workers lasts is e i in
-      inr (Each-in (λ (x : Entry). Shows x.moment) m.0.own e (shown-at m.0 (place-of world root Shows first seen entries high spare sessions workers lasts is m.0 m.1)) m.3))))
+      Each-all (λ (e : Entry). Contains (all_of opening) e ⊎ Shows e.moment) entries
+      (each-made (λ e. Shows e.moment) (λ e p m. Each-in (λ (x : Entry). Shows x.moment) p.own e (shown-at p (placed p m.0)) m.2))
 
   -- a pump, or the nexus of a session
   abbrev pub IsOfServed : Actor → Type 0
@@ -186,12 +202,9 @@ module _ (world : WorldView) (root : RootView) (Shows : ℕ → Type 0) (first :
   of-served p (AtWorker i) e j = subst IsOfServed (sym (Each-in (IsSomePump world Shows) workers p is.workers_are i).1.actor) tt
   of-served p (AtLast i) e j = subst IsOfServed (sym (last-of world Shows seen 0 lasts p is.lasts_are i).2.pump.actor) tt
 
-  -- each entry is a pump's or a session's
-  pub all-served : Each (λ (e : Entry). IsOfServed e.actor) entries
-  all-served =
-      Each-by (λ (e : Entry). IsOfServed e.actor) entries
-      (λ e i. (let m = maker world root Shows first seen entries high spare sessions workers lasts is e i in
-      subst IsOfServed m.2 (of-served m.0 (place-of world root Shows first seen entries high spare sessions workers lasts is m.0 m.1) e m.3)))
+  -- each entry was there at the opening, or is a pump's or a session's
+  pub all-served : Each (λ (e : Entry). Contains (all_of opening) e ⊎ IsOfServed e.actor) entries
+  all-served = each-made (λ e. IsOfServed e.actor) (λ e p m. subst IsOfServed m.1 (of-served p (placed p m.0) e m.2))
 
   -- ---- each unit is idle
 
@@ -221,17 +234,26 @@ module _ (world : WorldView) (root : RootView) (Shows : ℕ → Type 0) (first :
       let has : In e (of_unit q.seen unit) = subst (λ u. In e (of_unit q.seen u)) here (Each-in (λ (x : Entry). In x (of_unit q.seen x.unit)) q.own e l.2.pump.stands i) in
       subst (λ (x : PassView). In e (of_unit x.seen unit)) same has
 
+  -- so did what was there at the opening
+  opening-in : (unit : ℕ) (p : PassView) (e : Entry) → IsLast world Shows seen unit p → In e (all_of opening) → e.unit ≡ unit → In e (of_unit p.seen unit)
+  opening-in unit p e last i here =
+      let was = subst (λ u. In e (of_unit opening u)) here (opening-on world root Shows first opening seen entries high spare sessions workers lasts is e i) in
+      prefix-in (of_unit seen unit) (of_unit p.seen unit) e (last.longer unit) (prefix-in (of_unit opening unit) (of_unit seen unit) e (is.begins unit) was)
+
   -- no entry of a unit came behind what its last pass has seen
   pub last-sees : (unit : ℕ) (p : PassView) → In p lasts → IsLast world Shows seen unit p → of_unit p.seen unit ≡ on unit entries
   last-sees unit p at last =
       let begins : IsPrefix (of_unit p.seen unit) (on unit entries) =
       Each-in (SeesIn entries) (all_passes spare sessions workers lasts) p is.seen_in (In-append_right ((spare ++ passes_of sessions) ++ workers) lasts p at) unit in
-      whole-front (of_unit p.seen unit) begins.0 (on unit entries) begins.1 (AllPairs-filter InOrder (λ (e : Entry). e.unit == unit) entries is.legal.rising)
+      whole-front (of_unit p.seen unit) begins.0 (on unit entries) begins.1 (AllPairs-filter InOrder (λ (e : Entry). e.unit == unit) entries is.ordered.rising)
       (Each-by (λ (e : Entry). In e (of_unit p.seen unit)) (on unit entries)
       (λ e i. (let there = In-filter (λ (x : Entry). x.unit == unit) entries e i in
       let here : e.unit ≡ unit = eqb-true e.unit unit (filter-passes (λ (x : Entry). x.unit == unit) entries e i) in
-      let m = maker world root Shows first seen entries high spare sessions workers lasts is e there in
-      last-has unit p m.0 e at last (place-of world root Shows first seen entries high spare sessions workers lasts is m.0 m.1) m.3 here)))
+      seen-by e here (made-by e there))))
+    where
+      seen-by : (e : Entry) → e.unit ≡ unit → In e (all_of opening) ⊎ ((q : PassView) × Made e q) → In e (of_unit p.seen unit)
+      seen-by e here (inl there) = opening-in unit p e last there here
+      seen-by e here (inr m) = last-has unit p m.0 e at last (placed m.0 m.1.0) m.1.2 here
 
   -- the past of a unit that is idle
   abbrev Idles : List Deed → Type 0

@@ -75,7 +75,7 @@ module _ (world : WorldView) (root : RootView) (Shows : ℕ → Type 0) where
 
   closed-from : (entries : List Entry) (high : List (List ℕ)) (n : ℕ) (ss : List EndedSession) (front back all : List PassView) → AreSessions world root Shows n ss
       → ((k : ℕ) → n ≤ k → NoneOf k front) → ((k : ℕ) → NoneOf k back) → all ≡ front ++ (passes_of ss ++ back)
-      → ((nexus : ℕ) → entries_by nexus entries ≡ own_of (Nexus nexus) (map joined_of all)) → Each (SeesIn entries) (passes_of ss) → Each (IsBelow high) (passes_of ss)
+      → ((nexus : ℕ) → n ≤ nexus → entries_by nexus entries ≡ own_of (Nexus nexus) (map joined_of all)) → Each (SeesIn entries) (passes_of ss) → Each (IsBelow high) (passes_of ss)
       → AreClosedFor entries high n ss
   closed-from entries high n [] front back all are before behind is actors seen below = tt
   closed-from entries high n (s ∷ ss) front back all are before behind is actors seen below =
@@ -83,21 +83,21 @@ module _ (world : WorldView) (root : RootView) (Shows : ℕ → Type 0) where
       let later = none-both n (passes_of ss) back (none-later n (suc n) ss (omega arith) are.2) (behind n) in (
         record {
           seen = seen.0;
-          own = actors n ∙ ap (λ l. own_of (Nexus n) (map joined_of l)) is
+          own = actors n (omega arith) ∙ ap (λ l. own_of (Nexus n) (map joined_of l)) is
               ∙ one-own n front (passes_of ss ++ back) s.pass mine (before n (omega arith)) later;
           below = below.0;
         },
         closed-from entries high (suc n) ss (front ++ s.pass ∷ []) back all are.2
             (λ k low. none-both k front (s.pass ∷ []) (before k (omega (arith, low)))
             (own-others (Nexus k) (s.pass ∷ []) ((λ same. (let one = one-nexus n k (sym mine ∙ same) in absurd (omega (arith, low, one)))), tt)))
-            behind (is ∙ sym (append_assoc front (s.pass ∷ []) (passes_of ss ++ back))) actors seen.1 below.1,
+            behind (is ∙ sym (append_assoc front (s.pass ∷ []) (passes_of ss ++ back))) (λ k low. actors k (omega (arith, low))) seen.1 below.1,
       )
 
 -- so it is for each session of a closed world
-pub closed-for : (world : WorldView) (root : RootView) (Shows : ℕ → Type 0) (first : ℕ) (seen : List (List Entry)) (entries : List Entry) (high : List (List ℕ))
+pub closed-for : (world : WorldView) (root : RootView) (Shows : ℕ → Type 0) (first : ℕ) (opening seen : List (List Entry)) (entries : List Entry) (high : List (List ℕ))
     (spare : List PassView) (sessions : List EndedSession) (workers lasts : List PassView)
-    → IsClosedWorld world root Shows first seen entries high spare sessions workers lasts → AreClosedFor entries high first sessions
-closed-for world root Shows first seen entries high spare sessions workers lasts is =
+    → IsClosedWorld world root Shows first opening seen entries high spare sessions workers lasts → AreClosedFor entries high first sessions
+closed-for world root Shows first opening seen entries high spare sessions workers lasts is =
     let all = all_passes spare sessions workers lasts in
     let parts = each-split (SeesIn entries) ((spare ++ passes_of sessions) ++ workers) lasts is.seen_in in
     let seens = each-split (SeesIn entries) spare (passes_of sessions) (each-split (SeesIn entries) (spare ++ passes_of sessions) workers parts.0).0 in
@@ -107,4 +107,4 @@ closed-for world root Shows first seen entries high spare sessions workers lasts
     (λ k low. own-none (Nexus k) spare is.spare_are)
     (λ k. none-both k workers lasts (none-workers world root Shows k workers is.workers_are) (none-lasts world root Shows k seen lasts is.lasts_are))
     (append_assoc (spare ++ passes_of sessions) workers lasts ∙ append_assoc spare (passes_of sessions) (workers ++ lasts))
-    (λ nexus. is.actors (Nexus nexus)) seens.1 belows.1
+    is.actors seens.1 belows.1

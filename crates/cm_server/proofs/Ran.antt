@@ -47,31 +47,36 @@ starts-free world root n (s ∷ ss) are = (are.0.pass.free, starts-free world ro
 
 module _ {K R C : Type 0} (state : K → LinkState) (shows : C → ℕ → Type 0) (config : Configuration) (clock : C) (world : WorldView) (items : List (Begun K R C)) where
   -- those that were begun have ended
-  pub ran-sessions : (ran : Ran) (count : ℕ) (zero one two : RootView) (coming middle rest : Option (List (List ℕ))) (gone between given : Option (List Gone))
-      → (starts : List Start) × AreBegun state shows config clock 0 starts items × HaveBegun world 0 zero one coming middle starts
+  pub ran-sessions : (ran : Ran) (count nexus : ℕ) (zero one two : RootView) (coming middle rest : Option (List (List ℕ))) (gone between given : Option (List Gone))
+      → (starts : List Start) × AreBegun state shows config clock nexus starts items × HaveBegun world nexus zero one coming middle starts
       → WereBegun ran.end count (length items) → rest ≡ middle → between ≡ gone
       → ((first : ℕ) (starts : List Start) → Each (λ (s : Start). IsFree world s.pass) starts → AreBegun state shows config clock first starts items
       → (sessions : List EndedSession) × HaveEnded world (shows clock) first starts one two between given sessions × AreCounts (map (λ (s : EndedSession). s.end) sessions) ran.counts)
-      → UnlessWanted ran.end ((ends : List SessionEnd) × HasRan ran count ends × HaveTalked world (shows clock) 0 zero two coming rest gone given ends)
-  ran-sessions ran count zero one two coming middle rest gone between given begun were same kept ended =
+      → UnlessWanted ran.end ((ends : List SessionEnd) × HasRan ran count ends × HaveTalked world (shows clock) nexus zero two coming rest gone given ends)
+  ran-sessions ran count nexus zero one two coming middle rest gone between given begun were same kept ended =
       let starts = begun.0 in
       let have = begun.2 in
-      let e = ended 0 starts (starts-free world zero 0 starts have.are) begun.1 in
+      let e = ended nexus starts (starts-free world zero nexus starts have.are) begun.1 in
       let many : length (map (λ (s : EndedSession). s.end) e.0) ≡ length items =
       length-map e.0 (λ (s : EndedSession). s.end) ∙ sym (length-map e.0 (λ (s : EndedSession). s.start)) ∙ ap (λ (l : List Start). length l) e.1.begun_so
-      ∙ begun-count state shows config clock 0 starts items begun.1 in
-      let talked = have-talked world (shows clock) 0 zero one two coming rest gone given starts e.0 (subst (λ r. HaveBegun world 0 zero one coming r starts) (sym same) have)
-      (subst (λ g. HaveEnded world (shows clock) 0 starts one two g given e.0) kept e.1) in
-      unless ran.end ((ends : List SessionEnd) × HasRan ran count ends × HaveTalked world (shows clock) 0 zero two coming rest gone given ends)
+      ∙ begun-count state shows config clock nexus starts items begun.1 in
+      let talked = have-talked world (shows clock) nexus zero one two coming rest gone given starts e.0 (subst (λ r. HaveBegun world nexus zero one coming r starts) (sym same) have)
+      (subst (λ g. HaveEnded world (shows clock) nexus starts one two g given e.0) kept e.1) in
+      unless ran.end ((ends : List SessionEnd) × HasRan ran count ends × HaveTalked world (shows clock) nexus zero two coming rest gone given ends)
       (map (λ (s : EndedSession). s.end) e.0, record { counts_are = e.2; were = subst (WereBegun ran.end count) (sym many) were }, talked)
 
 -- beside the pumps
 pub ran-beside : (world : WorldView) (Shows : ℕ → Type 0) (ran : Ran) (count workers : ℕ) (zero one two three : RootView) (coming rest : Option (List (List ℕ)))
     (gone given : Option (List Gone)) → HaveStarted world zero one workers
-    → UnlessWanted ran.end ((ends : List SessionEnd) × HasRan ran count ends × HaveTalked world Shows 0 one two coming rest gone given ends)
+    → UnlessWanted ran.end ((ends : List SessionEnd) × HasRan ran count ends × HaveTalked world Shows one.made one two coming rest gone given ends)
     → HaveStopped world Shows two three workers
-    → UnlessWanted ran.end ((ends : List SessionEnd) × HasRan ran count ends × HasServed world Shows 0 zero three coming rest gone given ends)
+    → UnlessWanted ran.end ((ends : List SessionEnd) × HasRan ran count ends × HasServed world Shows zero.made zero three coming rest gone given ends)
 ran-beside world Shows ran count workers zero one two three coming rest gone given started talked stopped =
-    unless-then ran.end ((ends : List SessionEnd) × HasRan ran count ends × HaveTalked world Shows 0 one two coming rest gone given ends)
-    ((ends : List SessionEnd) × HasRan ran count ends × HasServed world Shows 0 zero three coming rest gone given ends)
-    (λ t. (t.0, t.1, has-served world Shows 0 workers zero one two three coming rest gone given t.0 started t.2 stopped)) talked
+    unless-then ran.end ((ends : List SessionEnd) × HasRan ran count ends × HaveTalked world Shows one.made one two coming rest gone given ends)
+    ((ends : List SessionEnd) × HasRan ran count ends × HasServed world Shows zero.made zero three coming rest gone given ends)
+    (λ t. (
+      t.0,
+      t.1,
+      has-served world Shows zero.made workers zero one two three coming rest gone given t.0 started
+          (subst (λ n. HaveTalked world Shows n one two coming rest gone given t.0) started.made t.2) stopped,
+    )) talked

@@ -9,7 +9,6 @@ use Rattle.std.proofs.lemmas.List.Kept.{AllPairs-cons}
 use Rattle.cm_base.specs.Listening.{Gone, is_broken}
 use Rattle.cm_frame.specs.Laws.{StaysJudged}
 use Rattle.cm_frame.specs.Reading.{read_request}
-use Rattle.cm_history.specs.Legal.{IsLegal}
 use Rattle.cm_history.specs.declared.act.Actor.{Actor}
 use Rattle.cm_history.specs.declared.act.Actor.TheVariants.{Nexus, Pump}
 use Rattle.cm_history.specs.declared.act.Entry.{Entry}
@@ -78,7 +77,7 @@ of-some first ts (Nexus n) all is = some-of first n ts all is.0 is.1
 
 -- ---- the sessions
 
-module _ (stays : StaysJudged read_request) (world : WorldView) (root : RootView) (Shows : ℕ → Type 0) (Folds : Folding) (entries : List Entry) (high : List (List ℕ))
+module _ (stays : StaysJudged read_request) (world : WorldView) (root : RootView) (Shows : ℕ → Type 0) (Legal : List Entry → Type 0) (Folds : Folding) (opening entries : List Entry) (high : List (List ℕ))
     (may : FoldsSo Folds world.gates root.marks high (length world.config.units)) where
   abbrev said : (n : ℕ) (s : EndedSession) → IsSession world.config Shows n s → Conversation
   said n s fact = record { nexus = n; exchanges = fact.spoken.exchanges }
@@ -155,12 +154,16 @@ module _ (stays : StaysJudged read_request) (world : WorldView) (root : RootView
 
   -- ---- the whole
 
+  later : {P Q : Type 0} (e : Entry) → (P → Q) → Contains opening e ⊎ P → Contains opening e ⊎ Q
+  later e f (inl there) = inl there
+  later e f (inr p) = inr (f p)
+
   -- the links that were accepted and given back, where they are told
   pub served-of : (first : ℕ) (ss : List EndedSession) (coming rest : List (List ℕ)) (before after : List Gone) → AreSessions world root Shows first ss
       → AreClosedFor entries high first ss → HaveCome (Some coming) (Some rest) (map (λ (s : EndedSession). s.start.link) ss)
-      → HaveGone (Some before) (Some after) (map (λ (s : EndedSession). s.link) ss) → IsLegal world.config entries
-      → Each (λ (e : Entry). IsOfRange first (length ss) e.actor) entries
-      → AreServed step world.config (IsLegal world.config) Folds [] entries first coming rest before after (map (λ (s : EndedSession). s.end) ss)
+      → HaveGone (Some before) (Some after) (map (λ (s : EndedSession). s.link) ss) → Legal entries
+      → Each (λ (e : Entry). Contains opening e ⊎ IsOfRange first (length ss) e.actor) entries
+      → AreServed step world.config Legal Folds opening entries first coming rest before after (map (λ (s : EndedSession). s.end) ss)
   served-of first ss coming rest before after are closed come back legal others =
       let h = has-talks first ss come.0 are closed come.1 in
       let conversations = map (λ (t : Talk). t.conversation) h.talks in
@@ -175,19 +178,19 @@ module _ (stays : StaysJudged read_request) (world : WorldView) (root : RootView
           legal = legal;
           apart = apart-of first h.talks h.numbered;
           each = All-from_recursion (IsConversation step world.config Folds entries) conversations h.conversations;
-          others = Each-all (λ (e : Entry). Contains [] e ⊎ IsOfSome conversations e.actor) entries
-              (Each-by (λ (e : Entry). Contains [] e ⊎ IsOfSome conversations e.actor) entries
-              (λ e i. inr (of-some first h.talks e.actor h.numbered
-              (subst (λ k. IsOfRange first k e.actor) (sym h.count) (Each-in (λ (x : Entry). IsOfRange first (length ss) x.actor) entries e others i)))));
+          others = Each-all (λ (e : Entry). Contains opening e ⊎ IsOfSome conversations e.actor) entries
+              (Each-by (λ (e : Entry). Contains opening e ⊎ IsOfSome conversations e.actor) entries
+              (λ e i. later e (λ is. of-some first h.talks e.actor h.numbered (subst (λ k. IsOfRange first k e.actor) (sym h.count) is))
+              (Each-in (λ (x : Entry). Contains opening x ⊎ IsOfRange first (length ss) x.actor) entries e others i)));
         };
       }
 
   -- and nothing where they are not
   pub links-of : (first : ℕ) (ss : List EndedSession) (coming rest : Option (List (List ℕ))) (before after : Option (List Gone)) → AreSessions world root Shows first ss
       → AreClosedFor entries high first ss → HaveCome coming rest (map (λ (s : EndedSession). s.start.link) ss)
-      → HaveGone before after (map (λ (s : EndedSession). s.link) ss) → IsLegal world.config entries
-      → Each (λ (e : Entry). IsOfRange first (length ss) e.actor) entries
-      → IfTold coming rest before after (λ c r b a. AreServed step world.config (IsLegal world.config) Folds [] entries first c r b a (map (λ (s : EndedSession). s.end) ss))
+      → HaveGone before after (map (λ (s : EndedSession). s.link) ss) → Legal entries
+      → Each (λ (e : Entry). Contains opening e ⊎ IsOfRange first (length ss) e.actor) entries
+      → IfTold coming rest before after (λ c r b a. AreServed step world.config Legal Folds opening entries first c r b a (map (λ (s : EndedSession). s.end) ss))
   links-of first ss (Some c) (Some r) (Some b) (Some a) are closed come back legal others = served-of first ss c r b a are closed come back legal others
   links-of first ss None rest before after are closed come back legal others = tt
   links-of first ss (Some c) None before after are closed come back legal others = tt

@@ -11,10 +11,13 @@ mod serving;
 mod sessions;
 mod shared;
 mod status;
+mod stored;
+mod storing;
 
 pub use served::{RecorderList, Served, serve, serve_at, serve_with};
 pub use sessions::meet::{Meet, NoMeet};
 pub use status::Status;
+pub use stored::{DiskList, Stored, serve_stored};
 
 #[cfg(test)]
 mod tests;

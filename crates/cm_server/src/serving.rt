@@ -1,11 +1,10 @@
 // A world is served: its connections, and what goes on in the background, until nothing is left to do.
-ghost use Rattle.std.specs.Prelude.{◌≡◌, ◌≤◌, [], List, length, IfOk};
+ghost use Rattle.std.specs.Prelude.{◌≡◌, ◌≤◌, ◌+◌, [], List, length, IfOk};
 ghost use Rattle.session.specs.declared.end.SessionEnd.{SessionEnd};
-ghost use Rattle.nexus.specs.Opening.{IsBegun};
 ghost use Rattle.unit_gate.specs.Recorded.{facts};
-ghost use Rattle.unit_gate.specs.declared.kin.RecorderFacts.{RecorderFacts};
 ghost use Rattle.cm_server.specs.inner.Begun.{HasFailed};
 ghost use Rattle.cm_server.specs.inner.Left.{AreAccepted, IsClosed};
+ghost use Rattle.cm_server.specs.inner.Opened.{IsOpened, OpenedUnit};
 ghost use Rattle.cm_server.specs.inner.Passes.{IsReady};
 ghost use Rattle.cm_server.specs.inner.Running.{HasRan, HaveTalked, UnlessWanted};
 ghost use Rattle.cm_server.specs.inner.Serving.{HasServed};
@@ -62,10 +61,10 @@ fn run_sessions<
     count: u32,
 ) -> Ran
     requires ready { IsReady shared.now.world root.old }
-    requires first { root.old.made ≡ 0 }
     requires few { count ≤ 256 }
+    requires numbers { root.old.made + count ≤ 4_294_967_295 }
     ensures talked { UnlessWanted result.end ((ends : List SessionEnd) × HasRan result count ends
-        × HaveTalked shared.now.world (C.shows shared.now.clock) 0 root.old root.new (L.coming listener.old) (L.coming listener.new) (L.ended listener.old) (L.ended listener.new) ends) }
+        × HaveTalked shared.now.world (C.shows shared.now.clock) root.old.made root.old root.new (L.coming listener.old) (L.coming listener.new) (L.ended listener.old) (L.ended listener.new) ends) }
     ensures ready { IsReady shared.now.world root.new }
     ensures none_out { length root.new.out ≡ length root.old.out }
     ensures failed { HasFailed result.end (L.accept_faults listener.old) (L.accept_faults listener.new) }
@@ -76,7 +75,8 @@ fn run_sessions<
             end: AcceptEnd::OutOfMemory,
         };
     };
-    let end = accept_all(scope, shared, root, listener, count, &mut begun);
+    let first = root.next_nexus();
+    let end = accept_all(scope, shared, root, listener, first, count, &mut begun);
     let counts = end_all(shared, root, listener, begun);
     Ran { counts, end }
 }
@@ -101,10 +101,10 @@ fn run_all<
 ) -> Ran
     requires ready { IsReady shared.now.world root.old }
     requires alone { root.old.out ≡ [] }
-    requires first { root.old.made ≡ 0 }
     requires few { count ≤ 256 }
+    requires numbers { root.old.made + count ≤ 4_294_967_295 }
     ensures served { UnlessWanted result.end ((ends : List SessionEnd) × HasRan result count ends
-        × HasServed shared.now.world (C.shows shared.now.clock) 0 root.old root.new (L.coming listener.old) (L.coming listener.new) (L.ended listener.old) (L.ended listener.new) ends) }
+        × HasServed shared.now.world (C.shows shared.now.clock) root.old.made root.old root.new (L.coming listener.old) (L.coming listener.new) (L.ended listener.old) (L.ended listener.new) ends) }
     ensures ready { UnlessWanted result.end (IsReady shared.now.world root.new) }
     ensures failed { HasFailed result.end (L.accept_faults listener.old) (L.accept_faults listener.new) }
 {
@@ -144,12 +144,12 @@ fn run_scoped<
 ) -> (&'l mut L, &'l mut Root<R>, Ran)
     requires ready { IsReady shared.now.world root.now }
     requires alone { root.now.out ≡ [] }
-    requires first { root.now.made ≡ 0 }
     requires few { count ≤ 256 }
+    requires numbers { root.now.made + count ≤ 4_294_967_295 }
     ensures listener { result.0.ghost_name ≡ listener.entry.ghost_name }
     ensures root { result.1.ghost_name ≡ root.entry.ghost_name }
     ensures served { UnlessWanted result.2.end ((ends : List SessionEnd) × HasRan result.2 count ends
-        × HasServed shared.now.world (C.shows shared.now.clock) 0 root.entry.now result.1.now (L.coming listener.entry.now) (L.coming result.0.now) (L.ended listener.entry.now) (L.ended result.0.now) ends) }
+        × HasServed shared.now.world (C.shows shared.now.clock) root.entry.now.made root.entry.now result.1.now (L.coming listener.entry.now) (L.coming result.0.now) (L.ended listener.entry.now) (L.ended result.0.now) ends) }
     ensures ready { UnlessWanted result.2.end (IsReady shared.now.world result.1.now) }
     ensures failed { HasFailed result.2.end (L.accept_faults listener.entry.now) (L.accept_faults result.0.now) }
 {
@@ -159,12 +159,12 @@ fn run_scoped<
         move |scope| -> (&mut L, &mut Root<R>, Ran)
             requires ready { IsReady shared.now.world root.now }
             requires alone { root.now.out ≡ [] }
-            requires first { root.now.made ≡ 0 }
             requires few { count ≤ 256 }
+            requires numbers { root.now.made + count ≤ 4_294_967_295 }
             ensures listener { result.0.ghost_name ≡ listener.entry.ghost_name }
             ensures root { result.1.ghost_name ≡ root.entry.ghost_name }
             ensures served { UnlessWanted result.2.end ((ends : List SessionEnd) × HasRan result.2 count ends
-                × HasServed shared.entry.now.world (C.shows shared.entry.now.clock) 0 root.entry.now result.1.now (L.coming listener.entry.now) (L.coming result.0.now) (L.ended listener.entry.now) (L.ended result.0.now) ends) }
+                × HasServed shared.entry.now.world (C.shows shared.entry.now.clock) root.entry.now.made root.entry.now result.1.now (L.coming listener.entry.now) (L.coming result.0.now) (L.ended listener.entry.now) (L.ended result.0.now) ends) }
             ensures ready { UnlessWanted result.2.end (IsReady shared.entry.now.world result.1.now) }
             ensures failed { HasFailed result.2.end (L.accept_faults listener.entry.now) (L.accept_faults result.0.now) }
         {
@@ -185,10 +185,10 @@ fn run_threads<
 >(shared: &Shared<'_, R, C, G, W>, root: &mut Root<R>, listener: &mut L, count: u32) -> Ran
     requires ready { IsReady shared.now.world root.old }
     requires alone { root.old.out ≡ [] }
-    requires first { root.old.made ≡ 0 }
     requires few { count ≤ 256 }
+    requires numbers { root.old.made + count ≤ 4_294_967_295 }
     ensures served { UnlessWanted result.end ((ends : List SessionEnd) × HasRan result count ends
-        × HasServed shared.now.world (C.shows shared.now.clock) 0 root.old root.new (L.coming listener.old) (L.coming listener.new) (L.ended listener.old) (L.ended listener.new) ends) }
+        × HasServed shared.now.world (C.shows shared.now.clock) root.old.made root.old root.new (L.coming listener.old) (L.coming listener.new) (L.ended listener.old) (L.ended listener.new) ends) }
     ensures ready { UnlessWanted result.end (IsReady shared.now.world root.new) }
     ensures failed { HasFailed result.end (L.accept_faults listener.old) (L.accept_faults listener.new) }
 {
@@ -196,19 +196,20 @@ fn run_threads<
     ran
 }
 
-/// A bell for each of so many units.
-fn bells(alloc: Global, count: u16) -> Result<Vec<Bell>, OutOfMemory>
+/// A bell for each of so many units, which was rung or not.
+fn bells(alloc: Global, count: u16, rung: bool) -> Result<Vec<Bell>, OutOfMemory>
     ensures { IfOk result (λ bells. length bells.items ≡ count) }
 {
     let mut bells = Vec::new(alloc);
     for _ in 0..count {
-        bells.push(Bell::new())?;
+        bells.push(Bell::new(rung))?;
     }
     Ok(bells)
 }
 
 /// Serves so many connections of a world, each in a thread of its own, and beside them pumps what goes on in the
-/// background. When all were served and nothing goes on any more, the world is closed.
+/// background. When all were served and nothing goes on any more, the world is closed. Where it goes on with histories,
+/// each pump begins at once, since operations may run.
 pub(crate) fn serve_world<
     K: Link + Send + Drop,
     L: Listener<Conn = K>,
@@ -226,17 +227,19 @@ pub(crate) fn serve_world<
     listener: &mut L,
     clock: C,
     meet: &G,
+    goes_on: bool,
 ) -> Result<Left<R>, OutOfMemory>
-    requires begun { (recorders : List RecorderFacts) × IsBegun config recorders world root × (length recorders ≡ length config.units) }
+    requires opened { (units : List OpenedUnit) × IsOpened config units world root }
     requires few { count ≤ 256 }
-    ensures { (recorders : List RecorderFacts) → IsBegun config recorders world root → length recorders ≡ length config.units
+    requires numbers { root.made + count ≤ 4_294_967_295 }
+    ensures { (units : List OpenedUnit) → IsOpened config units world root
         → IfOk result (λ left. (ends : List SessionEnd)
         × AreAccepted count (L.accept_faults listener.old) (L.accept_faults listener.new) ends left.counts left.accept_failed
-        × IsClosed (facts R.recorded R.record_faults R.absent R.front) R.fits config recorders (C.shows clock) (L.coming listener.old) (L.coming listener.new)
-        (L.ended listener.old) (L.ended listener.new) ends left.units.items) }
+        × IsClosed (facts R.recorded R.record_faults R.absent R.front) R.fits config units root.made (C.shows clock) (L.coming listener.old)
+        (L.coming listener.new) (L.ended listener.old) (L.ended listener.new) ends left.units.items) }
 {
     let mut root = root;
-    let bells = bells(alloc, config.units())?;
+    let bells = bells(alloc, config.units(), goes_on)?;
     let shared = Shared {
         rt,
         alloc,

@@ -11,7 +11,9 @@ use Rattle.cm_server.specs.Recorders.{FoldsBy}
 use Rattle.cm_server.specs.Served.{WasServed, unit_counts}
 use Rattle.cm_server.specs.declared.report.counts.SessionCounts.{SessionCounts}
 use Rattle.cm_server.specs.inner.Counting.{AreCounts, counts_in}
+use Rattle.cm_server.specs.inner.Opened.{IsLegalBehind, OpenedUnit, entries_of, recorders_of}
 use Rattle.cm_server.specs.inner.Recording.{finals, IsReckoned}
+use Rattle.merged_history.specs.Merged.{all_of}
 use Rattle.nexus.specs.Worlds.{UnitGate}
 use Rattle.session.specs.declared.end.SessionEnd.{SessionEnd}
 use Rattle.unit_gate.specs.declared.kin.RecorderFacts.{RecorderFacts}
@@ -27,12 +29,12 @@ pub record AreAccepted (asked faults faults_after : ℕ) (ends : List SessionEnd
   pub counts_are : AreCounts ends counts
   pub were : WereAccepted accept_failed asked (length ends) faults faults_after
 
--- what is served of a world of this configuration from its beginning until it is closed
-pub record IsClosed {R : Type 0} (facts : R → RecorderFacts) (fits : R → Entry → Type 0) (config : Configuration) (recorders : List RecorderFacts)
+-- what is served of a world of this configuration, which began so, until it is closed
+pub record IsClosed {R : Type 0} (facts : R → RecorderFacts) (fits : R → Entry → Type 0) (config : Configuration) (opened : List OpenedUnit) (first : ℕ)
     (Shows : ℕ → Type 0) (coming rest : Option (List (List ℕ))) (gone given : Option (List Gone)) (ends : List SessionEnd) (units : List (ClosedUnit R)) : Type 0 where
   pub gates : List UnitGate
-  pub served : WasServed step config (IsLegal config) (FoldsBy recorders (finals facts units)) [] 0 Shows coming rest gone given
-      (λ entries told. (told ≡ ends) × IsReckoned facts fits recorders gates units config entries)
+  pub served : WasServed step config (IsLegalBehind config opened) (FoldsBy (recorders_of opened) (finals facts units)) (all_of (entries_of opened)) first Shows
+      coming rest gone given (λ entries told. (told ≡ ends) × IsReckoned facts fits opened gates units config entries)
 
 -- the same of units that keep all their entries
 abbrev pub IsClosedWhole : {R : Type 0} → Configuration → (ℕ → Type 0) → Option (List (List ℕ)) → Option (List (List ℕ)) → Option (List Gone) → Option (List Gone)

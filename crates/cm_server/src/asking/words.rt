@@ -1,5 +1,5 @@
 ghost use Rattle.std.specs.Prelude.{◌≡◌, ℕ, slice_get, Some, IfSome, IfNone, true, false};
-ghost use Rattle.cm_server.specs.Words.{AreServeWords, AreRecordWords, IsPlain};
+ghost use Rattle.cm_server.specs.Words.{AreFolderWords, AreRecordWords, AreServeWords, AreSessionWords, AreStoreWords, IsPlain};
 
 use cm_base::Word;
 
@@ -14,28 +14,52 @@ fn is_plain(word: &Word) -> bool
     !matches!(word.as_slice(), [b'-', ..])
 }
 
-/// How many connections the words ask for, where they are `serve ADDRESS SESSIONS`.
-pub(crate) fn sessions_asked(words: &[Word]) -> Option<u32>
-    ensures asked { IfSome result (λ n. AreServeWords words.now n) }
-    ensures other { IfNone result ((n : ℕ) → AreServeWords words.now n → ⊥) }
+/// How many connections the words ask for, where they are this verb, an address and a number.
+fn sessions_of(words: &[Word], verb: &[u8]) -> Option<u32>
+    ensures asked { IfSome result (λ n. AreSessionWords verb.now words.now n) }
+    ensures other { IfNone result ((n : ℕ) → AreSessionWords verb.now words.now n → ⊥) }
 {
     match words {
-        [word, address, number] if word.as_slice() == b"serve".as_slice() && is_plain(address) => {
+        [word, address, number] if word.as_slice() == verb && is_plain(address) => {
             number.number(MOST_SESSIONS)
         }
         _ => None,
     }
 }
 
-/// How many connections the words ask for, where they are `serve ADDRESS SESSIONS FOLDER`.
-pub(crate) fn sessions_asked_with_folder(words: &[Word]) -> Option<u32>
-    ensures asked { IfSome result (λ n. AreRecordWords words.now n) }
-    ensures other { IfNone result ((n : ℕ) → AreRecordWords words.now n → ⊥) }
+/// How many connections the words ask for, where they are this verb, an address, a number and a folder.
+fn sessions_with_folder(words: &[Word], verb: &[u8]) -> Option<u32>
+    ensures asked { IfSome result (λ n. AreFolderWords verb.now words.now n) }
+    ensures other { IfNone result ((n : ℕ) → AreFolderWords verb.now words.now n → ⊥) }
 {
     match words {
         [front @ .., folder] if !folder.as_slice().is_empty() && is_plain(folder) => {
-            sessions_asked(front)
+            sessions_of(front, verb)
         }
         _ => None,
     }
+}
+
+/// How many connections the words ask for, where they are `serve ADDRESS SESSIONS`.
+pub(crate) fn sessions_asked(words: &[Word]) -> Option<u32>
+    ensures asked { IfSome result (λ n. AreServeWords words.now n) }
+    ensures other { IfNone result ((n : ℕ) → AreServeWords words.now n → ⊥) }
+{
+    sessions_of(words, b"serve".as_slice())
+}
+
+/// How many connections the words ask for, where they are `serve ADDRESS SESSIONS FOLDER`.
+pub(crate) fn sessions_to_record(words: &[Word]) -> Option<u32>
+    ensures asked { IfSome result (λ n. AreRecordWords words.now n) }
+    ensures other { IfNone result ((n : ℕ) → AreRecordWords words.now n → ⊥) }
+{
+    sessions_with_folder(words, b"serve".as_slice())
+}
+
+/// How many connections the words ask for, where they are `store ADDRESS SESSIONS FOLDER`.
+pub(crate) fn sessions_to_store(words: &[Word]) -> Option<u32>
+    ensures asked { IfSome result (λ n. AreStoreWords words.now n) }
+    ensures other { IfNone result ((n : ℕ) → AreStoreWords words.now n → ⊥) }
+{
+    sessions_with_folder(words, b"store".as_slice())
 }

@@ -90,7 +90,8 @@ fn accept_one<
     }
 }
 
-/// Accepts so many connections, and begins a session of each, into a list that has room for them.
+/// Accepts so many connections, and begins a session of each, into a list that has room for them. The first has the
+/// nexus of this number.
 pub(crate) fn accept_all<
     's,
     'a,
@@ -106,23 +107,25 @@ pub(crate) fn accept_all<
     shared: &'s Shared<'a, R, C, G, W>,
     root: &mut Root<R>,
     listener: &mut L,
+    first: u32,
     count: u32,
     begun: &mut VecDeque<Begun<K, R, C>>,
 ) -> AcceptEnd
     requires ready { IsReady shared.now.world root.old }
-    requires first { root.old.made ≡ 0 }
+    requires first { root.old.made ≡ first }
+    requires few { first + count ≤ 4_294_967_295 }
     requires none { begun.old.items ≡ [] }
     requires room { count ≤ deque_capacity begun.old }
     ensures begun { (starts : List Start)
-        × AreBegun (link_state K.left K.taken K.read_faults K.write_faults) C.shows shared.now.config shared.now.clock 0 starts begun.new.items
-        × HaveBegun shared.now.world 0 root.old root.new (L.coming listener.old) (L.coming listener.new) starts }
+        × AreBegun (link_state K.left K.taken K.read_faults K.write_faults) C.shows shared.now.config shared.now.clock first starts begun.new.items
+        × HaveBegun shared.now.world first root.old root.new (L.coming listener.old) (L.coming listener.new) starts }
     ensures count { WereBegun result count (length begun.new.items) }
     ensures out { L.out listener.new ≡ option_map (λ n. n + length begun.new.items) (L.out listener.old) }
     ensures ended { L.ended listener.new ≡ L.ended listener.old }
     ensures failed { HasFailed result (L.accept_faults listener.old) (L.accept_faults listener.new) }
 {
-    for number in 0..count {
-        match accept_one(scope, shared, root, listener, number) {
+    for index in 0..count {
+        match accept_one(scope, shared, root, listener, first + index) {
             Ok(one) => begun.push_back_reserved(one),
             Err(end) => return end,
         }

@@ -4,6 +4,7 @@ mod meeting;
 mod recorded;
 mod refused;
 mod sockets;
+mod stored;
 
 use super::*;
 use cm_base::{Bytes, CallList, MemoryLink, MemorySink, MemorySource, SetClock, Word};

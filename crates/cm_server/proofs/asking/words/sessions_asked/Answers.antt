@@ -1,11 +1,7 @@
-use Rattle.std.proofs.Common.{◌∙◌, sym}
-use Rattle.cm_server.proofs.Wording.{three-words, same-bytes, asked-of}
+use Rattle.std.proofs.Common.{ℕ, IfNone, subst}
+use Rattle.cm_server.specs.Words.{AreSessionWords}
 use Rattle.cm_server.proofs.asking.words.sessions_asked.Goals as goal
 
-pub returns-in-len3-clause-asked : goal.returns-in-len3-clause-asked
-returns-in-len3-clause-asked c =
-    asked-of c.number.result c.args.words.now c.word-item.result c.address-item.result c.number-item.result
-    (three-words c.args.words.now c.word-item.result c.address-item.result c.number-item.result c.in-len3.len_at_least c.in-len3.len_below
-    c.word-item.is c.address-item.is c.number-item.is)
-    (sym c.as_slice.ensures ∙ same-bytes c.as_slice.result.now c.as_slice-then-words-lt4.result.now c.eq.result c.eq.ensures c.if-eq.true ∙ c.as_slice-then-words-lt4.ensures)
-    (c.is_plain.ensures.plain c.if-is_plain.true) c.number.ensures.spelled
+pub returns-clause-other : goal.returns-clause-other
+returns-clause-other c =
+    subst (λ w. IfNone c.sessions_of.result ((n : ℕ) → AreSessionWords w c.args.words.now n → ⊥)) c.as_slice.ensures c.sessions_of.ensures.other
