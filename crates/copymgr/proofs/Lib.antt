@@ -6,3 +6,4 @@ mod RoundRequests
 mod RoundsFit
 mod PlaysOut
 mod ToldCounts
+mod AnyBytes

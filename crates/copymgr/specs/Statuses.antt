@@ -52,6 +52,9 @@ serve_status ServeStatus.OutOfMemory = Status.OutOfMemory
 serve_status (ServeStatus.BadHeader place) = Status.BadHeader place
 serve_status ServeStatus.Usage = Status.Usage
 serve_status ServeStatus.AcceptFault = Status.AcceptFault
+serve_status (ServeStatus.BadJournal unit place) = Status.BadJournal unit place
+serve_status ServeStatus.DiskFault = Status.DiskFault
+serve_status (ServeStatus.BadHistory unit entry) = Status.BadHistory unit entry
 
 abbrev pub code_of : Status → ℕ
 code_of Status.Done = 0
@@ -65,9 +68,12 @@ code_of (Status.BadRecord place) = 7
 code_of Status.Records = 8
 code_of Status.AcceptFault = 9
 code_of (Status.Differs place) = 10
+code_of (Status.BadJournal unit place) = 11
+code_of Status.DiskFault = 12
 code_of (Status.Refused step) = 13
 code_of (Status.CopyFailed step) = 14
 code_of (Status.Polls step) = 15
 code_of (Status.BadData step) = 16
 code_of Status.Ended = 17
 code_of Status.BadReply = 18
+code_of (Status.BadHistory unit entry) = 19

@@ -1,5 +1,5 @@
 // The program: replays a recorded trace from standard input to standard output, or a generated one, checks the replies
-// that were recorded with a trace, copies blocks as a host does, or serves connections.
+// that were recorded with a trace, copies blocks as a host does, or serves connections, with or without journals.
 #![tactic(auto)]
 
 mod chained;
@@ -10,6 +10,9 @@ mod generating;
 mod hosting;
 #[cfg(test)]
 mod hosting_tests;
+mod journal_files;
+#[cfg(test)]
+mod journal_tests;
 mod order;
 #[cfg(test)]
 mod random;
@@ -22,6 +25,7 @@ mod serving_tests;
 #[cfg(test)]
 mod sessions;
 mod status;
+mod storing;
 #[cfg(test)]
 mod tests;
 mod top;
@@ -39,6 +43,7 @@ use std::io::{self, Input, Print};
 use std::process::ExitCode;
 use std::sync::Wait;
 use std::thread::{self, Parker, Threads};
+use storing::{are_storing, store_words};
 
 /// The words of the command line, without the program's name.
 fn words(alloc: Global, args: Args<Global>) -> Result<Vec<Word>, OutOfMemory> {
@@ -92,6 +97,7 @@ fn run<R: Threads + Wait + Input + Print + Sync>(rt: &R, host: &HostRuntime) -> 
     match words(host.alloc(), args) {
         Ok(words) if are_hosting(&words) => host_words(host, host.alloc(), &words),
         Ok(words) if are_serving(&words) => serve_words(rt, host, host.alloc(), &words),
+        Ok(words) if are_storing(&words) => store_words(rt, host, host.alloc(), &words),
         Ok(words) => work(rt, host.alloc(), &words).unwrap_or(Status::OutOfMemory),
         Err(OutOfMemory) => Status::OutOfMemory,
     }

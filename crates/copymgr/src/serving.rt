@@ -1,5 +1,5 @@
-// The word `serve`: what it reads, where it listens, and where it records.
-ghost use Rattle.std.specs.Prelude.{◌≤◌, length, IfSome};
+// The word `serve`: what it reads, where it listens, and where it records. The word `store` begins as it does.
+ghost use Rattle.std.specs.Prelude.{◌≤◌, length, IfOk, IfSome};
 
 use crate::status::Status;
 use crate::unit_files::unit_files;
@@ -13,7 +13,7 @@ use std::sync::Wait;
 use std::thread::Threads;
 
 /// Bytes that are read of a configuration: one more than the longest has.
-const CONFIGURATION: usize = 555;
+pub const CONFIGURATION: usize = 555;
 
 /// Whether the words are `serve` and two or three more.
 pub fn are_serving(words: &[Word]) -> bool {
@@ -67,6 +67,24 @@ fn listen(host: &HostRuntime, address: &str) -> io::Result<TcpListener> {
     Ok(listener)
 }
 
+/// Reads the configuration from standard input into this room, and listens at the address: how many bytes were read,
+/// and the listener, or how the program ends without them.
+pub fn begin(
+    host: &HostRuntime,
+    address: &Word,
+    room: &mut [u8],
+) -> Result<(usize, TcpConnections), Status>
+    ensures { IfOk result (λ begun. begun.0 ≤ length room.new) }
+{
+    let Some(count) = read_all(&mut StandardInput::new(host.reader()), room) else {
+        return Err(Status::ReadFault);
+    };
+    match listen(host, text(address)) {
+        Ok(listener) => Ok((count, TcpConnections::new(listener))),
+        Err(_) => Err(Status::AcceptFault),
+    }
+}
+
 /// Serves as the words say, `serve ADDRESS SESSIONS` or `serve ADDRESS SESSIONS FOLDER`: it reads the configuration from
 /// standard input, listens, and writes the report to standard output when all connections were served. It waits for each
 /// of them to come and to end. `rt` makes the threads; files, sockets and streams are the host's.
@@ -82,14 +100,11 @@ pub fn serve_words<W: Threads + Wait + Sync>(
         _ => return Status::Usage,
     };
     let mut bytes = [0; CONFIGURATION];
-    let Some(count) = read_all(&mut StandardInput::new(host.reader()), &mut bytes) else {
-        return Status::ReadFault;
-    };
-    let Ok(listener) = listen(host, text(address)) else {
-        return Status::AcceptFault;
+    let (count, mut listener) = match begin(host, address, &mut bytes) {
+        Ok(begun) => begun,
+        Err(status) => return status,
     };
     let config = &bytes[..count];
-    let mut listener = TcpConnections::new(listener);
     let clock = SystemClock::new(host);
     let mut output = StandardOutput::new(io::writer(host));
     let Some(folder) = folder else {

@@ -28,6 +28,10 @@ pub enum Status {
     AcceptFault,
     /// The recorded replies are not those of the trace: the first difference is at this place, from their first byte.
     Differs(u64),
+    /// The file of this unit is no journal of it, or a bad one at this place, in bytes from its first.
+    BadJournal { unit: u16, place: u64 },
+    /// A journal could not be opened, since a call of its file failed.
+    DiskFault,
     /// A request of this step of a copy was refused.
     Refused(u32),
     /// The write of this step of a copy failed, or was terminated.
@@ -40,6 +44,8 @@ pub enum Status {
     Ended,
     /// What stands in place of a reply of a copy is none.
     BadReply,
+    /// The journal of this unit has an entry that the unit would not have allowed, with this number from 0.
+    BadHistory { unit: u16, entry: u64 },
 }
 
 impl Status {
@@ -59,12 +65,15 @@ impl Status {
             Status::Records => 8,
             Status::AcceptFault => 9,
             Status::Differs(_) => 10,
+            Status::BadJournal { .. } => 11,
+            Status::DiskFault => 12,
             Status::Refused(_) => 13,
             Status::CopyFailed(_) => 14,
             Status::Polls(_) => 15,
             Status::BadData(_) => 16,
             Status::Ended => 17,
             Status::BadReply => 18,
+            Status::BadHistory { .. } => 19,
         }
     }
 }
@@ -140,6 +149,9 @@ impl From<ServeStatus> for Status {
             ServeStatus::BadHeader(place) => Status::BadHeader(place),
             ServeStatus::Usage => Status::Usage,
             ServeStatus::AcceptFault => Status::AcceptFault,
+            ServeStatus::BadJournal { unit, place } => Status::BadJournal { unit, place },
+            ServeStatus::DiskFault => Status::DiskFault,
+            ServeStatus::BadHistory { unit, entry } => Status::BadHistory { unit, entry },
         }
     }
 }
@@ -156,19 +168,27 @@ impl fmt::Display for Status {
             Status::Usage => {
                 write!(
                     f,
-                    "use replay, check, copy [ADDRESS], gen N, or serve ADDRESS SESSIONS [FOLDER]"
+                    "use replay, check, copy [ADDRESS], gen N, store ADDRESS SESSIONS FOLDER, \
+                     or serve ADDRESS SESSIONS [FOLDER]"
                 )
             }
             Status::BadRecord(place) => write!(f, "bad record at byte {place}"),
             Status::Records => write!(f, "too many records"),
             Status::AcceptFault => write!(f, "accept failed"),
             Status::Differs(place) => write!(f, "replies differ at byte {place}"),
+            Status::BadJournal { unit, place } => {
+                write!(f, "bad journal of unit {unit} at byte {place}")
+            }
+            Status::DiskFault => write!(f, "disk failed"),
             Status::Refused(step) => write!(f, "refused at step {step}"),
             Status::CopyFailed(step) => write!(f, "copy failed at step {step}"),
             Status::Polls(step) => write!(f, "still running at step {step}"),
             Status::BadData(step) => write!(f, "bad data at step {step}"),
             Status::Ended => write!(f, "replies ended"),
             Status::BadReply => write!(f, "bad reply"),
+            Status::BadHistory { unit, entry } => {
+                write!(f, "bad history of unit {unit} at entry {entry}")
+            }
         }
     }
 }

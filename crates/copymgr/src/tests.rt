@@ -471,18 +471,30 @@ fn statuses(rt: HostRuntime) -> Result<(), Fail> {
         (
             Status::Usage,
             6,
-            "use replay, check, copy [ADDRESS], gen N, or serve ADDRESS SESSIONS [FOLDER]",
+            "use replay, check, copy [ADDRESS], gen N, store ADDRESS SESSIONS FOLDER, \
+             or serve ADDRESS SESSIONS [FOLDER]",
         ),
         (Status::AcceptFault, 9, "accept failed"),
         (Status::BadRecord(109), 7, "bad record at byte 109"),
         (Status::Records, 8, "too many records"),
         (Status::Differs(1555), 10, "replies differ at byte 1555"),
+        (
+            Status::BadJournal { unit: 3, place: 86 },
+            11,
+            "bad journal of unit 3 at byte 86",
+        ),
+        (Status::DiskFault, 12, "disk failed"),
         (Status::Refused(2), 13, "refused at step 2"),
         (Status::CopyFailed(2), 14, "copy failed at step 2"),
         (Status::Polls(2), 15, "still running at step 2"),
         (Status::BadData(1), 16, "bad data at step 1"),
         (Status::Ended, 17, "replies ended"),
         (Status::BadReply, 18, "bad reply"),
+        (
+            Status::BadHistory { unit: 3, entry: 7 },
+            19,
+            "bad history of unit 3 at entry 7",
+        ),
     ];
     for (status, code, line) in all {
         assert!(rt; status.code() == code);

@@ -17,7 +17,7 @@ pub const GENERATED: [(&str, &str); 3] = [
 ];
 
 /// Words that the program doesn't know.
-pub const OTHER: [&[&str]; 27] = [
+pub const OTHER: [&[&str]; 28] = [
     &[],
     &[""],
     &["Replay"],
@@ -45,4 +45,5 @@ pub const OTHER: [&[&str]; 27] = [
     &["Gen", "1"],
     &["1", "gen"],
     &["serve", "127.0.0.1:3260", "1"],
+    &["store", "127.0.0.1:3260", "1", "journals"],
 ];
