@@ -24,16 +24,28 @@ def unfolded(machine):
     )
 
 
+def noted_units(machine):
+    """New units, which keep their entries."""
+    actors = Actors()
+    return [NotedUnit(machine, number, actors) for number in range(len(machine.shapes))]
+
+
+def judge_text(entry, made):
+    """Whether an entry is the one that was made."""
+    if made != entry.text:
+        first = compared.first_difference(entry.text, made)
+        found, wanted = (text[first : first + 40].hex() for text in (entry.text, made))
+        raise Differs(f"{told(entry)} differs from its byte {first} on: {found} and not {wanted}")
+
+
 class Following:
     """A trace that is made by following entries. Each item is played by the plain replay as it is found, which tells
     whether a command waits for an act."""
 
-    def __init__(self, machine, requests):
-        """Of requests of each nexus."""
+    def __init__(self, machine, requests, units=None, first=0):
+        """Of requests of each nexus, from the first on; to new units, or to these."""
         machine = unfolded(machine)
-        actors = Actors()
-        units = [NotedUnit(machine, number, actors) for number in range(len(machine.shapes))]
-        self.player = player.Player(machine, units)
+        self.player = player.Player(machine, units or noted_units(machine))
         self.bytes = bytearray(frames.header_bytes(machine))
         # behind each item how many bytes and how many replies there are
         self.ends = []
@@ -41,7 +53,7 @@ class Following:
         # how often another actor came between two acts of a command
         self.between = 0
         self.last = None
-        self.waiting = [collections.deque(of_nexus) for of_nexus in requests]
+        self.waiting = {first + at: collections.deque(of_nexus) for at, of_nexus in enumerate(requests)}
 
     def play(self, item):
         self.player.play(item)
@@ -68,14 +80,10 @@ class Following:
             self.run(entry)
         self.last = entry.actor
         record = self.player.units[entry.unit].record
-        made = entries.text(record[-1]) if record else b""
-        if made != entry.text:
-            first = compared.first_difference(entry.text, made)
-            found, wanted = (text[first : first + 40].hex() for text in (entry.text, made))
-            raise Differs(f"{told(entry)} differs from its byte {first} on: {found} and not {wanted}")
+        judge_text(entry, entries.text(record[-1]) if record else b"")
 
     def run(self, entry):
-        if entry.actor >= len(self.waiting):
+        if entry.actor not in self.waiting:
             raise Differs(f"{told(entry)}: there is no such nexus")
         self.between += entry.actor in self.player.pending and self.last != entry.actor
         self.begin(entry.actor)
@@ -85,7 +93,7 @@ class Following:
 
     def end(self):
         """Begins what is left, which asks for no act."""
-        for nexus in range(len(self.waiting)):
+        for nexus in self.waiting:
             self.begin(nexus)
             if nexus in self.player.pending:
                 raise Differs(f"a {self.player.pending[nexus].name} of nexus {nexus} waits for an act without an entry")

@@ -17,7 +17,11 @@ It shares nothing with the program: it keeps lists and walks over them. The file
     entries.py    the entries of units' records, and their texts
     written.py    those texts as files of units have them
     recording.py  units whose records go to files
+    readback.py   entries read back from their texts
+    journals.py   the files of entries that a crash leaves whole
+    resuming.py   units that go on with the entries of their journals
     sessions.py   random sessions, which are the commands of one connection
     compared.py   what a program wrote, beside the replies of a player
     serving.py    connections that are served
+    storing.py    the same by units that have journals
 """

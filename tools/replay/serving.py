@@ -121,13 +121,15 @@ class Bell:
 
 
 class Server:
-    """Units that are served. One act at a time is done, whoever asks. Their records may go to a folder."""
+    """Units that are served. One act at a time is done, whoever asks. Their records may go to a folder; or these units
+    are served, which keep them, to nexuses whose numbers begin with the first."""
 
-    def __init__(self, machine, folder=None):
+    def __init__(self, machine, folder=None, units=None, first=0):
         self.machine = machine
-        self.is_recorded = folder is not None
+        self.is_recorded = folder is not None or units is not None
         plain = [] if self.is_recorded else [Unit(machine, number) for number in range(len(machine.shapes))]
-        self.units = plain or recorded_units(machine, folder)
+        self.units = units or plain or recorded_units(machine, folder)
+        self.first = first
         self.turn = threading.Lock()
         self.bells = [Bell() for _ in self.units]
         self.sessions = self.faults = self.commands = 0
@@ -138,10 +140,10 @@ class Server:
         for pump in pumps:
             pump.start()
         served = []
-        for nexus in range(sessions):
+        for number in range(sessions):
             link, _ = listener.accept()
             link.setsockopt(socket.IPPROTO_TCP, socket.TCP_NODELAY, 1)
-            session = threading.Thread(target=self.session, args=(nexus, link))
+            session = threading.Thread(target=self.session, args=(self.first + number, link))
             session.start()
             served.append((session, link))
         for session, link in served:

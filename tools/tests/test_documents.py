@@ -14,8 +14,8 @@ from tracetext import requests, traces
 
 DOCUMENTS = ["docs/first-trace.md", "clients/python/README.md"]
 HELPS = [
-    "tools/trace", "tools/plain-replay", "tools/plain-serve", "tools/row", "tools/headline", "clients/python/cmgr",
-    "clients/iscsi/iscsi-target",
+    "tools/trace", "tools/plain-replay", "tools/plain-serve", "tools/plain-store", "tools/row", "tools/headline",
+    "clients/python/cmgr", "clients/iscsi/iscsi-target",
 ]
 
 

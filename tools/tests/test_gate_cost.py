@@ -15,7 +15,7 @@ from . import support
 RT = """\
 #!/bin/sh
 echo "$*" > "$LOG"
-work='import time; end = time.process_time() + 1.0
+work='import time; end = time.process_time() + 0.8
 while time.process_time() < end: pass'
 cd crates/low && python3 -c "$work" build --crate-name low
 python3 -c "$work" build --crate-name low --test

@@ -15,6 +15,10 @@ MISSPELT = [
     ["gen"], ["gen", ""], ["gen", "0"], ["gen", "01"], ["gen", "+1"], ["gen", "-1"], ["gen", "4097"], ["gen", "1 "],
     ["gen", "4294967297"], ["gen", "1e3"], ["gen", "1", "2"], ["Gen", "1"], ["1", "gen"], ["replay", "1"],
 ]
+USAGE = (
+    b"copymgr: use replay, check, copy [ADDRESS], gen N, store ADDRESS SESSIONS FOLDER, "
+    b"or serve ADDRESS SESSIONS [FOLDER]\n"
+)
 
 
 def wanted(rounds):
@@ -58,5 +62,4 @@ class Generated(unittest.TestCase):
         for words in MISSPELT:
             with self.subTest(words):
                 done = subprocess.run([support.PROGRAM, *words], capture_output=True, check=False)
-                said = b"copymgr: use replay, check, copy [ADDRESS], gen N, or serve ADDRESS SESSIONS [FOLDER]\n"
-                self.assertEqual((done.stdout, done.stderr, done.returncode), (b"", said, 6))
+                self.assertEqual((done.stdout, done.stderr, done.returncode), (b"", USAGE, 6))

@@ -14,13 +14,21 @@ UnitReport = collections.namedtuple("UnitReport", "steps live mapped")
 USAGE = 6
 
 
-def can_serve(program):
-    """Whether a program has the word `serve`: it then looks at the configuration, of which there is none."""
-    words = [str(program), "serve", "127.0.0.1:0", "1"]
+def knows(program, *words):
+    """Whether a program knows words of serving: it then looks at the configuration, of which there is none."""
     try:
-        return subprocess.run(words, stdin=subprocess.DEVNULL, capture_output=True, check=False).returncode != USAGE
+        done = subprocess.run([str(program), *words], stdin=subprocess.DEVNULL, capture_output=True, check=False)
     except OSError:
         return False
+    return done.returncode != USAGE
+
+
+def can_serve(program):
+    return knows(program, "serve", "127.0.0.1:0", "1")
+
+
+def can_store(program):
+    return knows(program, "store", "127.0.0.1:0", "1", ".")
 
 
 def default_server():
@@ -38,7 +46,8 @@ class Server:
     def __init__(self, shapes, sessions, words=None, host="127.0.0.1", folder=None):
         pipe = subprocess.PIPE
         words = [*(words or default_server()), f"{host}:0", str(sessions), *([folder] if folder else [])]
-        self.program = subprocess.Popen(words, stdin=pipe, stdout=pipe, stderr=pipe)
+        # without buffers, so that behind the line with the address nothing of standard error is read ahead
+        self.program = subprocess.Popen(words, bufsize=0, stdin=pipe, stdout=pipe, stderr=pipe)
         try:
             self.program.stdin.write(frames.header_bytes(frames.Machine(frames.SECRET, list(shapes))))
             self.program.stdin.close()
