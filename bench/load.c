@@ -1,11 +1,11 @@
 // Loads a program that serves, and compares each byte of its replies.
 //
-//     load HOST PORT CONNECTIONS UNITS LENGTH BLOCKS COUNT AHEAD
+//     load HOST PORT CONNECTIONS UNITS LENGTH BLOCKS COUNT AHEAD [writes]
 //
 // Each of CONNECTIONS threads has a connection of its own, and sends its part of COUNT commands: in turn a WRITE (16) of
-// BLOCKS blocks of LENGTH bytes and a READ (16) of the same blocks, or where BLOCKS is 0 READs of none. AHEAD of them may
-// wait for their replies, and as long as more are to be sent at least half of AHEAD do. The connection of number n asks
-// unit n % UNITS, for blocks from 256 n on.
+// BLOCKS blocks of LENGTH bytes and a READ (16) of the same blocks, or where BLOCKS is 0 READs of none; behind the word
+// `writes` they are WRITEs alone. AHEAD of them may wait for their replies, and as long as more are to be sent at least
+// half of AHEAD do. The connection of number n asks unit n % UNITS, for blocks from 256 n on.
 //
 // It prints the seconds from the first begin to the last end, and how many commands, and bytes both ways, there were.
 // Where a reply is not the right one it says so, and its status is 1. After five minutes it is ended.
@@ -40,6 +40,7 @@ struct client {
 };
 
 static long connections, units, length, blocks, count, ahead;
+static int only_writes;
 static pthread_barrier_t begin;
 
 static void fail(int number, const char *why)
@@ -99,17 +100,17 @@ static void repeat(struct pair *it)
 
 static struct pair requests_of(int number)
 {
-    size_t data = blocks * length;
-    struct pair it = new_pair(FRONT + data, 2 * FRONT + data);
+    size_t data = blocks * length, second = only_writes ? data : 0;
+    struct pair it = new_pair(FRONT + data, 2 * FRONT + data + second);
     put_request(it.bytes, number, blocks ? WRITE : READ, data);
-    put_request(it.bytes + it.first, number, READ, 0);
+    put_request(it.bytes + it.first, number, only_writes ? WRITE : READ, second);
     repeat(&it);
     return it;
 }
 
 static struct pair replies_of(int number)
 {
-    size_t data = blocks * length;
+    size_t data = only_writes ? 0 : blocks * length;
     struct pair it = new_pair(GOOD, 2 * GOOD + data);
     put_reply(it.bytes, number, 0);
     put_reply(it.bytes + it.first, number, data);
@@ -204,7 +205,8 @@ static int connected(int number, const char *host, const char *port)
 
 int main(int words, char **word)
 {
-    if (words != 9)
+    only_writes = words == 10 && strcmp(word[9], "writes") == 0;
+    if (words != 9 && !only_writes)
         return 1;
     connections = atol(word[3]), units = atol(word[4]), length = atol(word[5]);
     blocks = atol(word[6]), count = atol(word[7]), ahead = atol(word[8]);
