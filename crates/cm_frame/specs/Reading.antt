@@ -132,15 +132,18 @@ is_status s = (s == 0x00) || (s == 0x02) || (s == 0x08) || (s == 0x18) || (s == 
 abbrev pub sense_in : List ℕ → SenseCode
 sense_in bytes = record { key = byte bytes 2; asc = byte bytes 12; ascq = byte bytes 13 }
 
+-- they are sense data in fixed format that a target of this profile writes
 abbrev pub is_sense : List ℕ → Bool
 is_sense bytes = nat_le (byte bytes 2) 15 && bytes_eq bytes (sense_bytes (sense_in bytes))
 
+-- the reply CHECK CONDITION at the front of some bytes, with its sense data
 abbrev pub read_check : List ℕ → Parsed Reply
 read_check bytes =
     if nat_lt (length bytes) 24 then Short
     else if not (is_sense (part 6 18 bytes)) then Bad 6
     else Whole (Reply.Check (sense_in (part 6 18 bytes))) 24
 
+-- the reply GOOD at the front of some bytes, with its data
 abbrev pub read_good : List ℕ → Parsed Reply
 read_good bytes =
     if nat_lt (length bytes) (6 + field bytes 2 5) then Short

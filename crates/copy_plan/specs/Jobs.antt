@@ -43,9 +43,11 @@ pub record IsJob (job : CopyJob) : Type 0 where
 
 -- ---- what is wrong with a job
 
+-- the extent has no block, or ends past the last block that can be addressed
 abbrev pub is_bad : Range → Bool
 is_bad extent = (extent.count == 0) || nat_lt (2 ^ 64) (extent.lba + extent.count)
 
+-- what is wrong with the blocks of a job: one is named twice, or there are not as many on both sides, or too many
 abbrev pub fault_of_blocks : CopyJob → Option JobFault
 fault_of_blocks job =
     if is_overlapping job.from || is_overlapping job.to then Some JobFault.SharedBlock

@@ -20,6 +20,7 @@ extents_in (suc n) bytes = extent_in bytes ∷ extents_in n (drop 12 bytes)
 abbrev pub sources_told : List ℕ → ℕ
 sources_told bytes = field bytes 8 11
 
+-- how many extents are written
 abbrev pub targets_told : List ℕ → ℕ
 targets_told bytes = field bytes 12 15
 
@@ -45,6 +46,7 @@ place_of JobFault.ManyTargets = 12
 place_of (JobFault.BadExtent index) = 16 + 12 * index
 place_of _ = 0
 
+-- the job that the bytes spell, unless something is wrong with it
 abbrev pub judged_job : List ℕ → Option JobFault → Parsed CopyJob
 judged_job bytes (Some fault) = Bad (place_of fault)
 judged_job bytes None = Whole (job_in bytes) (job_length bytes)

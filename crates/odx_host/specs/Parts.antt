@@ -26,6 +26,7 @@ ranges_at job place = longest_run job.from place part_limit
 abbrev pub place_behind : CopyJob → ℕ → ℕ
 place_behind job place = place + total (ranges_at job place)
 
+-- the part of a job that begins so many blocks behind its first
 abbrev pub part_at : CopyJob → ℕ → Part
 part_at job place = record {
   ranges = ranges_at job place;

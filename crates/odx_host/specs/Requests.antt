@@ -20,6 +20,7 @@ status_limit = 1024
 abbrev pub populate_list : List Range → PopulateList
 populate_list ranges = record { timeout = token_timeout; ranges = ranges }
 
+-- POPULATE TOKEN of these ranges
 abbrev pub populate_request : ℕ → ℕ → List Range → Request
 populate_request unit id ranges =
     let list = populate_written (populate_list ranges) in
@@ -33,6 +34,7 @@ status_request unit id = record { unit = unit; cdb = encoded (Cdb.TokenInformati
 abbrev pub write_list : List ℕ → ℕ → Bool → List Range → WriteList
 write_list token offset delete ranges = record { immed = true; delete = delete; offset = offset; token = token; ranges = ranges }
 
+-- WRITE USING TOKEN of these ranges, from an offset into the token
 abbrev pub write_request : ℕ → ℕ → List ℕ → ℕ → Bool → List Range → Request
 write_request unit id token offset delete ranges =
     let list = write_token_written (write_list token offset delete ranges) in

@@ -46,6 +46,7 @@ ask_status unit step go_on = Asks (status_request unit step) (if_good step (λ b
 
 -- ---- one token
 
+-- the data of a reply is no answer to its request
 abbrev pub bad_data : {A : Type 0} → ℕ → Result A CopyFault
 bad_data {A} step = Err (CopyFault.BadData step)
 
@@ -88,9 +89,11 @@ polling unit step blocks next (suc polls) =
 abbrev pub next_step : Copied → ℕ
 next_step done = suc (done.populates + done.writes)
 
+-- one more token was made
 abbrev pub one_token : Copied → Copied
 one_token done = record done { populates = suc done.populates }
 
+-- one more write was done
 abbrev pub one_write : Copied → Copied
 one_write done = record done { writes = suc done.writes }
 

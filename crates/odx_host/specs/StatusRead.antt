@@ -15,6 +15,7 @@ pub record Information : Type 0 where
 abbrev pub sense_told : List ℕ → Option SenseCode
 sense_told bytes = if byte bytes 13 == 0 then None else Some (sense_in (part 32 18 bytes))
 
+-- the status of an operation, by the fields of its information
 abbrev pub status_told : List ℕ → CopyStatus
 status_told bytes = record {
   populate = byte bytes 4 == 0x10;
@@ -28,13 +29,16 @@ status_told bytes = record {
 abbrev pub token_told : List ℕ → Option (List ℕ)
 token_told bytes = if byte bytes 4 == 0x10 then Some (drop (38 + length (sense_data (sense_told bytes))) bytes) else None
 
+-- what RECEIVE ROD TOKEN INFORMATION tells: the status, and the token if there is one
 abbrev pub information_told : List ℕ → Information
 information_told bytes = record { status = status_told bytes; token = token_told bytes }
 
+-- a sense has a key of four bits
 abbrev pub is_key : Option SenseCode → Bool
 is_key None = true
 is_key (Some sense) = nat_le sense.key 15
 
+-- a token has 512 bytes
 abbrev pub is_token : Option (List ℕ) → Bool
 is_token None = true
 is_token (Some token) = length token == 512

@@ -8,6 +8,7 @@ use Rattle.pr_keys.specs.declared.kind.ReservationType.{ReservationType}
 use Rattle.pr_keys.specs.declared.kind.ReservationType.TheVariants.{WriteExclusive, ExclusiveAccess, WriteExclusiveRegistrantsOnly, ExclusiveAccessRegistrantsOnly}
 use Rattle.pr_keys.specs.Types.{type_code}
 
+-- the registrations of a unit, its persistent reservation, and how often they changed (SPC-4)
 pub record Reservations : Type 0 where
   -- in the order of registering
   pub registrants : List Registrant
@@ -23,6 +24,7 @@ unreserved = record { registrants = []; reservation = None; generation = 0 }
 abbrev pub key_of : ℕ → List Registrant → Option ℕ
 key_of nexus registrants = option_map (λ (r : Registrant). r.key) (find (λ (r : Registrant). r.nexus == nexus) registrants)
 
+-- the nexus is registered
 abbrev pub is_registered : Reservations → ℕ → Bool
 is_registered s nexus = is_some (key_of nexus s.registrants)
 
@@ -42,6 +44,7 @@ abbrev pub holder_in : List Registrant → Option Reservation → Option Holder
 holder_in registrants None = None
 holder_in registrants (Some r) = option_map (λ key. record { key = key; kind = type_code r.kind }) (key_of r.nexus registrants)
 
+-- the reservation holder, as READ RESERVATION tells it
 abbrev pub holder_of : Reservations → Option Holder
 holder_of s = holder_in s.registrants s.reservation
 
@@ -54,6 +57,7 @@ bars ExclusiveAccess writes is_registered = true
 bars WriteExclusiveRegistrantsOnly writes is_registered = writes && not is_registered
 bars ExclusiveAccessRegistrantsOnly writes is_registered = not is_registered
 
+-- the reservation bars a nexus that reads or writes, registered or not
 abbrev pub is_barred_by : Option Reservation → ℕ → Bool → Bool → Bool
 is_barred_by None nexus writes is_registered = false
 is_barred_by (Some r) nexus writes is_registered = not (r.nexus == nexus) && bars r.kind writes is_registered
