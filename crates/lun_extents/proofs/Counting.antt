@@ -22,7 +22,8 @@ among-append : (f : ℕ → Held) (xs ys : List ℕ) → mapped_among f (xs ++ y
 among-append f [] ys = let e : 0 + mapped_among f ys ≡ mapped_among f ys = omega arith in sym e
 among-append f (x ∷ xs) ys = let rest = among-append f xs ys in omega arith
 
-among-alike : (f : ℕ → Held) (a n : ℕ) (t : Bool) → ((b : ℕ) → a ≤ b → b < a + n → is_some (f b) ≡ t) → mapped_among f (row a n) ≡ cond t n 0
+-- a row of blocks that are all mapped, or all unmapped
+pub among-alike : (f : ℕ → Held) (a n : ℕ) (t : Bool) → ((b : ℕ) → a ≤ b → b < a + n → is_some (f b) ≡ t) → mapped_among f (row a n) ≡ cond t n 0
 among-alike f a zero true alike = refl
 among-alike f a zero false alike = refl
 among-alike f a (suc n) t alike =

@@ -6,3 +6,4 @@ pub mod Splits
 pub mod PublicLaws
 pub mod Counting
 pub mod Planned
+pub mod Clear

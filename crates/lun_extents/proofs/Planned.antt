@@ -60,6 +60,12 @@ pub length-ranges : (rs : List Filling) → length (ranges_of rs) ≡ length rs
 length-ranges [] = refl
 length-ranges (r ∷ rs) = ap suc (length-ranges rs)
 
+-- a list of one range
+pub single : (rs : List Range) (r : Range) → length rs ≡ 1 → slice_get rs 0 ≡ Some r → rs ≡ r ∷ []
+single [] r one is = absurd (omega arith)
+single (x ∷ []) r one is = let same : x ≡ r = cc in ap (λ (y : Range). y ∷ []) same
+single (x ∷ y ∷ rs) r one is = absurd (omega arith)
+
 -- ---- where extents begin
 
 get-push : (rs : List Range) (r q : Range) (j : ℕ) → slice_get (rs ++ r ∷ []) j ≡ Some q → (slice_get rs j ≡ Some q) ⊎ (r ≡ q)

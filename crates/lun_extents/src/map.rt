@@ -6,7 +6,8 @@ ghost use Rattle.lba_ranges.specs.declared.fill.Piece.{Piece};
 ghost use Rattle.lba_ranges.specs.Writings.{paired, unmapped, after};
 ghost use Rattle.lun_extents.specs.Extents.{stored, held_from, held_in};
 ghost use Rattle.lun_extents.specs.inner.Extents.{emptied, AreExtents};
-ghost use Rattle.lun_extents.specs.inner.Runs.{IsAlone};
+ghost use Rattle.lun_extents.specs.declared.map.Occupancy.{Occupancy};
+ghost use Rattle.lun_extents.specs.inner.Runs.{IsAlone, IsClear};
 
 use cm_base::OutOfMemory;
 use lba_ranges::{Fill, Piece};
@@ -115,7 +116,7 @@ pub(crate) fn split(map: &mut Stored, blocks: u64, size: u32, block: u64) -> Res
 }
 
 /// Takes out the extents that begin in a row of blocks.
-fn take_out(map: &mut Stored, from: u64, to: u64)
+pub(crate) fn take_out(map: &mut Stored, from: u64, to: u64)
     requires { from ≤ to }
     ensures inside { (b : ℕ) → from ≤ b → b < to → stored map.new.entries b ≡ None }
     ensures below { (b : ℕ) → b < from → stored map.new.entries b ≡ stored map.old.entries b }
@@ -154,16 +155,34 @@ pub(crate) fn set(map: &mut Stored, lba: u64, piece: Piece)
     replace(map, lba, piece);
 }
 
-/// Blocks in a row can be set by one extent: none begins within them, and none goes on behind them.
-pub(crate) fn is_alone(map: &Stored, lba: u64, count: u32) -> bool
+/// What stands in a row of blocks.
+#[derive(Clone, Copy, PartialEq, Eq)]
+pub(crate) enum Occupancy {
+    /// Nothing: no extent begins there, and none goes on there.
+    Clear,
+    /// What one extent can take the place of: none begins within the row, and none goes on behind it.
+    Alone,
+    /// Anything else.
+    Mixed,
+}
+
+/// What stands in a row of blocks, as one search tells it.
+pub(crate) fn occupied(map: &Stored, lba: u64, count: u32) -> Occupancy
     requires some { 1 ≤ count }
     requires numbers { lba + count < 2 ^ 64 }
-    ensures { result ≡ true → IsAlone map.now.entries lba count }
+    ensures clear { result ≡ Occupancy.Clear → IsClear map.now.entries lba count }
+    ensures alone { result ≡ Occupancy.Alone → IsAlone map.now.entries lba count }
 {
     let last = lba + u64::from(count) - 1;
-    match nearest(map, last) {
-        Some((first, piece)) => first <= lba && u64::from(piece.count) <= last - first + 1,
-        None => true,
+    let Some((first, piece)) = nearest(map, last) else {
+        return Occupancy::Clear;
+    };
+    if first < lba && u64::from(piece.count) <= lba - first {
+        Occupancy::Clear
+    } else if first <= lba && u64::from(piece.count) <= last - first + 1 {
+        Occupancy::Alone
+    } else {
+        Occupancy::Mixed
     }
 }
 
@@ -176,6 +195,8 @@ pub(crate) fn set_alone(map: &mut Stored, lba: u64, piece: Piece) -> Result<(), 
         ≡ after (paired (row lba piece.count) (filled size piece.count piece.fill)) b (held_in size map.old.entries b)) }
     ensures extents { OnOk result ((blocks size : ℕ) → AreExtents blocks size map.old.entries → IsFull size piece.count piece.fill
         → lba + piece.count ≤ blocks → AreExtents blocks size map.new.entries) }
+    ensures start { OnOk result (stored map.new.entries lba ≡ Some piece) }
+    ensures others { OnOk result ((b : ℕ) → (b ≡ lba → ⊥) → stored map.new.entries b ≡ stored map.old.entries b) }
     ensures same { OnErr result (map.new.entries ≡ map.old.entries) }
 {
     map.insert(lba, piece)?;

@@ -67,3 +67,8 @@ pub(crate) fn runs_of(
     }
     Ok(runs)
 }
+
+/// A run is to hold nothing.
+pub(crate) fn has_hole(runs: &[Filling]) -> bool {
+    runs.iter().any(|run| matches!(run.fill, Fill::Hole))
+}

@@ -154,3 +154,17 @@ fn cut_across_a_hole(rt: HostRuntime) -> Result<(), Fail> {
     assert!(rt; matches!(cut.held(7), Some(bytes) if bytes == [2].as_slice()));
     Ok(())
 }
+
+/// Runs are put where nothing stood, and then again a block further on.
+#[test]
+fn runs_are_put_in_a_row(rt: HostRuntime) -> Result<(), Fail> {
+    let alloc = rt.alloc();
+    let list = list_with_a_hole(alloc)?;
+    let mut unit = ExtentUnit::new(alloc, 8, 1)?;
+    put_row(alloc, &mut unit, 1, &list)?;
+    assert!(rt; unit.mapped() == 3 && is(&unit, 1, 1) && is(&unit, 2, 2) && is(&unit, 5, 3));
+    put_row(alloc, &mut unit, 2, &list)?;
+    assert!(rt; unit.mapped() == 4 && is(&unit, 1, 1) && is(&unit, 2, 1));
+    assert!(rt; is(&unit, 3, 2) && unit.held(4).is_none() && is(&unit, 6, 3));
+    Ok(())
+}

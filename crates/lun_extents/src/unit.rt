@@ -1,13 +1,13 @@
-ghost use Rattle.std.specs.Prelude.{◌≡◌, ◌≢◌, ℕ, ◌+◌, ◌-◌, ◌<◌, ◌≤◌, ◌^◌, ◌++◌, ◌∷◌, [], length, map, None, is_some, IsSome, IfOk, OnOk, OnErr, IfSome, IsTrue, true, false, if◌then◌else◌};
+ghost use Rattle.std.specs.Prelude.{◌≡◌, ◌≢◌, ℕ, ◌+◌, ◌-◌, ◌<◌, ◌≤◌, ◌^◌, ◌++◌, ◌∷◌, [], length, map, Some, None, is_some, IsSome, IfOk, OnOk, OnErr, IfSome, IsTrue, true, false, if◌then◌else◌};
 ghost use Rattle.std.specs.Option.{option_copied};
 ghost use Rattle.lba_ranges.specs.HeldBlocks.{IsFull, filled};
 ghost use Rattle.lba_ranges.specs.Denoted.{row, blocks_of, total, is_within, is_overlapping};
 ghost use Rattle.lba_ranges.specs.Writings.{paired, unmapped, after, mapped_below, mapped_among};
 ghost use Rattle.lun_extents.specs.Extents.{stored, held_in};
-ghost use Rattle.lun_extents.specs.inner.Runs.{ranges_of, items_of_runs, is_mapped, AreRuns, IsSplitAt, IsAlone, HoldsSame};
+ghost use Rattle.lun_extents.specs.inner.Runs.{ranges_of, items_of_runs, is_mapped, AreRuns, IsSplitAt, IsAlone, IsClear, HoldsSame};
 
-use crate::map::{self, Stored};
-use crate::runs::{self, Filling};
+use crate::map::{self, Occupancy, Stored};
+use crate::runs::{self, Filling, has_hole};
 use crate::walk;
 use cm_base::OutOfMemory;
 use lba_ranges::{BlockList, Blocks, Fill, Piece, Range, RangeList};
@@ -177,30 +177,32 @@ impl ExtentUnit {
         }
     }
 
-    /// The run that a list is put as, where it is one that can be set by one extent.
-    fn one_alone(
-        &self,
-        ranges: &RangeList,
-        list: &BlockList,
-    ) -> Result<Option<Filling>, OutOfMemory>
-        requires within { IsTrue (is_within self.now.blocks ranges.now) }
-        requires total { total ranges.now ≡ length list.now.items }
-        ensures range { IfOk result (λ found. IfSome found (λ run. ranges.now ≡ run.range ∷ [])) }
-        ensures items { IfOk result (λ found. IfSome found (λ run. list.now.items
-            ≡ filled list.now.block_length run.range.count run.fill)) }
-        ensures some { IfOk result (λ found. IfSome found (λ run. 1 ≤ run.range.count)) }
-        ensures within { IfOk result (λ found. IfSome found (λ run. run.range.lba + run.range.count ≤ self.now.blocks)) }
-        ensures full { IfOk result (λ found. IfSome found (λ run. IsFull list.now.block_length run.range.count run.fill)) }
-        ensures alone { IfOk result (λ found. IfSome found (λ run. IsAlone self.now.entries run.range.lba run.range.count)) }
+    /// The range, where it is one with blocks.
+    fn one_range(&self, ranges: &RangeList) -> Option<Range>
+        requires { IsTrue (is_within self.now.blocks ranges.now) }
+        ensures range { IfSome result (λ range. ranges.now ≡ range ∷ []) }
+        ensures some { IfSome result (λ range. 1 ≤ range.count) }
+        ensures within { IfSome result (λ range. range.lba + range.count ≤ self.now.blocks) }
     {
         let _blocks = self.blocks;
         if ranges.len() != 1 {
-            return Ok(None);
+            return None;
         }
         let range = ranges.at(0);
-        if range.count == 0 || !map::is_alone(&self.extents, range.lba, range.count) {
-            return Ok(None);
+        if range.count == 0 {
+            return None;
         }
+        Some(range)
+    }
+
+    /// The run that a list is put to a range as, where it is one.
+    fn one_run(range: Range, list: &BlockList) -> Result<Option<Filling>, OutOfMemory>
+        requires some { 1 ≤ range.count }
+        requires total { range.count ≡ length list.now.items }
+        ensures range { IfOk result (λ found. IfSome found (λ run. run.range ≡ range)) }
+        ensures items { IfOk result (λ found. IfSome found (λ run. list.now.items ≡ filled list.now.block_length range.count run.fill)) }
+        ensures full { IfOk result (λ found. IfSome found (λ run. IsFull list.now.block_length range.count run.fill)) }
+    {
         let piece = list.run(0, range.count)?;
         if piece.count < range.count {
             return Ok(None);
@@ -211,21 +213,23 @@ impl ExtentUnit {
         }))
     }
 
-    /// Gives the blocks of a run what they are to hold, where it can be set by one extent. At
+    /// Gives the blocks of a run, so many of which are mapped, what they are to hold, where it can be set by one extent. At
     /// `OutOfMemory` each block holds what it held.
-    fn set_alone(&mut self, run: Filling) -> Result<(), OutOfMemory>
+    fn set_alone(&mut self, run: Filling, before: u64) -> Result<(), OutOfMemory>
         requires some { 1 ≤ run.range.count }
         requires within { run.range.lba + run.range.count ≤ self.old.blocks }
         requires full { IsFull self.old.block_length run.range.count run.fill }
         requires alone { IsAlone self.old.entries run.range.lba run.range.count }
+        requires before { before ≡ mapped_among (held_in self.old.block_length self.old.entries) (row run.range.lba run.range.count) }
         ensures blocks { self.new.blocks ≡ self.old.blocks }
         ensures length { self.new.block_length ≡ self.old.block_length }
         ensures held { OnOk result ((block : ℕ) → held_in self.new.block_length self.new.entries block
             ≡ after (paired (row run.range.lba run.range.count) (filled self.old.block_length run.range.count run.fill)) block
             (held_in self.old.block_length self.old.entries block)) }
+        ensures start { OnOk result (stored self.new.entries run.range.lba ≡ Some (record { count = run.range.count; fill = run.fill })) }
+        ensures others { OnOk result ((b : ℕ) → (b ≡ run.range.lba → ⊥) → stored self.new.entries b ≡ stored self.old.entries b) }
         ensures same { OnErr result (self.new ≡ self.old) }
     {
-        let before = self.mapped_in(run.range);
         let now = mapped_of(&run);
         let Filling { range, fill } = run;
         let piece = Piece {
@@ -236,6 +240,144 @@ impl ExtentUnit {
         let others = self.mapped - before;
         self.mapped = others + now;
         Ok(())
+    }
+
+    /// Gives the blocks of runs in a row what they are to hold, where nothing stood. At `OutOfMemory` each block holds what
+    /// it held.
+    fn set_in_clear(&mut self, range: Range, runs: Vec<Filling>) -> Result<(), OutOfMemory>
+        requires runs { AreRuns self.old.blocks self.old.block_length runs.items }
+        requires row { blocks_of (ranges_of runs.items) ≡ row range.lba range.count }
+        requires clear { IsClear self.old.entries range.lba range.count }
+        requires within { range.lba + range.count ≤ self.old.blocks }
+        ensures blocks { self.new.blocks ≡ self.old.blocks }
+        ensures length { self.new.block_length ≡ self.old.block_length }
+        ensures held { OnOk result ((block : ℕ) → held_in self.new.block_length self.new.entries block
+            ≡ after (paired (blocks_of (ranges_of runs.items)) (items_of_runs self.old.block_length runs.items)) block
+            (held_in self.old.block_length self.old.entries block)) }
+        ensures same { OnErr result (HoldsSame self.old self.new) }
+    {
+        let was = self.mapped;
+        let mut at = range.lba;
+        for run in runs {
+            let count = run.range.count;
+            if let Err(refused) = self.set_alone(run, 0) {
+                map::take_out(&mut self.extents, range.lba, at);
+                self.mapped = was;
+                return Err(refused);
+            }
+            at += u64::from(count);
+        }
+        Ok(())
+    }
+
+    /// Gives the blocks of runs what they are to hold, wherever extents begin. At `OutOfMemory` each block holds what it
+    /// held.
+    fn set_anywhere(&mut self, ranges: &RangeList, runs: Vec<Filling>) -> Result<(), OutOfMemory>
+        requires within { IsTrue (is_within self.old.blocks ranges.now) }
+        requires runs { AreRuns self.old.blocks self.old.block_length runs.items }
+        requires apart { is_overlapping (ranges_of runs.items) ≡ false }
+        ensures blocks { self.new.blocks ≡ self.old.blocks }
+        ensures length { self.new.block_length ≡ self.old.block_length }
+        ensures held { OnOk result ((block : ℕ) → held_in self.new.block_length self.new.entries block
+            ≡ after (paired (blocks_of (ranges_of runs.items)) (items_of_runs self.old.block_length runs.items)) block
+            (held_in self.old.block_length self.old.entries block)) }
+        ensures same { OnErr result (HoldsSame self.old self.new) }
+    {
+        if let Err(refused) = self.split_at_fillings(&runs) {
+            self.remove_empty_extents(ranges);
+            return Err(refused);
+        }
+        let has_hole = has_hole(&runs);
+        self.set_runs(runs);
+        if has_hole {
+            self.remove_empty_extents(ranges);
+        } else {
+            self.remove_behind(ranges);
+        }
+        Ok(())
+    }
+
+    /// Gives the blocks of a range what a list has, where nothing stood. At `OutOfMemory` each block holds what it held.
+    fn put_in_clear(
+        &mut self,
+        range: Range,
+        ranges: &RangeList,
+        list: &BlockList,
+    ) -> Result<(), OutOfMemory>
+        requires range { ranges.now ≡ range ∷ [] }
+        requires some { 1 ≤ range.count }
+        requires within { range.lba + range.count ≤ self.old.blocks }
+        requires total { total ranges.now ≡ length list.now.items }
+        requires size { list.now.block_length ≡ self.old.block_length }
+        requires clear { IsClear self.old.entries range.lba range.count }
+        ensures blocks { self.new.blocks ≡ self.old.blocks }
+        ensures length { self.new.block_length ≡ self.old.block_length }
+        ensures put { OnOk result ((block : ℕ) → held_in self.new.block_length self.new.entries block
+            ≡ after (paired (blocks_of ranges.now) list.now.items) block (held_in self.old.block_length self.old.entries block)) }
+        ensures same { OnErr result (HoldsSame self.old self.new) }
+    {
+        if let Some(run) = ExtentUnit::one_run(range, list)? {
+            return self.set_alone(run, 0);
+        }
+        let runs = runs::runs_of(self.alloc, self.blocks, ranges, list)?;
+        self.set_in_clear(range, runs)
+    }
+
+    /// The same where one extent can take the place of what stands there.
+    fn put_alone(
+        &mut self,
+        range: Range,
+        ranges: &RangeList,
+        list: &BlockList,
+    ) -> Result<(), OutOfMemory>
+        requires range { ranges.now ≡ range ∷ [] }
+        requires apart { is_overlapping ranges.now ≡ false }
+        requires some { 1 ≤ range.count }
+        requires within { range.lba + range.count ≤ self.old.blocks }
+        requires total { total ranges.now ≡ length list.now.items }
+        requires size { list.now.block_length ≡ self.old.block_length }
+        requires alone { IsAlone self.old.entries range.lba range.count }
+        ensures blocks { self.new.blocks ≡ self.old.blocks }
+        ensures length { self.new.block_length ≡ self.old.block_length }
+        ensures put { OnOk result ((block : ℕ) → held_in self.new.block_length self.new.entries block
+            ≡ after (paired (blocks_of ranges.now) list.now.items) block (held_in self.old.block_length self.old.entries block)) }
+        ensures same { OnErr result (HoldsSame self.old self.new) }
+    {
+        match ExtentUnit::one_run(range, list)? {
+            Some(run) => {
+                let before = self.mapped_in(range);
+                self.set_alone(run, before)
+            }
+            None => self.put_anywhere(ranges, list),
+        }
+    }
+
+    /// The same of any ranges that do not overlap, whatever stands there.
+    fn put_anywhere(&mut self, ranges: &RangeList, list: &BlockList) -> Result<(), OutOfMemory>
+        requires within { IsTrue (is_within self.old.blocks ranges.now) }
+        requires apart { is_overlapping ranges.now ≡ false }
+        requires total { total ranges.now ≡ length list.now.items }
+        requires size { list.now.block_length ≡ self.old.block_length }
+        ensures blocks { self.new.blocks ≡ self.old.blocks }
+        ensures length { self.new.block_length ≡ self.old.block_length }
+        ensures put { OnOk result ((block : ℕ) → held_in self.new.block_length self.new.entries block
+            ≡ after (paired (blocks_of ranges.now) list.now.items) block (held_in self.old.block_length self.old.entries block)) }
+        ensures same { OnErr result (HoldsSame self.old self.new) }
+    {
+        let runs = runs::runs_of(self.alloc, self.blocks, ranges, list)?;
+        self.set_anywhere(ranges, runs)
+    }
+
+    /// Takes out what is not needed of the extents that begin at the ends of ranges. Each block holds what it held.
+    fn remove_behind(&mut self, ranges: &RangeList)
+        requires { IsTrue (is_within self.old.blocks ranges.now) }
+        ensures { HoldsSame self.old self.new }
+    {
+        for index in 0..ranges.len() {
+            let range = ranges.at(index);
+            let end = range.lba + u64::from(range.count);
+            map::remove_empty_extent(&mut self.extents, self.block_length, end);
+        }
     }
 
     /// Unmaps the blocks of a range, where an extent begins at its start and at its end. It takes no memory.
@@ -320,17 +462,14 @@ impl Blocks for ExtentUnit {
     }
 
     fn put(&mut self, ranges: &RangeList, list: &BlockList) -> Result<(), OutOfMemory> {
-        if let Some(run) = self.one_alone(ranges, list)? {
-            return self.set_alone(run);
+        let Some(range) = self.one_range(ranges) else {
+            return self.put_anywhere(ranges, list);
+        };
+        match map::occupied(&self.extents, range.lba, range.count) {
+            Occupancy::Clear => self.put_in_clear(range, ranges, list),
+            Occupancy::Alone => self.put_alone(range, ranges, list),
+            Occupancy::Mixed => self.put_anywhere(ranges, list),
         }
-        let runs = runs::runs_of(self.alloc, self.blocks, ranges, list)?;
-        if let Err(refused) = self.split_at_fillings(&runs) {
-            self.remove_empty_extents(ranges);
-            return Err(refused);
-        }
-        self.set_runs(runs);
-        self.remove_empty_extents(ranges);
-        Ok(())
     }
 
     fn clear(&mut self, ranges: &RangeList) -> Result<(), OutOfMemory> {

@@ -44,3 +44,8 @@ pub record HoldsSame (was now : Extents) : Type 0 where
 pub record IsAlone (entries : List (ℕ × Piece)) (lba count : ℕ) : Type 0 where
   pub inside : (block : ℕ) → lba < block → block < lba + count → stored entries block ≡ None
   pub ended : (size i : ℕ) → held_from size (stored entries) (lba + count - 1) (1 + i) ≡ None
+
+-- nothing stands in a row of blocks: no extent begins there, and none goes on there
+pub record IsClear (entries : List (ℕ × Piece)) (lba count : ℕ) : Type 0 where
+  pub none : (block : ℕ) → lba ≤ block → block < lba + count → stored entries block ≡ None
+  pub past : (size block i : ℕ) → lba ≤ block → block < lba + count → held_from size (stored entries) block i ≡ None

@@ -1,4 +1,3 @@
-use Rattle.std.proofs.Common.{◌≡◌, ◌∙◌}
 use Rattle.lun_extents.specs.Extents.{stored}
 use Rattle.lun_extents.proofs.Splits.{not_at}
 use Rattle.lun_extents.proofs.Alone.{IsPut, put-held}
