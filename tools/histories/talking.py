@@ -78,6 +78,27 @@ class SharedRequests(Requests):
         return unit, text, lists.number(text, 48, 16) // self.shapes[unit].block_length
 
 
+class Asking:
+    """What a connection asks for: anything, and mostly the text of the token that was made last, so that it comes to be
+    known."""
+
+    def __init__(self, rng, wanted, texts):
+        self.rng, self.wanted, self.texts, self.made = rng, wanted, texts, []
+
+    def note(self, request, reply):
+        """What others, or a later request, may be for."""
+        if text := token_in(request, reply):
+            self.texts.append(text)
+        elif request.cdb[:2] == b"\x83\x10" and reply.status == frames.GOOD:
+            self.made.append((request.unit, lists.number(request.cdb, 6, 4)))
+
+    def request(self, initiator):
+        if self.made and self.rng.random() < 0.7:
+            unit, found = self.made.pop()
+            return frames.Request(unit, cdbs.encode(0x84, 0x07, id=found, length=1024), b"")
+        return self.wanted.request(initiator)
+
+
 class Talker:
     """One connection: its requests, and the bytes of the replies to them."""
 
@@ -85,8 +106,7 @@ class Talker:
         self.nexus = nexus
         self.rng = random.Random(f"{options.seed} {nexus}")
         self.wanted = SharedRequests(self.rng, machine, texts, options.changed)
-        self.texts = texts
-        self.made = []
+        self.asking = Asking(self.rng, self.wanted, texts)
         self.requests, self.replies = [], []
         self.fault = None
         self.host = Connection(address, SECONDS)
@@ -98,21 +118,10 @@ class Talker:
         for request in requests:
             reply = reply_from(self.host.source)
             self.replies.append(reply_bytes(reply))
-            self.note(request, reply)
-
-    def note(self, request, reply):
-        """What others, or a later request, may be for."""
-        if text := token_in(request, reply):
-            self.texts.append(text)
-        elif request.cdb[:2] == b"\x83\x10" and reply.status == frames.GOOD:
-            self.made.append((request.unit, lists.number(request.cdb, 6, 4)))
+            self.asking.note(request, reply)
 
     def request(self):
-        """Of any kind; mostly one for the token that was made last, so that its text comes to be known."""
-        if self.made and self.rng.random() < 0.7:
-            unit, found = self.made.pop()
-            return frames.Request(unit, cdbs.encode(0x84, 0x07, id=found, length=1024), b"")
-        return self.wanted.request(self.nexus)
+        return self.asking.request(self.nexus)
 
     def first(self):
         """A WRITE, each to other blocks where there are so many."""

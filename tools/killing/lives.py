@@ -29,7 +29,7 @@ Kill = collections.namedtuple("Kill", "how at")
 # the first call that may fail: before it journals are opened
 OPENED = 40
 # what is counted over all lives
-COUNTS = ("entries", "replies", "acknowledged", "ended", "open", "more", "unsynced", "failing")
+COUNTS = ("entries", "replies", "acknowledged", "ended", "open", "more", "unsynced", "failing", "full")
 
 
 def some_kill(rng, is_power):
@@ -143,6 +143,21 @@ class Lives:
     # ---- what it left
 
     def judge(self, talkers):
+        try:
+            return self.judged(talkers)
+        except Differs:
+            self.keep(talkers)
+            raise
+
+    def keep(self, talkers):
+        """What each connection asked and what came, beside the journals, so that a failure can be looked into."""
+        for place, talker in enumerate(talkers):
+            asked = b"".join(map(frames.request_bytes, talker.requests))
+            for name, data in ((f"requests-{place}", asked), (f"replies-{place}", bytes(talker.source.bytes))):
+                with open(os.path.join(os.path.dirname(self.folder), name), "wb") as file:
+                    file.write(data)
+
+    def judged(self, talkers):
         first = next_nexus([[record.entry for record in of_unit] for of_unit in self.records])
         added = self.read()
         found = following.followed(MACHINE, talkers, self.units, first, added)
@@ -197,11 +212,31 @@ class Lives:
                 report = server.report(PATIENCE)
         except (Ended, subprocess.TimeoutExpired) as error:
             raise Differs(str(error)) from None
-        found = self.judge(talkers)
-        if found.player.pending:
+        if kill and any(frames.FULL in talker.statuses for talker in talkers):
+            self.take_over(talkers)
+        elif self.judge(talkers).player.pending:
             raise Differs("not all commands of a life that is not killed have all of their entries in the journals")
         self.judge_report(report, talkers)
         self.judge_anew()
+
+    def take_over(self, talkers):
+        """While calls fail, entries stay in a record, which may then be full. The plain replay knows nothing of that, so
+        only the WRITEs that were done are looked for, and the units stand as the journals say."""
+        first = next_nexus([[record.entry for record in of_unit] for of_unit in self.records])
+        added = self.read()
+        self.counts.update(
+            entries=sum(map(len, added)), replies=sum(len(talker.statuses) for talker in talkers),
+            acknowledged=following.judge_acknowledged(talkers, first, added), full=1,
+        )
+        self.units = [self.done_anew(unit.number) for unit in self.units]
+
+    def done_anew(self, number):
+        """A new unit that did all entries of its journal."""
+        anew = noted_units(unfolded(MACHINE))[number]
+        for record in self.records[number]:
+            done_again(anew, record.entry)
+            anew.stamp = record.entry.stamp
+        return anew
 
     def judge_report(self, report, talkers):
         wanted = (CONNECTIONS, 0, 0, sum(len(talker.requests) for talker in talkers), 0)
@@ -213,10 +248,7 @@ class Lives:
     def judge_anew(self):
         """New units that do all entries of the journals again stand as those do that were followed."""
         for followed in self.units:
-            anew = noted_units(unfolded(MACHINE))[followed.number]
-            for record in self.records[followed.number]:
-                done_again(anew, record.entry)
-            if state_of(anew) != state_of(followed):
+            if state_of(self.done_anew(followed.number)) != state_of(followed):
                 raise Differs(f"unit {followed.number} stands otherwise than by the entries of its journal")
 
 

@@ -72,7 +72,7 @@ class Talker:
     def __init__(self, address, machine, rng, texts):
         self.rng = rng
         self.wanted = Requests(rng, machine, texts)
-        self.texts, self.made = texts, []
+        self.asking = talking.Asking(rng, self.wanted, texts)
         self.requests, self.statuses = [], []
         self.is_cut = False
         self.link = socket.create_connection(address, SECONDS)
@@ -90,17 +90,10 @@ class Talker:
 
     def note(self, request, reply):
         self.wanted.note_reply(request, reply)
-        if text := talking.token_in(request, reply):
-            self.texts.append(text)
-        elif request.cdb[:2] == b"\x83\x10" and reply.status == frames.GOOD:
-            self.made.append((request.unit, lists.number(request.cdb, 6, 4)))
+        self.asking.note(request, reply)
 
     def request(self):
-        """Of any kind; mostly one for the token that was made last, so that its text comes to be known."""
-        if self.made and self.rng.random() < 0.7:
-            unit, found = self.made.pop()
-            return frames.Request(unit, cdbs.encode(0x84, 0x07, id=found, length=1024), b"")
-        return self.wanted.request(0)
+        return self.asking.request(0)
 
     def acknowledged(self):
         """The WRITEs that were replied to as done."""

@@ -12,6 +12,8 @@ from . import support
 from replay import cdbs
 from tracetext import requests, traces
 
+# seconds
+PATIENCE = 300
 DOCUMENTS = ["docs/first-trace.md", "clients/python/README.md"]
 HELPS = [
     "tools/trace", "tools/plain-replay", "tools/plain-serve", "tools/plain-store", "tools/row", "tools/headline",
@@ -39,18 +41,22 @@ def blocks(text, margin):
 
 class Typed(unittest.TestCase):
     def setUp(self):
+        self.folder = self.new_folder()
+
+    def new_folder(self):
+        """A folder that has what is typed, and nothing of what was written before."""
         folder = tempfile.TemporaryDirectory()
         self.addCleanup(folder.cleanup)
-        self.folder = pathlib.Path(folder.name)
         for name in ("tools", "clients", "examples", "crates"):
-            (self.folder / name).symlink_to(support.TOP / name)
+            (pathlib.Path(folder.name) / name).symlink_to(support.TOP / name)
+        return pathlib.Path(folder.name)
 
     def said(self, command):
         """What a command writes, and its exit status."""
         environment = os.environ | {"PATH": f"{os.environ['PATH']}:{self.folder / 'clients/python'}"}
         done = subprocess.run(
             ["bash", "-c", command + "\n"], cwd=self.folder, stdin=subprocess.DEVNULL, stdout=subprocess.PIPE,
-            stderr=subprocess.STDOUT, check=False, env=environment,
+            stderr=subprocess.STDOUT, check=False, env=environment, timeout=PATIENCE,
         )
         return done.stdout.decode().splitlines(), done.returncode
 
@@ -84,6 +90,7 @@ class Typed(unittest.TestCase):
             example = re.search(r"\nexample:\n(.*?)\n\n", help_text, re.S)[1]
             commands = [command for command, _ in typed(blocks(example, "  "))]
             self.assertTrue(commands, tool)
+            self.folder = self.new_folder()
             output, status = self.said("set -e\n" + "\n".join(commands))
             self.assertEqual(status, 0, (tool, output))
 

@@ -8,14 +8,16 @@ import shutil
 import subprocess
 import sys
 import tempfile
+import types
 import unittest
 
 from . import support
-from .test_journals import ENTRIES, NO_PROGRAM, opened
+from .test_journals import ENTRIES, NO_PROGRAM, WRITE, opened
 
 # pylint: disable=wrong-import-position
 from killing import losing
-from replay import journals
+from killing.lives import MACHINE, Lives
+from replay import entries, frames, journals
 
 HAS_COMPILER = shutil.which(os.environ.get("CC", "cc"))
 LOST = [losing.Write(0, 4, b"abcd", b"ABCD"), losing.Write(6, 4, b"", b"XY")]
@@ -169,6 +171,18 @@ class PowerCuts(unittest.TestCase):
         calls, lost = self.lost(NO_SYNC)
         self.assertEqual(calls, 3 + 2 * len(ENTRIES))
         self.assertGreater(lost, 0)
+
+
+class RecordsAreFull(unittest.TestCase):
+    def test_units_stand_as_the_journals_say(self):
+        with tempfile.TemporaryDirectory() as folder:
+            lives = Lives([], folder, "1")
+            files = [journals.Journal(journals.path_of(lives.folder, unit), MACHINE, unit) for unit in range(4)]
+            files[0].add(entries.text(WRITE))
+            lives.take_over([types.SimpleNamespace(statuses=[frames.GOOD, frames.FULL], acknowledged=list)])
+            self.assertEqual(lives.units[0].held, {3: WRITE.act.blocks[0]})
+            self.assertEqual([unit.stamp for unit in lives.units], [WRITE.stamp, 0, 0, 0])
+            self.assertEqual((lives.counts["full"], lives.counts["entries"], lives.counts["replies"]), (1, 1, 2))
 
 
 class Tool(unittest.TestCase):
