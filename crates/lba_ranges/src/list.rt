@@ -50,6 +50,19 @@ impl BlockList {
         }
     }
 
+    /// The same, with room for so many runs.
+    fn with_room(alloc: Global, block_length: u32, runs: usize) -> Result<BlockList, OutOfMemory>
+        ensures length { IfOk result (λ list. list.block_length ≡ block_length) }
+        ensures empty { IfOk result (λ list. list.items ≡ []) }
+    {
+        let runs = Vec::with_capacity(alloc, runs)?;
+        Ok(BlockList {
+            block_length,
+            count: 0,
+            runs,
+        })
+    }
+
     /// The list of the blocks whose bytes these are, `count` blocks of `block_length` bytes.
     pub fn from_payload(
         alloc: Global,
@@ -61,7 +74,7 @@ impl BlockList {
         ensures { IfOk result (λ list. list
             ≡ record { block_length = block_length; items = cut block_length count bytes }) }
     {
-        let mut list = BlockList::empty(alloc, block_length);
+        let mut list = BlockList::with_room(alloc, block_length, 1)?;
         list.push(Piece {
             count,
             fill: Fill::Bytes(bytes),
@@ -262,12 +275,14 @@ impl BlockList {
         requires { from + count ≤ length self.now.items }
         ensures { IfOk result (λ r. r ≡ record self.now { items = slice_range self.now.items from (from + count) }) }
     {
-        let mut list = BlockList::empty(alloc, self.block_length);
         if count == 0 {
-            return Ok(list);
+            return Ok(BlockList::empty(alloc, self.block_length));
         }
         let runs = self.runs.as_slice();
         let first = first_after(runs, from);
+        // most lists, and most parts of them, have one run or two, where a list that grows takes room for four
+        let room = (runs.len() - first).min(2);
+        let mut list = BlockList::with_room(alloc, self.block_length, room)?;
         let skip = runs[first].place(from);
         list.push_window(&runs[first..], u64::from(skip), count)?;
         Ok(list)
