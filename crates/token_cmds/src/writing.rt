@@ -1,4 +1,4 @@
-ghost use Rattle.std.specs.Prelude.{◌≡◌, ◌+◌, ◌<◌, ◌==◌, ℕ, length, nat_lt, IfOk, IfSome, None, if◌then◌else◌};
+ghost use Rattle.std.specs.Prelude.{◌≡◌, ◌+◌, ◌*◌, ◌<◌, ◌≤◌, ◌==◌, ℕ, length, nat_lt, IfOk, IfSome, None, if◌then◌else◌};
 ghost use Rattle.cm_base.specs.Configuration.{Configuration};
 ghost use Rattle.cm_base.specs.Units.{is_configured};
 ghost use Rattle.scsi_sense.specs.Codes.{token_unknown};
@@ -19,7 +19,7 @@ ghost use Rattle.cmd_machine.specs.Last.{by_last, IsLastOf};
 ghost use Rattle.cmd_machine.specs.Rest.{rest_of, IsSoundAt, last_ask};
 ghost use Rattle.std.specs.Option.{option_map};
 ghost use Rattle.token_cmds.specs.inner.Progress.{IsProgress};
-ghost use Rattle.token_cmds.specs.Meaning.{by_phase, by_writing, given, IsGiven, IsSized, IsSoundPhase, IsSoundWriting};
+ghost use Rattle.token_cmds.specs.Meaning.{by_phase, by_writing, IsGiven, IsSized, IsSoundPhase, IsSoundWriting};
 
 use crate::phase::{TokenCommand, TokenPhase};
 use block_params::{WriteList, read_write_token};
@@ -32,13 +32,22 @@ use lba_ranges::{BlockList, Fill, Piece};
 use rod_token::{TokenKind, classify};
 use scsi_sense::Sense;
 use std::alloc::Global;
+use std::marker::Model;
 
-/// A WRITE USING TOKEN whose list was read.
+/// A WRITE USING TOKEN whose list was read. The list has the text of a token, so a box moves in its place.
 #[derive(Drop)]
 pub struct Write {
     unit: u16,
     id: u32,
-    list: WriteList,
+    list: Box<WriteList>,
+}
+
+impl Model for Write {
+    ghost use Rattle.cmd_program.specs.TokenWrite.{TokenWrite};
+
+    ghost Value = { TokenWrite };
+
+    ghost view = { λ w. record { unit = w.unit; id = w.id; list = w.list.value } };
 }
 
 /// How far a WRITE USING TOKEN has come.
@@ -70,7 +79,10 @@ pub(crate) fn begin(
     ensures sound { IfOk result (λ c. IsSoundAt IsSoundPhase config.now c) }
 {
     match read_write_token(alloc, out.as_slice()) {
-        Ok(list) => Ok(Write { unit, id, list }.by_token(config)),
+        Ok(list) => {
+            let list = Box::new(alloc, list)?;
+            Ok(Write { unit, id, list }.by_token(config))
+        }
         Err(fault) => Ok(CommandOf::Ended(Ended::Refused(refusal(fault)?))),
     }
 }
@@ -80,7 +92,7 @@ impl Write {
     fn by_token(self, config: &Config) -> TokenCommand
         requires configured { self.unit < length config.now.units }
         requires ranges { range_fault self.list.ranges ≡ None }
-        ensures program { rest_of by_phase config.now result ≡ write_by config.now (given self) (classify self.list.token) }
+        ensures program { rest_of by_phase config.now result ≡ write_by config.now self (classify self.list.token) }
         ensures sound { IsSoundAt IsSoundPhase config.now result }
     {
         match classify(&self.list.token) {
@@ -97,7 +109,7 @@ impl Write {
         requires ranges { range_fault self.list.ranges ≡ None }
         requires named { (serial : ℕ) × (classify self.list.token ≡ TokenKind.Names creator serial) }
         ensures program { rest_of by_phase config.now result
-            ≡ (if is_configured config.now creator then ask_then creator (Act.Redeem self.list.token self.unit) (redeemed (given self))
+            ≡ (if is_configured config.now creator then ask_then creator (Act.Redeem self.list.token self.unit) (redeemed self)
             else refused token_unknown) }
         ensures sound { IsSoundAt IsSoundPhase config.now result }
     {
@@ -111,24 +123,32 @@ impl Write {
         }
     }
 
+    /// How many blocks are to be written.
+    fn wanted(&self) -> u64
+        ensures blocks { result ≡ wanted self.now }
+        ensures few { result ≤ 64 * 4_294_967_295 }
+    {
+        self.list.ranges.total()
+    }
+
     /// The token has too few blocks.
     fn is_short(&self, rod: &BlockList) -> bool
-        ensures { result ≡ nat_lt (length rod.now.items) (self.now.list.offset + wanted (given self.now)) }
+        ensures { result ≡ nat_lt (length rod.now.items) (self.now.list.offset + wanted self.now) }
     {
         let blocks = rod.blocks();
-        self.list.offset > blocks || self.list.ranges.total() > blocks - self.list.offset
+        self.list.offset > blocks || self.wanted() > blocks - self.list.offset
     }
 
     /// Asks the unit to write these blocks.
     fn start(&self, alloc: Global, rod: BlockList) -> Result<Step, OutOfMemory>
-        ensures { IfOk result (λ s. s ≡ next (starting (given self.now) rod)) }
+        ensures { IfOk result (λ s. s ≡ next (starting self.now rod)) }
     {
         let ranges = self.list.ranges.copy(alloc)?;
         Ok(Step::Do {
             unit: self.unit,
             act: Act::Start {
                 id: self.id,
-                background: self.list.immed,
+                background: self.is_background(),
                 ranges,
                 rod,
             },
@@ -137,7 +157,7 @@ impl Write {
 
     /// Asks the unit to write those blocks of the token that are wanted, if it has them.
     fn start_part(&self, alloc: Global, rod: &BlockList) -> Result<Step, OutOfMemory>
-        ensures next { IfOk result (λ s. s ≡ next (redeemed (given self.now) (Answer.Rod rod.now))) }
+        ensures next { IfOk result (λ s. s ≡ next (redeemed self.now (Answer.Rod rod.now))) }
         ensures asks { (config : Configuration) → IsSized config self.now rod.now.block_length
             → IfOk result (λ s. IsAskable config s) }
     {
@@ -145,19 +165,19 @@ impl Write {
             let sense = Sense::invalid_field_in_parameter_list();
             return Ok(Step::Done(Reply::Check(sense)));
         }
-        let part = rod.slice(alloc, self.list.offset, self.list.ranges.total())?;
+        let part = rod.slice(alloc, self.list.offset, self.wanted())?;
         self.start(alloc, part)
     }
 
     /// Asks the unit to write zeros.
     fn start_zeros(&self, alloc: Global, config: &Config) -> Result<Step, OutOfMemory>
         requires { IsGiven config.now self.now }
-        ensures next { IfOk result (λ s. s ≡ next (starting (given self.now) (zero_rod config.now (given self.now)))) }
+        ensures next { IfOk result (λ s. s ≡ next (starting self.now (zero_rod config.now self.now))) }
         ensures asks { IfOk result (λ s. IsAskable config.now s) }
     {
         let mut rod = BlockList::empty(alloc, config.unit(self.unit).block_length);
         rod.push(Piece {
-            count: self.list.ranges.total() as u32,
+            count: self.wanted() as u32,
             fill: Fill::Hole,
         })?;
         self.start(alloc, rod)
@@ -165,7 +185,7 @@ impl Write {
 
     /// The phase when all was written.
     fn deleting(&self) -> TokenCommand
-        ensures program { (config : Configuration) → rest_of by_phase config result ≡ deleting (given self.now) }
+        ensures program { (config : Configuration) → rest_of by_phase config result ≡ deleting self.now }
         ensures sound { (config : Configuration) → IsGiven config self.now → IsSoundAt IsSoundPhase config result }
     {
         if !self.list.delete {
@@ -185,7 +205,7 @@ impl Write {
     /// The phase of an operation that runs, when so many Advances are left.
     fn running(self, left: u64) -> TokenCommand
         ensures program { (config : Configuration) (count : ℕ) → rest_of by_phase config result
-            ≡ advancing (given self) left (Answer.Progress OpState.Running count) }
+            ≡ advancing self left (Answer.Progress OpState.Running count) }
         ensures sound { (config : Configuration) → IsGiven config self → IsSoundAt IsSoundPhase config result }
     {
         if left == 0 {
@@ -201,7 +221,7 @@ impl Write {
     /// left.
     fn advanced(self, left: u64, answer: Answer) -> TokenCommand
         requires { IsProgress answer }
-        ensures program { (config : Configuration) → rest_of by_phase config result ≡ advancing (given self) left answer }
+        ensures program { (config : Configuration) → rest_of by_phase config result ≡ advancing self left answer }
         ensures sound { (config : Configuration) → IsGiven config self → IsSoundAt IsSoundPhase config result }
     {
         match answer {
@@ -217,15 +237,22 @@ impl Write {
         }
     }
 
+    /// The unit's pump writes the pieces.
+    fn is_background(&self) -> bool
+        ensures { result ≡ self.now.list.immed }
+    {
+        self.list.immed
+    }
+
     /// The phase after the Start was answered.
     fn started(self, answer: Answer) -> TokenCommand
         requires { (rod : HeldBlocks) × HasKind (Act.Start self.id self.list.immed self.list.ranges rod) answer }
         ensures program { (config : Configuration) → rest_of by_phase config result
-            ≡ started (given self) self.list.immed answer }
+            ≡ started self self.list.immed answer }
         ensures sound { (config : Configuration) → IsGiven config self → IsSoundAt IsSoundPhase config result }
     {
-        if !self.list.immed {
-            let pieces = (self.list.ranges.total() + (PIECE_BLOCKS - 1)) / PIECE_BLOCKS;
+        if !self.is_background() {
+            let pieces = (self.wanted() + (PIECE_BLOCKS - 1)) / PIECE_BLOCKS;
             return self.advanced(pieces, answer);
         }
         match answer {
@@ -238,9 +265,9 @@ impl Write {
     /// The phase after the Start of a token's blocks was answered, if it has as many as are wanted.
     fn started_part(self, rod: &BlockList, answer: Answer) -> TokenCommand
         requires { (config : Configuration)
-            × MayFollow config (next (redeemed (given self) (Answer.Rod rod.now))) (Outcome.Answered answer) }
+            × MayFollow config (next (redeemed self (Answer.Rod rod.now))) (Outcome.Answered answer) }
         ensures program { (config : Configuration) → rest_of by_phase config result
-            ≡ go_on_by (redeemed (given self) (Answer.Rod rod.now)) answer }
+            ≡ go_on_by (redeemed self (Answer.Rod rod.now)) answer }
         ensures sound { (config : Configuration) → IsGiven config self → IsSoundAt IsSoundPhase config result }
     {
         if self.is_short(rod) {

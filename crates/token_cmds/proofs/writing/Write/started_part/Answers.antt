@@ -5,12 +5,11 @@ use Rattle.cmd_program.specs.declared.step.Outcome.{Outcome}
 use Rattle.cmd_program.specs.Program.{next, refused}
 use Rattle.cmd_program.specs.Meaning.{MayFollow}
 use Rattle.cmd_program.specs.TokenWrite.{wanted, starting, rod_part}
-use Rattle.token_cmds.specs.Meaning.{given}
 use Rattle.token_cmds.proofs.writing.Write.started_part.Goals as goal
 
 pub started-requires : goal.started-requires
 started-requires c =
-    let write = given c.args.self in
+    let write = c.args.self in
     let rod = c.args.rod.now in
     let enough : nat_lt (length rod.items) (c.args.self.list.offset + wanted write) ≡ false = sym c.is_short.ensures ∙ c.if-is_short.false in (
       rod_part write rod,
