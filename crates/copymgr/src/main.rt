@@ -25,6 +25,8 @@ mod serving_tests;
 #[cfg(test)]
 mod sessions;
 mod status;
+#[cfg(test)]
+mod status_tests;
 mod storing;
 #[cfg(test)]
 mod tests;

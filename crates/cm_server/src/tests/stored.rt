@@ -4,11 +4,6 @@ ghost use Rattle.std.specs.Prelude.{◌≡◌, length, IfOk};
 use super::*;
 use journal_disk::{Disk, MemoryDisk};
 
-/// The small unit with a record of 2 entries.
-const TWO: &str =
-    "434d545241434531000102030405060708090a0b0c0d0e0f101112131415161718191a1b1c1d1e1f0001\
-0000000000000064000002000000000200000000000000641000000000000000";
-
 /// The bytes of the first disk of several.
 fn first_of(disks: &DiskList<MemoryDisk>) -> &[u8] {
     match disks.as_slice() {
