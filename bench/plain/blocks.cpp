@@ -6,6 +6,11 @@ namespace {
 
 constexpr size_t STATUS_RUNS = 64;
 constexpr uint64_t STATUS_RUN_LIMIT = 0xFFFFFFFF;
+#ifdef APART
+constexpr bool JOINS = false;
+#else
+constexpr bool JOINS = true;
+#endif
 
 } // namespace
 
@@ -110,7 +115,7 @@ Extents::Map::iterator Extents::carve(uint64_t first, uint64_t end)
 }
 
 // Maps blocks that were unmapped, before the extent `next`. Where they go on in the payload of the extent before them
-// they lengthen it: what was cut in pieces is one extent again.
+// they lengthen it: what was cut in pieces is one extent again. Built with APART it stays in pieces.
 void Extents::insert(Map::iterator next, uint64_t lba, uint32_t count, Place place)
 {
     mapped_ += count;
@@ -118,7 +123,7 @@ void Extents::insert(Map::iterator next, uint64_t lba, uint32_t count, Place pla
         auto before = std::prev(next);
         Extent &extent = before->second;
         uint64_t offset = extent.place.offset + uint64_t{extent.count} * block_length_;
-        if (end_of(before) == lba && extent.place.payload == place.payload && offset == place.offset) {
+        if (JOINS && end_of(before) == lba && extent.place.payload == place.payload && offset == place.offset) {
             extent.count += count;
             return;
         }
