@@ -5,18 +5,26 @@ import os
 from .entries import Actors, NotedUnit, text
 
 
-class RecordedUnit(NotedUnit):
-    """A unit whose kept entries are written out where its record is full, and in the end. Each is then dropped."""
-
-    def __init__(self, machine, number, actors, path):
-        super().__init__(machine, number, actors)
-        self.path = path
+class FoldedUnit(NotedUnit):
+    """A unit whose kept entries are written out by its `fold`, at the latest where its record is full. Each is then
+    dropped."""
 
     def is_full(self, act, served):
         if not super().is_full(act, served):
             return False
         self.fold()
         return super().is_full(act, served)
+
+    def fold(self):
+        raise NotImplementedError
+
+
+class RecordedUnit(FoldedUnit):
+    """A unit whose entries are written out where its record is full, and in the end."""
+
+    def __init__(self, machine, number, actors, path):
+        super().__init__(machine, number, actors)
+        self.path = path
 
     def fold(self):
         """Writes the kept entries behind those that were written; where the file can't be opened they stay."""

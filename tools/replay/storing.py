@@ -1,14 +1,15 @@
 """A plain server whose units go on with the journals of a folder, and record each entry before it is replied to."""
 
-from .entries import Actors, NotedUnit, text
+from .entries import Actors, text
 from .journals import Journal, path_of
+from .recording import FoldedUnit
 from .resuming import done_again, endings, go_on, next_nexus
 from .serving import Server
 
 
-class StoredUnit(NotedUnit):
-    """A unit whose entries go to its journal one by one. Those that end what ran before go there before the first, and
-    those that could not be recorded before the next one."""
+class StoredUnit(FoldedUnit):
+    """A unit whose entries go to its journal one by one. Those that end what ran before go there before the first.
+    Those that could not be recorded are tried again at the next act, also at one that finds the record full."""
 
     def __init__(self, machine, number, journal):
         super().__init__(machine, number)

@@ -19,6 +19,7 @@ from copymgr import Connection, Disk, Server
 from copymgr.server import can_store, report_of
 from replay import acts, entries, frames, journals, player, readback, resuming, storing, told
 from replay.entries import Entry, NotedUnit
+from replay.senses import RecordFull
 from replay.traces import STYLES, Trace
 
 NO_PROGRAM = None if can_store(support.PROGRAM) else f"no program that stores at {support.PROGRAM}"
@@ -214,6 +215,18 @@ class GoingOn(unittest.TestCase):
             self.assertEqual((unit.record, unit.folded, unit.payload), ([], 4, 0))
             data = pathlib.Path(self.folder, "journal-0").read_bytes()
             self.assertEqual([one.actor for one in opened(data)], [0, 1, 2, 3])
+
+    def test_a_full_record_is_recorded(self):
+        """An act that finds it full is refused only where that fails again."""
+        unit = self.stored([], SMALL).units[0]
+        with mock.patch.object(os, "fsync", side_effect=OSError()):
+            unit.act(1, 7, acts.Read(0, 1))
+            unit.act(1, 7, acts.Read(0, 1))
+            with self.assertRaises(RecordFull):
+                unit.act(2, 7, acts.Read(0, 1))
+        self.assertEqual((len(unit.record), unit.folded), (2, 0))
+        unit.act(3, 7, acts.Read(0, 1))
+        self.assertEqual((unit.record, unit.folded), ([], 3))
 
     def test_bad_histories(self):
         start = entry(1, acts.Start(1, 0, [(0, 1)], [b"\x11" * 512]))
