@@ -76,6 +76,8 @@ class Following:
         self.moment = entry.moment
         if entry.actor == player.PUMP:
             self.play(frames.Pump(entry.unit, entry.moment))
+        elif entry.actor not in self.waiting:
+            raise Differs(f"{told(entry)}: there is no such nexus")
         else:
             self.run(entry)
         self.last = entry.actor
@@ -83,8 +85,6 @@ class Following:
         judge_text(entry, entries.text(record[-1]) if record else b"")
 
     def run(self, entry):
-        if entry.actor not in self.waiting:
-            raise Differs(f"{told(entry)}: there is no such nexus")
         self.between += entry.actor in self.player.pending and self.last != entry.actor
         self.begin(entry.actor)
         if entry.actor not in self.player.pending:

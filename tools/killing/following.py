@@ -9,10 +9,19 @@ from replay.entries import Actors
 from replay.resuming import done_again, endings, forgotten
 
 
-def written_entry(record):
+# as an entry is followed, with all of it as it was read from a journal
+LifeEntry = collections.namedtuple("LifeEntry", [*written.Written._fields, "whole"])
+
+
+def life_entry(record):
     """A record of a journal as an entry that is followed."""
     entry = record.entry
-    return written.Written(*entry[:2], *entry[3:6], type(entry.act).__name__, record.text)
+    return LifeEntry(*entry[:2], *entry[3:6], type(entry.act).__name__, record.text, entry)
+
+
+def entries_of_life(records):
+    """The entries of all units in the order of their stamps."""
+    return written.merged([map(life_entry, of_unit) for of_unit in records])
 
 
 class LifeFollowing(Following):
@@ -47,6 +56,10 @@ class LifeFollowing(Following):
             unit.record.clear()
             forgotten(unit)
 
+    def replied(self):
+        """How many replies the entries give."""
+        return len(self.player.replies)
+
     def replies_of(self, nexus):
         return [reply for reply in self.player.replies if nexus_of(reply) == nexus]
 
@@ -54,7 +67,7 @@ class LifeFollowing(Following):
 def followed(machine, talkers, units, first, records):
     """The entries of a life, followed; or Differs."""
     following = LifeFollowing(machine, [talker.requests for talker in talkers], units, first)
-    for entry in written.merged([map(written_entry, of_unit) for of_unit in records]):
+    for entry in entries_of_life(records):
         following.follow(entry)
     following.begin_all()
     return following
@@ -68,7 +81,7 @@ def judge_replies(following, talkers, first):
         got = bytes(talker.source.bytes)
         if b"".join(replies).startswith(got):
             continue
-        if len(talker.statuses) > len(replies):
+        if len(talker.replies) > len(replies):
             command = following.player.pending[nexus].name if nexus in following.player.pending else "another command"
             raise Differs(f"nexus {nexus}: {command} was replied to, and not all of its entries are in the journals")
         raise Differs(f"nexus {nexus}: {compared.difference(got, [reply.name for reply in wanted], replies)}")

@@ -13,7 +13,7 @@ from histories.following import Differs, noted_units, unfolded
 from replay import frames, journals
 from replay.resuming import done_again, next_nexus
 
-from . import following, losing, talking
+from . import conversations, following, losing, talking
 
 # Moves of some pieces, and few blocks. What may run at once has room in each record.
 SHAPES = [
@@ -43,6 +43,12 @@ def some_kill(rng, is_power):
         first = rng.randint(OPENED, OPENED + 100)
         return Kill(how, f"{first}:{first + rng.choice([0, 1, 2, rng.randint(3, 40)])}")
     return Kill(how, rng.choice([rng.uniform(0, 0.05), rng.uniform(0, 0.6)]))
+
+
+def failing_calls(kill):
+    """How many calls fail at most."""
+    first, last = map(int, kill.at.split(":"))
+    return last - first + 1
 
 
 class Store(Server):
@@ -142,9 +148,9 @@ class Lives:
 
     # ---- what it left
 
-    def judge(self, talkers):
+    def judge(self, talkers, kill=None):
         try:
-            return self.judged(talkers)
+            return self.judged(talkers, kill)
         except Differs:
             self.keep(talkers)
             raise
@@ -157,19 +163,26 @@ class Lives:
                 with open(os.path.join(os.path.dirname(self.folder), name), "wb") as file:
                     file.write(data)
 
-    def judged(self, talkers):
+    def judged(self, talkers, kill):
         first = next_nexus([[record.entry for record in of_unit] for of_unit in self.records])
         added = self.read()
-        found = following.followed(MACHINE, talkers, self.units, first, added)
-        following.judge_replies(found, talkers, first)
+        found = self.followed(talkers, first, added, kill)
         acknowledged = following.judge_acknowledged(talkers, first, added)
-        replies = sum(len(talker.statuses) for talker in talkers)
+        replies = sum(len(talker.replies) for talker in talkers)
         self.counts.update(
             entries=sum(map(len, added)), replies=replies, acknowledged=acknowledged, ended=found.ended,
-            open=len(found.player.pending),
-            more=sum(map(len, map(found.replies_of, found.waiting))) - replies,
+            open=len(found.player.pending), more=found.replied() - replies,
         )
         found.forget()
+        return found
+
+    def followed(self, talkers, first, added, kill):
+        """The entries of a life, by which its replies are judged. Only while calls fail a record may be full."""
+        if kill and any(frames.FULL in talker.statuses for talker in talkers):
+            self.counts["full"] += 1
+            return conversations.judged(MACHINE, talkers, self.units, first, added, failing_calls(kill))
+        found = following.followed(MACHINE, talkers, self.units, first, added)
+        following.judge_replies(found, talkers, first)
         return found
 
     def read(self):
@@ -212,23 +225,10 @@ class Lives:
                 report = server.report(PATIENCE)
         except (Ended, subprocess.TimeoutExpired) as error:
             raise Differs(str(error)) from None
-        if kill and any(frames.FULL in talker.statuses for talker in talkers):
-            self.take_over(talkers)
-        elif self.judge(talkers).player.pending:
+        if self.judge(talkers, kill).player.pending:
             raise Differs("not all commands of a life that is not killed have all of their entries in the journals")
         self.judge_report(report, talkers)
         self.judge_anew()
-
-    def take_over(self, talkers):
-        """While calls fail, entries stay in a record, which may then be full. The plain replay knows nothing of that, so
-        only the WRITEs that were done are looked for, and the units stand as the journals say."""
-        first = next_nexus([[record.entry for record in of_unit] for of_unit in self.records])
-        added = self.read()
-        self.counts.update(
-            entries=sum(map(len, added)), replies=sum(len(talker.statuses) for talker in talkers),
-            acknowledged=following.judge_acknowledged(talkers, first, added), full=1,
-        )
-        self.units = [self.done_anew(unit.number) for unit in self.units]
 
     def done_anew(self, number):
         """A new unit that did all entries of its journal."""

@@ -73,19 +73,29 @@ class Talker:
         self.rng = rng
         self.wanted = Requests(rng, machine, texts)
         self.asking = talking.Asking(rng, self.wanted, texts)
-        self.requests, self.statuses = [], []
+        # the bytes of each reply that came whole
+        self.requests, self.replies = [], []
         self.is_cut = False
         self.link = socket.create_connection(address, SECONDS)
         self.link.setsockopt(socket.IPPROTO_TCP, socket.TCP_NODELAY, 1)
         self.source = Source(self.link)
+
+    @property
+    def statuses(self):
+        return [reply[0] for reply in self.replies]
+
+    def rest(self):
+        """What came behind the last whole reply."""
+        return bytes(self.source.bytes[sum(map(len, self.replies)) :])
 
     def ask(self, *requests):
         """Sends requests at once, and takes the replies."""
         self.requests += requests
         self.link.sendall(b"".join(map(frames.request_bytes, requests)))
         for request in requests:
+            begin = self.source.at
             reply = self.source.reply()
-            self.statuses.append(reply.status)
+            self.replies.append(bytes(self.source.bytes[begin : self.source.at]))
             self.note(request, reply)
 
     def note(self, request, reply):

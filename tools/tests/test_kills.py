@@ -8,16 +8,16 @@ import shutil
 import subprocess
 import sys
 import tempfile
-import types
 import unittest
+from unittest import mock
 
 from . import support
-from .test_journals import ENTRIES, NO_PROGRAM, WRITE, opened
+from .test_journals import ENTRIES, NO_PROGRAM, opened
 
 # pylint: disable=wrong-import-position
-from killing import losing
-from killing.lives import MACHINE, Lives
-from replay import entries, frames, journals
+from histories.following import Differs
+from killing import lives, losing
+from replay import frames, journals
 
 HAS_COMPILER = shutil.which(os.environ.get("CC", "cc"))
 LOST = [losing.Write(0, 4, b"abcd", b"ABCD"), losing.Write(6, 4, b"", b"XY")]
@@ -97,6 +97,49 @@ from replay import storing
 storing.next_nexus = lambda histories: 0
 """
 
+# as each reply is, or `other` than it is
+REPLIES = """
+from replay import frames, serving
+right = serving.Server.reply
+def reply(self, nexus, request):
+    return other(self, request, right(self, nexus, request))
+serving.Server.reply = reply
+"""
+# a READ that was done is TASK SET FULL where it left little room
+FULL_AND_DONE = REPLIES + """
+def other(server, request, found):
+    kept = sum(len(unit.record) for unit in server.units if unit.number == request.unit)
+    return frames.full() if kept >= 11 and request.cdb[0] in (0x28, 0x88) else found
+"""
+# since a record was full a READ has another last byte
+WRONG_BEHIND_FULL = REPLIES + """
+were_full = []
+def other(server, request, found):
+    if found[0] == frames.FULL:
+        were_full.append(request)
+    elif were_full and request.cdb[0] in (0x28, 0x88) and len(found) > 6:
+        return found[:-1] + bytes([found[-1] ^ 1])
+    return found
+"""
+# a record is full as soon as it has an entry
+FULL_TOO_EARLY = """
+from replay import storing
+right = storing.StoredUnit.is_full
+def is_full(self, act, served):
+    if self.record:
+        self.fold()
+    return right(self, act, served) or (served is None and len(self.record) > 0)
+storing.StoredUnit.is_full = is_full
+"""
+
+
+def another(folder, patch):
+    """The path of that server."""
+    path = pathlib.Path(folder, "another")
+    path.write_text(ANOTHER.format(python=sys.executable, tools=support.TOOLS, patch=patch), encoding="utf-8")
+    path.chmod(0o755)
+    return str(path)
+
 
 class Losing(unittest.TestCase):
     def notes(self, writes):
@@ -173,16 +216,54 @@ class PowerCuts(unittest.TestCase):
         self.assertGreater(lost, 0)
 
 
-class RecordsAreFull(unittest.TestCase):
-    def test_units_stand_as_the_journals_say(self):
-        with tempfile.TemporaryDirectory() as folder:
-            lives = Lives([], folder, "1")
-            files = [journals.Journal(journals.path_of(lives.folder, unit), MACHINE, unit) for unit in range(4)]
-            files[0].add(entries.text(WRITE))
-            lives.take_over([types.SimpleNamespace(statuses=[frames.GOOD, frames.FULL], acknowledged=list)])
-            self.assertEqual(lives.units[0].held, {3: WRITE.act.blocks[0]})
-            self.assertEqual([unit.stamp for unit in lives.units], [WRITE.stamp, 0, 0, 0])
-            self.assertEqual((lives.counts["full"], lives.counts["entries"], lives.counts["replies"]), (1, 1, 2))
+@unittest.skipUnless(HAS_COMPILER, "there is no C compiler")
+class FullRecords(unittest.TestCase):
+    """Lives of units with little room in their records, in which calls fail."""
+
+    def setUp(self):
+        folder = tempfile.TemporaryDirectory()
+        self.addCleanup(folder.cleanup)
+        self.folder = folder.name
+        shapes = [shape._replace(entries=14) for shape in lives.SHAPES]
+        for name, value in (("SHAPES", shapes), ("MACHINE", frames.Machine(frames.SECRET, shapes))):
+            patch = mock.patch.object(lives, name, value)
+            patch.start()
+            self.addCleanup(patch.stop)
+
+    def lived(self, words, count):
+        """What was counted over so many lives."""
+        found = lives.Lives(words, self.folder, "1", losing.library(self.folder))
+        for _ in range(count):
+            try:
+                found.live(lives.Kill("fail", "41:90"))
+            except Differs as differs:
+                if "Operation not permitted" in str(differs):
+                    self.skipTest(f"no sockets here: {differs}")
+                raise
+        return found.counts
+
+    def found(self, patch, why):
+        with self.assertRaisesRegex(Differs, why):
+            self.lived([another(self.folder, patch)], 20)
+
+    def test_the_plain_server(self):
+        counts = self.lived([support.TOOLS / "plain-store"], 4)
+        self.assertEqual(counts["failing"], 4)
+        self.assertGreater(counts["full"], 0)
+
+    @unittest.skipIf(NO_PROGRAM, NO_PROGRAM)
+    def test_the_program(self):
+        counts = self.lived([support.PROGRAM, "store"], 4)
+        self.assertGreater(counts["full"], 0)
+
+    def test_full_with_an_entry_is_found(self):
+        self.found(FULL_AND_DONE, "wants the|no command asked for it|no act without an entry")
+
+    def test_a_wrong_reply_behind_full_is_found(self):
+        self.found(WRONG_BEHIND_FULL, "differs from its byte")
+
+    def test_full_while_there_is_room_is_found(self):
+        self.found(FULL_TOO_EARLY, "no act without an entry can have found a record full")
 
 
 class Tool(unittest.TestCase):
@@ -190,12 +271,6 @@ class Tool(unittest.TestCase):
         folder = tempfile.TemporaryDirectory()
         self.addCleanup(folder.cleanup)
         self.folder = folder.name
-
-    def program(self, patch):
-        path = pathlib.Path(self.folder, "another")
-        path.write_text(ANOTHER.format(python=sys.executable, tools=support.TOOLS, patch=patch), encoding="utf-8")
-        path.chmod(0o755)
-        return str(path)
 
     def killed(self, program, *words):
         """The lines of a run, without the folders that it kept."""
@@ -219,16 +294,16 @@ class Tool(unittest.TestCase):
         self.assertEqual(self.killed("-", "--kills", "4", "--lives", "2", "--power")[-1], "4 passed, 0 failed")
 
     def test_replies_before_records_are_found(self):
-        lines = self.killed(self.program(LATE), "--kills", "40", "--failures", "1")
+        lines = self.killed(another(self.folder, LATE), "--kills", "40", "--failures", "1")
         # what the history is then depends on which entries are missing
         self.assertRegex("\n".join(lines), "FAILED: .* (was replied to|differs from its byte)")
 
     def test_operations_that_run_on_are_found(self):
-        lines = self.killed(self.program(NO_ENDINGS), "--kills", "40", "--failures", "1")
+        lines = self.killed(another(self.folder, NO_ENDINGS), "--kills", "40", "--failures", "1")
         self.assertRegex("\n".join(lines), "FAILED: .* differs from its byte")
 
     def test_numbers_that_are_given_twice_are_found(self):
-        lines = self.killed(self.program(SAME_NEXUS), "--kills", "40", "--failures", "1")
+        lines = self.killed(another(self.folder, SAME_NEXUS), "--kills", "40", "--failures", "1")
         self.assertRegex("\n".join(lines), "FAILED: .* there is no such nexus")
 
     @unittest.skipIf(NO_PROGRAM, NO_PROGRAM)
