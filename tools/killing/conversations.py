@@ -53,14 +53,13 @@ class Room:
         self.stands.append(standing(unit))
 
     def places(self, done, place):
-        """Where an act of a nexus may have come that has these entries, so many of them before it: behind how many
-        entries of the unit."""
+        """Behind how many entries of the unit an act may have come, of a nexus with these entries, behind so many."""
         before = [own.place for own in done[:place] if own.entry.unit == self.stands[0].number]
         behind = [own.place for own in done[place:] if own.entry.unit == self.stands[0].number]
         return range(before[-1] + 1 if before else 0, behind[0] + 1 if behind else len(self.stands))
 
     def may_lack(self, actor, act, place, unrecorded):
-        """Whether there may have been none for an act behind so many entries, where so many acts' were unrecorded."""
+        """Whether there may have been none for an act behind so many entries, if so many met a call that failed."""
         unit, oldest = copy.copy(self.stands[place]), self.stands[max(0, place - unrecorded - self.endings)]
         unit.shape, unit.folded = self.shape, oldest.entries
         unit.payload -= oldest.payload
