@@ -15,11 +15,10 @@ from replay.resuming import done_again, next_nexus
 
 from . import conversations, following, losing, talking
 
-# Moves of some pieces, and few blocks. What may run at once has room in each record, in two of them for little more than
-# a WRITE, so that they are full soon where calls fail.
+# Moves of some pieces, and few blocks. What may run at once has room in each record.
 SHAPES = [
-    Shape(5000, quota=2500, entries=400, payload=8704), Shape(3000, entries=400, payload=100_000),
-    Shape(40, 4096, quota=25, entries=400, payload=80_000), Shape(60, entries=400, payload=8704),
+    Shape(5000, quota=2500, entries=400, payload=20_000), Shape(3000, entries=400, payload=100_000),
+    Shape(40, 4096, quota=25, entries=400, payload=80_000), Shape(60, entries=400, payload=20_000),
 ]
 MACHINE = frames.Machine(frames.SECRET, SHAPES)
 CONNECTIONS = 4
@@ -42,7 +41,7 @@ def some_kill(rng, is_power):
         return Kill(how, int(10 ** rng.uniform(0, 2.7)))
     if how == "fail":
         first = rng.randint(OPENED, OPENED + 100)
-        return Kill(how, f"{first}:{first + rng.choice([0, 1, 2, rng.randint(3, 60)])}")
+        return Kill(how, f"{first}:{first + rng.choice([0, 1, 2, rng.randint(3, 40)])}")
     return Kill(how, rng.choice([rng.uniform(0, 0.05), rng.uniform(0, 0.6)]))
 
 
