@@ -294,16 +294,16 @@ class Tool(unittest.TestCase):
         self.assertEqual(self.killed("-", "--kills", "4", "--lives", "2", "--power")[-1], "4 passed, 0 failed")
 
     def test_replies_before_records_are_found(self):
-        lines = self.killed(another(self.folder, LATE), "--kills", "40", "--failures", "1")
+        lines = self.killed(another(self.folder, LATE), "--kills", "400", "--failures", "1")
         # what the history is then depends on which entries are missing
         self.assertRegex("\n".join(lines), "FAILED: .* (was replied to|differs from its byte)")
 
     def test_operations_that_run_on_are_found(self):
-        lines = self.killed(another(self.folder, NO_ENDINGS), "--kills", "40", "--failures", "1")
+        lines = self.killed(another(self.folder, NO_ENDINGS), "--kills", "400", "--failures", "1")
         self.assertRegex("\n".join(lines), "FAILED: .* differs from its byte")
 
     def test_numbers_that_are_given_twice_are_found(self):
-        lines = self.killed(another(self.folder, SAME_NEXUS), "--kills", "40", "--failures", "1")
+        lines = self.killed(another(self.folder, SAME_NEXUS), "--kills", "400", "--failures", "1")
         self.assertRegex("\n".join(lines), "FAILED: .* there is no such nexus")
 
     @unittest.skipIf(NO_PROGRAM, NO_PROGRAM)
