@@ -1,6 +1,7 @@
 """What the tests of the target have in common: units behind a target, and a small initiator."""
 
 import pathlib
+import signal
 import socket
 import struct
 import subprocess
@@ -170,5 +171,8 @@ class Initiator:
 
 
 def run_command(*words):
-    """The command iscsi-target as a process."""
-    return subprocess.Popen([COMMAND, *words], stderr=subprocess.PIPE)
+    """The command iscsi-target as a process, which SIGINT reaches also where the tests run in the background of a shell."""
+    # pylint: disable-next=subprocess-popen-preexec-fn
+    return subprocess.Popen(
+        [COMMAND, *words], stderr=subprocess.PIPE, preexec_fn=lambda: signal.signal(signal.SIGINT, signal.SIG_DFL)
+    )
