@@ -65,13 +65,13 @@ fn populate(timeout: u32, ranges: RangeList) -> Act {
     }
 }
 
-fn start(ranges: RangeList, rod: BlockList) -> Act {
-    Act::Start {
+fn start(alloc: Global, ranges: RangeList, rod: BlockList) -> Result<Act, OutOfMemory> {
+    Ok(Act::Start {
         id: 1,
         background: true,
         ranges,
-        rod,
-    }
+        rod: RodBlocks::new(alloc, rod)?,
+    })
 }
 
 fn close(state: CopyState) -> Act {
@@ -155,11 +155,18 @@ fn texts_of_tokens_have_limits(rt: HostRuntime) -> Result<(), Fail> {
 #[test]
 fn acts_are_copied(rt: HostRuntime) -> Result<(), Fail> {
     let rod = holes(&rt, 512, 4)?;
-    let act = start(ranges(&rt, 5, 9)?, rod);
+    let act = start(rt.alloc(), ranges(&rt, 5, 9)?, rod)?;
     let act = act.copy(rt.alloc())?;
     assert!(rt;
-        matches!(&act, Act::Start { ranges, rod, .. } if ranges.total() == 4 && rod.blocks() == 4)
+        matches!(&act, Act::Start { ranges, rod, .. } if ranges.total() == 4 && rod.list().blocks() == 4)
     );
+    Ok(())
+}
+
+#[test]
+fn blocks_of_a_start_move_in_and_out(rt: HostRuntime) -> Result<(), Fail> {
+    let rod = RodBlocks::new(rt.alloc(), holes(&rt, 512, 4)?)?;
+    assert_eq!(rt; rod.into_list().blocks(), 4);
     Ok(())
 }
 
@@ -299,7 +306,7 @@ fn starts_have_limits(rt: HostRuntime) -> Result<(), Fail> {
         (2, 4096, 4, false),
     ] {
         let rod = holes(&rt, block_length, count)?;
-        let act = start(ranges(&rt, 0, second)?, rod);
+        let act = start(rt.alloc(), ranges(&rt, 0, second)?, rod)?;
         assert_eq!(rt; allows(&config, act), allowed, "{count} blocks");
     }
     Ok(())

@@ -1,7 +1,7 @@
 -- A table in which one job is changed
-use Rattle.std.proofs.Common.{◌≡◌, suc, ◌+◌, List, [], ◌∷◌, length, refl, ap, ◌∙◌, arith, one-add, true, false, Bool}
-use Rattle.std.specs.Prelude.{◌||◌, Some, find, cond, set, if◌then◌else◌}
-use Rattle.std.specs.List.{list_any, position_or_len}
+use Rattle.std.proofs.Common.{◌≡◌, suc, ◌+◌, ◌≤◌, List, [], ◌∷◌, length, refl, ap, ◌∙◌, arith, true, false, Bool}
+use Rattle.std.specs.Prelude.{◌||◌, Some, find, cond, if◌then◌else◌}
+use Rattle.std.specs.List.{list_any}
 use Rattle.copy_jobs.specs.declared.key.Key.{Key}
 use Rattle.copy_jobs.specs.declared.job.Job.{Job}
 use Rattle.copy_jobs.specs.declared.job.Work.{Work}
@@ -10,18 +10,6 @@ use Rattle.copy_jobs.specs.Changes.{change, with_work}
 use Rattle.copy_jobs.specs.Tables.{KeysApart}
 use Rattle.copy_jobs.specs.inner.Tables.{IsJob, AllJobs}
 use Rattle.copy_jobs.proofs.Counts.{one_if, running-more, reserved-more}
-
--- the change is a write at the job's place
-pub change-set : (test : Job → Bool) (f : Job → Job) (jobs : List Job) (job : Job) → find test jobs ≡ Some job
-    → change test f jobs ≡ set jobs (position_or_len test jobs) (f job)
-change-set test f [] job e = cc
-change-set test f (x ∷ xs) job e = go (test x) refl e (change-set test f xs job)
-  where
-    go : (t : Bool) → test x ≡ t → cond t (Some x) (find test xs) ≡ Some job
-        → (find test xs ≡ Some job → change test f xs ≡ set xs (position_or_len test xs) (f job))
-        → change test f (x ∷ xs) ≡ set (x ∷ xs) (position_or_len test (x ∷ xs)) (f job)
-    go true h g later = let same : x ≡ job = cc in rw (h, same) refl
-    go false h g later = let rest = later g in rw (h, one-add, rest) refl
 
 pub change-length : (test : Job → Bool) (f : Job → Job) (jobs : List Job) → length (change test f jobs) ≡ length jobs
 change-length test f [] = refl
@@ -69,6 +57,18 @@ change-reserved test f (x ∷ xs) job e = go (test x) e (change-reserved test f 
         let rest = later g in
         let now : reserved (x ∷ change test f xs) ≡ reserved_for x.work + reserved (change test f xs) = reserved-more x (change test f xs) in
         omega (arith, was, now)
+
+-- what is kept free for one job is kept free for all
+pub reserved-one : (jobs : List Job) (test : Job → Bool) (job : Job) → find test jobs ≡ Some job → reserved_for job.work ≤ reserved jobs
+reserved-one [] test job e = cc
+reserved-one (x ∷ xs) test job e = go (test x) e (reserved-one xs test job)
+  where
+    all : reserved (x ∷ xs) ≡ reserved_for x.work + reserved xs
+    all = reserved-more x xs
+
+    go : (t : Bool) → cond t (Some x) (find test xs) ≡ Some job → (find test xs ≡ Some job → reserved_for job.work ≤ reserved xs) → reserved_for job.work ≤ reserved (x ∷ xs)
+    go true f later = let same : job ≡ x = cc in rw same (omega (arith, all))
+    go false f later = let rest = later f in omega (arith, all, rest)
 
 -- ---- a change of the work alone
 

@@ -1,6 +1,6 @@
 -- A table with one more job is a table
 use Rattle.std.proofs.Common.{◌≡◌, ℕ, suc, ◌+◌, ◌<◌, ◌≤◌, List, [], ◌∷◌, ◌++◌, length, length-append, refl, ap, ◌∙◌, arith, true, false, Bool}
-use Rattle.std.specs.Prelude.{◌&&◌, ◌==◌, not, nat_le, filter, cond, if◌then◌else◌}
+use Rattle.std.specs.Prelude.{◌&&◌, ◌==◌, not, nat_le, Option, Some, None, find, filter, cond, if◌then◌else◌}
 use Rattle.std.specs.List.{list_any}
 use Rattle.std.proofs.lemmas.Bool.Decides.{nat_tests}
 use Rattle.std.proofs.lemmas.List.Elements.{filter-append}
@@ -10,6 +10,8 @@ use Rattle.copy_jobs.specs.declared.key.Key.{Key}
 use Rattle.copy_jobs.specs.declared.job.Job.{Job}
 use Rattle.copy_jobs.specs.Jobs.{has_key, is_running, has_ended, runs_as, is_busy, is_crowded, running, reserved, reserved_for}
 use Rattle.copy_jobs.specs.Keeping.{without_first, with_room, is_other, keep}
+use Rattle.copy_jobs.proofs.Entries.{find-none, without-pushed}
+use Rattle.copy_jobs.proofs.Newest.{all-run}
 use Rattle.copy_jobs.specs.Tables.{KeysApart}
 use Rattle.copy_jobs.specs.inner.Tables.{IsJob, AllJobs, IsTable}
 use Rattle.copy_jobs.proofs.Lists.{or_first, or_later, any-append}
@@ -39,7 +41,7 @@ room-length jobs few runs = go (length jobs == kept_operations) refl
     go false e = grind (arith, nat_tests)
 
 -- no job that stays has the key of a new one, if none of them runs
-fresh-key : (key : Key) (jobs : List Job) → is_busy key jobs ≡ false → list_any (has_key key) (filter (is_other key) jobs) ≡ false
+pub fresh-key : (key : Key) (jobs : List Job) → is_busy key jobs ≡ false → list_any (has_key key) (filter (is_other key) jobs) ≡ false
 fresh-key key [] idle = refl
 fresh-key key (job ∷ jobs) idle =
     go (is_running job) (has_key key job) refl (or_first (runs_as key job) (is_busy key jobs) idle) (fresh-key key jobs (or_later (runs_as key job) (is_busy key jobs) idle))
@@ -51,7 +53,7 @@ fresh-key key (job ∷ jobs) idle =
     go false true e out later = later
     go false false e out later = rw (e, later) refl
 
-push-apart : (jobs : List Job) (job : Job) → KeysApart jobs → list_any (has_key job.key) jobs ≡ false → KeysApart (jobs ++ job ∷ [])
+pub push-apart : (jobs : List Job) (job : Job) → KeysApart jobs → list_any (has_key job.key) jobs ≡ false → KeysApart (jobs ++ job ∷ [])
 push-apart [] job a e = (refl, tt)
 push-apart (x ∷ xs) job a e =
     let other : has_key x.key job ≡ false = same_key-sym x.key job.key ∙ or_first (has_key job.key x) (list_any (has_key job.key) xs) e in
@@ -106,3 +108,29 @@ kept-table jobs job own_running own_reserved is new idle room =
     go : (t : Bool) → length (running (keep jobs job)) ≡ length (running jobs) + one_if t → (t ≡ true → is_crowded jobs ≡ false) → length (running (keep jobs job)) ≤ running_operations
     go true e some = let free : nat_le 64 (length (running jobs)) ≡ false = some refl in grind (arith, nat_tests)
     go false e some = let few = is.few_running in omega arith
+
+-- ---- the jobs with the new one, before one makes room
+
+pub kept-less : (jobs : List Job) (job : Job) → length (filter (is_other job.key) jobs ++ job ∷ []) ≤ kept_operations → filter (is_other job.key) jobs ++ job ∷ [] ≡ keep jobs job
+kept-less jobs job low =
+    let others = filter (is_other job.key) jobs in
+    let long : length (others ++ job ∷ []) ≡ length others + 1 = length-append others (job ∷ []) in
+    let free : (length others == kept_operations) ≡ false = grind (arith, nat_tests) in
+    rw free refl
+
+pub kept-full : (jobs : List Job) (job : Job) → length jobs ≤ kept_operations → length (running jobs) ≤ running_operations
+    → kept_operations < length (filter (is_other job.key) jobs ++ job ∷ [])
+    → without_first has_ended (filter (is_other job.key) jobs ++ job ∷ []) ≡ keep jobs job
+kept-full jobs job few runs more = go (find has_ended (filter (is_other job.key) jobs)) refl
+  where
+    go : (o : Option Job) → find has_ended (filter (is_other job.key) jobs) ≡ o → without_first has_ended (filter (is_other job.key) jobs ++ job ∷ []) ≡ keep jobs job
+    go (Some ended) e =
+        let long : length (filter (is_other job.key) jobs ++ job ∷ []) ≡ length (filter (is_other job.key) jobs) + 1 = length-append (filter (is_other job.key) jobs) (job ∷ []) in
+        let short = trims-length jobs (filter (is_other job.key) jobs) (trims-filter job.key jobs) in
+        let full : (length (filter (is_other job.key) jobs) == kept_operations) ≡ true = grind (arith, nat_tests) in
+        rw full (without-pushed has_ended (filter (is_other job.key) jobs) job ended e)
+    go None e =
+        let long : length (filter (is_other job.key) jobs ++ job ∷ []) ≡ length (filter (is_other job.key) jobs) + 1 = length-append (filter (is_other job.key) jobs) (job ∷ []) in
+        let all = all-run (filter (is_other job.key) jobs) (find-none has_ended (filter (is_other job.key) jobs) e) in
+        let same : length (running (filter (is_other job.key) jobs)) ≡ length (running jobs) = ap length (trims-running jobs (filter (is_other job.key) jobs) (trims-filter job.key jobs)) in
+        absurd (omega arith)

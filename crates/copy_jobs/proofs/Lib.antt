@@ -5,10 +5,11 @@ pub mod Trims
 pub mod Counts
 pub mod Keeps
 pub mod Found
-mod Highest
-pub mod Places
 pub mod Changed
 pub mod Stepping
 pub mod Next
-pub mod Later
+pub mod Entries
+pub mod KeyEq
+pub mod Own
+pub mod Newest
 pub mod PublicLaws

@@ -7,16 +7,18 @@ use Rattle.lba_ranges.specs.HeldBlocks.{HeldBlocks}
 use Rattle.cm_history.specs.Bounds.{piece_blocks}
 use Rattle.copy_jobs.specs.declared.key.Key.{Key}
 use Rattle.copy_jobs.specs.declared.job.Job.{Job}
+use Rattle.copy_jobs.specs.declared.job.Work.{Work}
+use Rattle.copy_jobs.specs.declared.job.Work.TheVariants.{Populated, Writing, Copying}
 use Rattle.copy_jobs.specs.declared.piece.NextPiece.{NextPiece}
 use Rattle.copy_jobs.specs.Jobs.{has_key, is_running, runs_as}
 use Rattle.copy_jobs.specs.inner.Jobs.{is_copying}
 use Rattle.copy_jobs.specs.Pieces.{is_foreground, is_background, is_next, piece_length, next_length, IsNextPiece}
-use Rattle.copy_jobs.specs.inner.Pieces.{IsPieceOf}
+use Rattle.copy_jobs.specs.inner.Pieces.{is_writing, IsPieceOf}
 use Rattle.copy_jobs.specs.Tables.{KeysApart}
 use Rattle.copy_jobs.specs.inner.Tables.{IsJob}
 use Rattle.copy_jobs.proofs.Lists.{or_first, or_later}
 use Rattle.copy_jobs.proofs.SameKeys.{same_key-sym, same_key-refl}
-use Rattle.cm_history.proofs.PublicLaws.{and_first}
+use Rattle.cm_history.proofs.PublicLaws.{and_first, and_second}
 use Rattle.copy_jobs.proofs.Found.{find-any, find-passes}
 use Rattle.copy_jobs.proofs.Cuts.{length-cut}
 
@@ -84,3 +86,18 @@ told-busy key (x ∷ xs) blocks e = go (runs_as key x) e (told-busy key xs block
         → (next_length key xs ≡ Some blocks → list_any (runs_as key) xs ≡ true) → (t || list_any (runs_as key) xs) ≡ true
     go true f later = refl
     go false f later = later f
+
+-- a job that is to write writes
+pub next-writes : (key : Option Key) (job : Job) → is_next key job ≡ true → is_writing job.work ≡ true
+next-writes (Some key) job e = of job.work (and_second (runs_as key job) (is_foreground job.work) e)
+  where
+    of : (work : Work) → is_foreground work ≡ true → is_writing work ≡ true
+    of (Populated serial blocks) h = cc
+    of (Writing write) h = refl
+    of (Copying result) h = cc
+next-writes None job e = of job.work (and_second (is_running job) (is_background job.work) e)
+  where
+    of : (work : Work) → is_background work ≡ true → is_writing work ≡ true
+    of (Populated serial blocks) h = cc
+    of (Writing write) h = refl
+    of (Copying result) h = cc

@@ -1,12 +1,12 @@
-ghost use Rattle.std.specs.Prelude.{◌≡◌, ◌+◌, ◌<◌, ◌≤◌, length, IfOk, IfSome, None, true, false};
+ghost use Rattle.std.specs.Prelude.{◌≡◌, ◌&&◌, ◌+◌, ◌<◌, ◌≤◌, length, IfOk, IfSome, None, true, false};
 ghost use Rattle.cm_history.specs.Operations.{is_running_state};
-ghost use Rattle.copy_jobs.specs.Jobs.{has_key, is_running_work, is_running, runs_as, has_ended, reserved_to_write, reserved_for};
-ghost use Rattle.copy_jobs.specs.Keeping.{is_other};
+ghost use Rattle.copy_jobs.specs.Jobs.{is_running_work, reserved_to_write, reserved_for};
 ghost use Rattle.copy_jobs.specs.Changes.{moved_write};
-ghost use Rattle.copy_jobs.specs.Pieces.{is_next, runs_in_background, is_foreground, is_background, IsPiece};
+ghost use Rattle.copy_jobs.specs.Pieces.{is_foreground, is_background, IsPiece};
 ghost use Rattle.copy_jobs.specs.inner.Pieces.{is_writing, IsPieceOf};
 ghost use Rattle.copy_jobs.specs.Reports.{report_of, result_of};
-ghost use Rattle.copy_jobs.specs.Unended.{is_unended};
+ghost use Rattle.copy_jobs.specs.declared.job.Job.{Job};
+ghost use Rattle.copy_jobs.specs.inner.Sought.{is_sought};
 ghost use Rattle.copy_jobs.specs.inner.Steps.{stepped, MayTake};
 ghost use Rattle.copy_jobs.specs.inner.Tables.{IsWriteJob, IsWork};
 
@@ -127,6 +127,13 @@ impl Work {
         }
     }
 
+    /// It runs, and the initiator has it written.
+    pub(crate) fn runs_in_foreground(&self) -> bool
+        ensures { result ≡ (is_running_work self.now && is_foreground self.now) }
+    {
+        self.is_running() && self.is_foreground()
+    }
+
     /// The initiator has it written.
     fn is_foreground(&self) -> bool
         ensures { result ≡ is_foreground self.now }
@@ -134,6 +141,18 @@ impl Work {
         match self {
             Work::Writing(write) => !write.background,
             _ => false,
+        }
+    }
+
+    /// It is one of those that are looked for.
+    pub(crate) fn is(&self, sought: Sought) -> bool
+        ensures { result ≡ is_sought sought self.now }
+    {
+        match sought {
+            Sought::Ended => !self.is_running(),
+            Sought::Running { background } => {
+                self.is_running() && self.is_background() == background
+            }
         }
     }
 
@@ -198,6 +217,23 @@ impl Work {
             },
         }
     }
+
+    /// The next piece, if it writes; `None` of other work.
+    pub(crate) fn next_piece(
+        &self,
+        alloc: Global,
+        key: Key,
+    ) -> Result<Option<NextPiece>, OutOfMemory>
+        requires work { IsWork self.now }
+        requires runs { is_running_work self.now ≡ true }
+        ensures writes { IfOk result (λ piece. piece ≡ None → is_writing self.now ≡ false) }
+        ensures piece { IfOk result (λ piece. IfSome piece (λ piece. IsPieceOf (record { key = key; work = self.now }) piece)) }
+    {
+        match self {
+            Work::Writing(write) => Ok(Some(write.next(alloc, key)?)),
+            _ => Ok(None),
+        }
+    }
 }
 
 /// An operation that is kept.
@@ -207,67 +243,11 @@ pub struct Job {
     pub work: Work,
 }
 
-impl Job {
-    pub(crate) fn has_key(&self, key: Key) -> bool
-        ensures { result ≡ has_key key self.now }
-    {
-        key.is(self.key)
-    }
-
-    pub(crate) fn has_ended(&self) -> bool
-        ensures { result ≡ has_ended self.now }
-    {
-        !self.work.is_running()
-    }
-
-    /// It runs, and the key is its own.
-    pub(crate) fn runs_as(&self, key: Key) -> bool
-        ensures { result ≡ runs_as key self.now }
-    {
-        self.work.is_running() && self.has_key(key)
-    }
-
-    /// It has not ended, or has another key.
-    pub(crate) fn is_other(&self, key: Key) -> bool
-        ensures { result ≡ is_other key self.now }
-    {
-        !(self.has_ended() && self.has_key(key))
-    }
-
-    /// It is to write: in the foreground as the key, or without a key in the background.
-    pub(crate) fn is_next(&self, key: Option<Key>) -> bool
-        ensures { result ≡ is_next key self.now }
-    {
-        match key {
-            Some(key) => self.runs_as(key) && self.work.is_foreground(),
-            None => self.work.is_running() && self.work.is_background(),
-        }
-    }
-
-    /// It runs in the background as the key.
-    pub(crate) fn runs_in_background(&self, key: Key) -> bool
-        ensures { result ≡ runs_in_background key self.now }
-    {
-        self.runs_as(key) && self.work.is_background()
-    }
-
-    /// It runs, and no pump writes it: it goes on, and comes to its end, only as its initiator asks.
-    pub(crate) fn is_unended(&self) -> bool
-        ensures { result ≡ is_unended self.now }
-    {
-        self.work.is_running() && !self.work.is_background()
-    }
-
-    /// The next piece, if it writes; `None` of other work.
-    pub(crate) fn next_piece(&self, alloc: Global) -> Result<Option<NextPiece>, OutOfMemory>
-        requires work { IsWork self.now.work }
-        requires runs { is_running self.now ≡ true }
-        ensures writes { IfOk result (λ piece. piece ≡ None → is_writing self.now.work ≡ false) }
-        ensures piece { IfOk result (λ piece. IfSome piece (λ piece. IsPieceOf self.now piece)) }
-    {
-        match &self.work {
-            Work::Writing(write) => Ok(Some(write.next(alloc, self.key)?)),
-            _ => Ok(None),
-        }
-    }
+/// Which operation is looked for.
+#[derive(Drop, Clone, Copy)]
+pub(crate) enum Sought {
+    /// One that has ended.
+    Ended,
+    /// One that runs: the pump writes it, or it goes on, and comes to its end, only as its initiator asks.
+    Running { background: bool },
 }

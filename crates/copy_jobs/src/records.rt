@@ -1,115 +1,63 @@
-// The records in their order: which stay, which makes room, and where one that runs stands.
-ghost use Rattle.std.specs.Prelude.{◌≡◌, ◌-◌, ◌≤◌, ◌<◌, true, false, OnOk, OnErr, IfSome, IfNone, length, filter, find, take};
-ghost use Rattle.std.specs.List.{list_any, position_or_len};
-ghost use Rattle.std.specs.VecDeque.{deque_len, deque_capacity};
-ghost use Rattle.copy_jobs.specs.Jobs.{has_key, is_running, running as running_jobs, runs_as, is_busy};
-ghost use Rattle.copy_jobs.specs.Keeping.{is_other, keep, with_room};
+// What is kept of the operations, each found by its key: which stays, which makes room, and which was kept first.
+ghost use Rattle.std.specs.Prelude.{◌≡◌, ◌-◌, ◌^◌, ◌≤◌, OnOk, OnErr, length, find, false};
+ghost use Rattle.std.specs.Option.{option_map};
+ghost use Rattle.cm_history.specs.Bounds.{kept_operations, running_operations};
+ghost use Rattle.copy_jobs.specs.declared.job.Job.{Job};
+ghost use Rattle.copy_jobs.specs.Jobs.{has_ended, is_busy, running};
+ghost use Rattle.copy_jobs.specs.Keeping.{keep, without_first};
 ghost use Rattle.copy_jobs.specs.Tables.{KeysApart};
-ghost use Rattle.copy_jobs.specs.inner.Tables.{AreUpTo};
+ghost use Rattle.copy_jobs.specs.inner.Entries.{jobs_of};
+ghost use Rattle.copy_jobs.specs.inner.Sought.{is_sought};
 
-use crate::job::Job;
+use crate::job::{Job, Sought, Work};
 use crate::key::Key;
 use cm_base::OutOfMemory;
-use std::collections::VecDeque;
+use lru::LruCache;
 
 /// Records that are kept.
 const KEPT_RECORDS: usize = 256;
 
-/// The newest job runs.
-fn newest_runs(jobs: &VecDeque<Job>) -> bool
-    ensures some { result ≡ true → 0 < length jobs.now.items }
-    ensures before { result ≡ true → length (running_jobs jobs.now.items) ≡ 1
-        → list_any is_running (take (length jobs.now.items - 1) jobs.now.items) ≡ false }
-{
-    match jobs.back() {
-        Some(job) => job.work.is_running(),
-        None => false,
-    }
-}
+/// What is kept under each key. A record is new when it is put, and no look at it makes it newer.
+pub(crate) type Works = LruCache<Key, Work>;
 
-/// A place before which no job runs, where so many do. Mostly one does, the newest.
-pub(crate) fn first_to_run(jobs: &VecDeque<Job>, running: u32) -> usize
-    requires { running ≡ length (running_jobs jobs.now.items) }
-    ensures within { result ≤ length jobs.now.items }
-    ensures none { list_any is_running (take result jobs.now.items) ≡ false }
+/// The key of the record that was kept first of those sought.
+pub(crate) fn first(works: &Works, sought: Sought) -> Option<Key>
+    ensures { result ≡ option_map (λ (job : Job). job.key) (find (λ (job : Job). is_sought sought job.work) (jobs_of works.now.entries)) }
 {
-    if running == 0 {
-        return jobs.len();
-    }
-    if running == 1 && newest_runs(jobs) {
-        return jobs.len() - 1;
-    }
-    0
-}
-
-/// The place of the job that runs as the key; none does before `from`.
-pub(crate) fn place_of(jobs: &VecDeque<Job>, from: usize, key: Key) -> usize
-    requires busy { is_busy key jobs.now.items ≡ true }
-    requires from { from ≤ length jobs.now.items }
-    requires none { list_any is_running (take from jobs.now.items) ≡ false }
-    ensures place { result ≡ position_or_len (runs_as key) jobs.now.items }
-    ensures within { result < length jobs.now.items }
-{
-    match jobs.range(from..).position(|job| job.runs_as(key)) {
-        Some(place) => from + place,
-        None => unreachable!(),
-    }
-}
-
-/// The job of the key; the newest is looked at first.
-pub(crate) fn of_key(jobs: &VecDeque<Job>, key: Key) -> Option<&Job>
-    requires { KeysApart jobs.now.items }
-    ensures found { IfSome result (λ job. find (has_key key) jobs.now.items ≡ Some job.now) }
-    ensures none { IfNone result (find (has_key key) jobs.now.items ≡ None) }
-{
-    if let Some(job) = jobs.back() {
-        if job.has_key(key) {
-            return Some(job);
+    let mut older = works.iter();
+    while let Some((key, work)) = older.next_back() {
+        if work.is(sought) {
+            return Some(*key);
         }
     }
-    jobs.iter().find(|job| job.has_key(key))
+    None
 }
 
-/// Drops the job of the key, if it has ended.
-fn drop_ended(jobs: &mut VecDeque<Job>, highest: u32, key: Key)
-    requires apart { KeysApart jobs.old.items }
-    requires highest { AreUpTo highest jobs.old.items }
-    ensures others { jobs.new.items ≡ filter (is_other key) jobs.old.items }
-    ensures length { deque_len jobs.new ≤ deque_len jobs.old }
-    ensures capacity { deque_capacity jobs.new ≡ deque_capacity jobs.old }
+/// The first that has ended makes room.
+fn drop_oldest(works: &mut Works)
+    requires { KeysApart (jobs_of works.old.entries) }
+    ensures room { jobs_of works.new.entries ≡ without_first has_ended (jobs_of works.old.entries) }
+    ensures cap { works.new.cap ≡ works.old.cap }
 {
-    // hosts mostly count their identifiers up, and then no job has this one
-    if key.id > highest {
-        return;
-    }
-    if let Some(place) = jobs.iter().position(|job| !job.is_other(key)) {
-        let _ = jobs.remove(place);
-    }
-}
-
-/// Where as many are kept as may, the first that has ended makes room.
-fn make_room(jobs: &mut VecDeque<Job>)
-    ensures room { jobs.new.items ≡ with_room jobs.old.items }
-    ensures length { deque_len jobs.new ≤ deque_len jobs.old }
-    ensures capacity { deque_capacity jobs.new ≡ deque_capacity jobs.old }
-{
-    if jobs.len() == KEPT_RECORDS {
-        if let Some(place) = jobs.iter().position(|job| job.has_ended()) {
-            let _ = jobs.remove(place);
-        }
+    if let Some(key) = first(works, Sought::Ended) {
+        let _ = works.pop(&key);
     }
 }
 
 /// Keeps a job behind the others, in the place of the one of its key. At `OutOfMemory` they are as before.
-pub(crate) fn keep(jobs: &mut VecDeque<Job>, highest: u32, job: Job) -> Result<(), OutOfMemory>
-    requires apart { KeysApart jobs.old.items }
-    requires highest { AreUpTo highest jobs.old.items }
-    ensures kept { OnOk result (jobs.new.items ≡ keep jobs.old.items job) }
-    ensures refused { OnErr result (jobs.new.items ≡ jobs.old.items) }
+pub(crate) fn keep(works: &mut Works, job: Job) -> Result<(), OutOfMemory>
+    requires apart { KeysApart (jobs_of works.old.entries) }
+    requires idle { is_busy job.key (jobs_of works.old.entries) ≡ false }
+    requires few { length (jobs_of works.old.entries) ≤ kept_operations }
+    requires few_running { length (running (jobs_of works.old.entries)) ≤ running_operations }
+    requires cap { works.old.cap ≡ 2 ^ 64 - 1 }
+    ensures kept { OnOk result (jobs_of works.new.entries ≡ keep (jobs_of works.old.entries) job) }
+    ensures refused { OnErr result (works.new ≡ works.old) }
+    ensures cap { works.new.cap ≡ works.old.cap }
 {
-    jobs.reserve(1)?;
-    drop_ended(jobs, highest, job.key);
-    make_room(jobs);
-    jobs.push_back_reserved(job);
+    let _ = works.put(job.key, job.work)?;
+    if works.len() > KEPT_RECORDS {
+        drop_oldest(works);
+    }
     Ok(())
 }

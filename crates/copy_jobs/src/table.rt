@@ -1,4 +1,4 @@
-ghost use Rattle.std.specs.Prelude.{◌≡◌, ℕ, ◌+◌, ◌^◌, ◌<◌, ◌≤◌, [], length, take, find, Some, None, true, false, IfOk, OnOk, OnErr, IfSome};
+ghost use Rattle.std.specs.Prelude.{◌≡◌, ℕ, ◌+◌, ◌^◌, ◌<◌, ◌≤◌, [], length, find, Some, None, true, false, IfOk, OnOk, OnErr, IfSome};
 ghost use Rattle.std.specs.Option.{option_map};
 ghost use Rattle.std.specs.List.{list_any};
 ghost use Rattle.lba_ranges.specs.Denoted.{total, is_within, is_overlapping};
@@ -11,21 +11,22 @@ ghost use Rattle.copy_jobs.specs.Changes.{change, with_work, moved_by, stopped_b
 ghost use Rattle.copy_jobs.specs.Pieces.{is_next, runs_in_background, next_length, IsNextPiece};
 ghost use Rattle.copy_jobs.specs.Reports.{report_of, result_of};
 ghost use Rattle.copy_jobs.specs.Unended.{unended};
+ghost use Rattle.copy_jobs.specs.inner.Sought.{runs_so};
 ghost use Rattle.copy_jobs.specs.inner.Steps.{stepped, MayStep};
 ghost use Rattle.copy_jobs.specs.Tables.{KeysApart};
-ghost use Rattle.copy_jobs.specs.inner.Tables.{IsJob};
+ghost use Rattle.copy_jobs.specs.inner.Tables.{IsJob, AllJobs};
 
 use crate::change::Change;
-use crate::job::{Job, Work, WriteJob};
+use crate::job::{Job, Sought, Work, WriteJob};
 use crate::key::Key;
 use crate::piece::NextPiece;
-use crate::records;
+use crate::records::{self, Works};
 use cm_base::OutOfMemory;
 use cm_history::{CopyEnd, CopyState, OpReport, OpState};
 use lba_ranges::{BlockList, RangeList};
+use lru::LruCache;
 use scsi_sense::Sense;
 use std::alloc::Global;
-use std::collections::VecDeque;
 use std::marker::Model;
 
 /// Operations that run.
@@ -36,45 +37,78 @@ const RUNNING_OPERATIONS: u32 = 64;
 #[derive(Drop)]
 pub struct JobTable {
     alloc: Global,
-    jobs: VecDeque<Job>,
-    // no job that is kept has a greater identifier
-    highest: u32,
+    works: Works,
     running: u32,
     reserved: u64,
 }
 
 impl Model for JobTable {
-    ghost use Rattle.std.specs.Prelude.{List};
+    ghost use Rattle.std.specs.Prelude.{◌≡◌, ◌-◌, ◌^◌, List};
     ghost use Rattle.copy_jobs.specs.declared.job.Job.{Job};
-    ghost use Rattle.copy_jobs.specs.inner.Tables.{IsTable, AreUpTo};
+    ghost use Rattle.copy_jobs.specs.inner.Entries.{jobs_of};
+    ghost use Rattle.copy_jobs.specs.inner.Tables.{IsTable};
 
     ghost Value = { List Job };
 
-    ghost view = { λ t. t.jobs.items };
+    ghost view = { λ t. jobs_of t.works.entries };
 
-    ghost invariant = { λ t. IsTable t.jobs.items t.running t.reserved × AreUpTo t.highest t.jobs.items };
+    ghost invariant = { λ t. IsTable (jobs_of t.works.entries) t.running t.reserved × (t.works.cap ≡ 2 ^ 64 - 1) };
 }
 
 impl JobTable {
-    /// A table that keeps nothing. It takes no memory.
-    pub fn new(alloc: Global) -> JobTable
-        ensures { result ≡ [] }
+    /// A table that keeps nothing.
+    pub fn new(alloc: Global) -> Result<JobTable, OutOfMemory>
+        ensures { IfOk result (λ table. table ≡ []) }
     {
-        JobTable {
+        Ok(JobTable {
             alloc,
-            jobs: VecDeque::new(alloc),
-            highest: 0,
+            works: LruCache::unbounded(alloc)?,
             running: 0,
             reserved: 0,
-        }
+        })
     }
 
-    /// The place before which no operation runs. Where one alone does, it is mostly the newest.
-    fn first_to_run(&self) -> usize
-        ensures within { result ≤ length self.now }
-        ensures none { list_any is_running (take result self.now) ≡ false }
+    /// The key of the operation that was kept first of those that run so. Where one alone runs, it is mostly the newest.
+    fn first_running(&self, background: bool) -> Option<Key>
+        ensures first { result ≡ option_map (λ (job : Job). job.key) (find (λ (job : Job). runs_so background job.work) self.now) }
+        ensures jobs { AllJobs self.now }
     {
-        records::first_to_run(&self.jobs, self.running)
+        let sought = Sought::Running { background };
+        if self.running == 0 {
+            return None;
+        }
+        if self.running == 1
+            && let Some((key, work)) = self.works.peek_mru()
+            && work.is_running()
+        {
+            if work.is(sought) {
+                return Some(*key);
+            }
+            return None;
+        }
+        records::first(&self.works, sought)
+    }
+
+    /// The operation that is to write next, with its key.
+    fn next_work(&self, key: Option<Key>) -> Option<(Key, &Work)>
+        ensures none { result ≡ None → find (is_next key) self.now ≡ None }
+        ensures found { IfSome result (λ found. find (is_next key) self.now ≡ Some (record { key = found.0; work = found.1.now })) }
+    {
+        match key {
+            Some(key) => {
+                let work = self.works.peek(&key)?;
+                if work.runs_in_foreground() {
+                    Some((key, work))
+                } else {
+                    None
+                }
+            }
+            None => {
+                let key = self.first_running(true)?;
+                let work = self.works.peek(&key)?;
+                Some((key, work))
+            }
+        }
     }
 
     /// An operation of the key runs. It takes no memory.
@@ -82,18 +116,20 @@ impl JobTable {
         ensures busy { result ≡ is_busy key self.now }
         ensures apart { KeysApart self.now }
     {
-        self.jobs
-            .range(self.first_to_run()..)
-            .any(|job| job.runs_as(key))
+        match self.works.peek(&key) {
+            Some(work) => work.is_running(),
+            None => false,
+        }
     }
 
     /// The operation of the key runs in the background: the unit's pump writes its pieces. It takes no memory.
     pub fn runs_in_background(&self, key: Key) -> bool
         ensures { result ≡ list_any (runs_in_background key) self.now }
     {
-        self.jobs
-            .range(self.first_to_run()..)
-            .any(|job| job.runs_in_background(key))
+        match self.works.peek(&key) {
+            Some(work) => work.is(Sought::Running { background: true }),
+            None => false,
+        }
     }
 
     /// A piece is to be written next: by the foreground operation of a key, or without a key by an operation in the
@@ -101,9 +137,7 @@ impl JobTable {
     pub fn waits(&self, key: Option<Key>) -> bool
         ensures { result ≡ list_any (is_next key) self.now }
     {
-        self.jobs
-            .range(self.first_to_run()..)
-            .any(|job| job.is_next(key))
+        self.next_work(key).is_some()
     }
 
     /// The key of the operation that was kept first of those that run and that no pump writes: token operations in the
@@ -112,9 +146,7 @@ impl JobTable {
         ensures unended { result ≡ unended self.now }
         ensures byte { IfSome result (λ key. key.copy ≡ true → key.id < 2 ^ 8) }
     {
-        let mut later = self.jobs.range(self.first_to_run()..);
-        let job = later.find(|job| job.is_unended())?;
-        Some(job.key)
+        self.first_running(false)
     }
 
     /// How many operations run, at most 64. It takes no memory.
@@ -151,9 +183,7 @@ impl JobTable {
     {
         let runs = u32::from(job.work.is_running());
         let reserved = job.work.reserved();
-        let highest = self.highest.max(job.key.id);
-        records::keep(&mut self.jobs, self.highest, job)?;
-        self.highest = highest;
+        records::keep(&mut self.works, job)?;
         self.running += runs;
         self.reserved += reserved;
         Ok(())
@@ -166,9 +196,9 @@ impl JobTable {
         ensures changed { self.new ≡ change (runs_as key) (with_work (stepped step)) self.old }
         ensures frees { reserved self.new + 1 ≤ reserved self.old }
     {
-        let from = self.first_to_run();
-        let place = records::place_of(&self.jobs, from, key);
-        let work = &mut self.jobs[place].work;
+        let Some(work) = self.works.peek_mut(&key) else {
+            unreachable!()
+        };
         let before = work.reserved();
         work.take(step);
         self.reserved = self.reserved + work.reserved() - before;
@@ -250,9 +280,8 @@ impl JobTable {
         ensures none { IfOk result (λ found. found ≡ None → find (is_next key) self.now ≡ None) }
         ensures piece { IfOk result (λ found. IfSome found (λ piece. IsNextPiece key self.now piece)) }
     {
-        let mut later = self.jobs.range(self.first_to_run()..);
-        match later.find(|job| job.is_next(key)) {
-            Some(job) => job.next_piece(self.alloc),
+        match self.next_work(key) {
+            Some((key, work)) => work.next_piece(self.alloc, key),
             None => Ok(None),
         }
     }
@@ -305,8 +334,8 @@ impl JobTable {
         requires { key.copy ≡ false }
         ensures { result ≡ option_map (λ (job : Job). report_of job.work) (find (has_key key) self.now) }
     {
-        let job = records::of_key(&self.jobs, key)?;
-        Some(job.work.report())
+        let work = self.works.peek(&key)?;
+        Some(work.report())
     }
 
     /// How a copy stands (SPC-4, RECEIVE COPY STATUS); `None` where nothing is kept of it. It takes no memory.
@@ -314,7 +343,7 @@ impl JobTable {
         requires { key.copy ≡ true }
         ensures { result ≡ option_map (λ (job : Job). result_of job.work) (find (has_key key) self.now) }
     {
-        let job = records::of_key(&self.jobs, key)?;
-        Some(job.work.result())
+        let work = self.works.peek(&key)?;
+        Some(work.result())
     }
 }

@@ -96,7 +96,7 @@ fn write_next(table: &mut JobTable, key: Option<Key>) -> Result<Option<(u64, u32
 /// A token that was made is told under its key alone; a later one of the key takes its place.
 #[test]
 fn made_tokens(rt: HostRuntime) -> Result<(), Fail> {
-    let mut table = JobTable::new(rt.alloc());
+    let mut table = JobTable::new(rt.alloc())?;
     assert!(rt; make(&mut table, token(1), 5, 80)?);
     assert!(rt; make(&mut table, token(1), 6, 90)?);
     assert_eq!(rt; table.running(), 0);
@@ -122,7 +122,7 @@ fn made_tokens(rt: HostRuntime) -> Result<(), Fail> {
 /// one also that of an early end.
 #[test]
 fn pieces(rt: HostRuntime) -> Result<(), Fail> {
-    let mut table = JobTable::new(rt.alloc());
+    let mut table = JobTable::new(rt.alloc())?;
     start(rt.alloc(), &mut table, token(1), false, 100, 2500)?;
     assert_eq!(rt; table.reserved(), 4);
     assert!(rt; write_next(&mut table, None)?.is_none());
@@ -162,7 +162,7 @@ fn pieces(rt: HostRuntime) -> Result<(), Fail> {
 /// The pump serves the background operation that was kept first, until it is ended; then the next one.
 #[test]
 fn background(rt: HostRuntime) -> Result<(), Fail> {
-    let mut table = JobTable::new(rt.alloc());
+    let mut table = JobTable::new(rt.alloc())?;
     start(rt.alloc(), &mut table, token(1), false, 0, 5)?;
     start(rt.alloc(), &mut table, token(2), true, 10, 2000)?;
     start(rt.alloc(), &mut table, token(3), true, 5000, 7)?;
@@ -205,7 +205,7 @@ fn background(rt: HostRuntime) -> Result<(), Fail> {
 /// A key is in use while its operation runs. An operation without blocks is done at once.
 #[test]
 fn in_use(rt: HostRuntime) -> Result<(), Fail> {
-    let mut table = JobTable::new(rt.alloc());
+    let mut table = JobTable::new(rt.alloc())?;
     start(rt.alloc(), &mut table, token(1), true, 0, 3)?;
     assert!(rt; !make(&mut table, token(1), 0, 3)?);
     start(rt.alloc(), &mut table, token(2), false, 0, 0)?;
@@ -244,7 +244,7 @@ fn in_use(rt: HostRuntime) -> Result<(), Fail> {
 /// The 65th operation is one too many. A token may still be made.
 #[test]
 fn too_many(rt: HostRuntime) -> Result<(), Fail> {
-    let mut table = JobTable::new(rt.alloc());
+    let mut table = JobTable::new(rt.alloc())?;
     for id in 0..64 {
         assert!(rt; open(&mut table, copy(id))?);
     }
@@ -259,7 +259,7 @@ fn too_many(rt: HostRuntime) -> Result<(), Fail> {
 /// The 257th record drops the first that has ended; what runs stays.
 #[test]
 fn room(rt: HostRuntime) -> Result<(), Fail> {
-    let mut table = JobTable::new(rt.alloc());
+    let mut table = JobTable::new(rt.alloc())?;
     assert!(rt; open(&mut table, copy(0))?);
     for id in 0..255 {
         assert!(rt; make(&mut table, token(id), 9, 1)?);
@@ -277,7 +277,7 @@ fn room(rt: HostRuntime) -> Result<(), Fail> {
 /// end, and after it the write.
 #[test]
 fn unended(rt: HostRuntime) -> Result<(), Fail> {
-    let mut table = JobTable::new(rt.alloc());
+    let mut table = JobTable::new(rt.alloc())?;
     assert!(rt; table.unended().is_none());
     start(rt.alloc(), &mut table, token(1), true, 0, 3)?;
     assert!(rt; table.unended().is_none());

@@ -128,7 +128,7 @@ pub(crate) fn blocks_brought(act: &Act) -> u64
 {
     match act {
         Act::Write { list, .. } | Act::Put { list, .. } => list.blocks(),
-        Act::Start { rod, .. } => rod.blocks(),
+        Act::Start { rod, .. } => rod.list().blocks(),
         _ => 0,
     }
 }

@@ -103,7 +103,7 @@ impl PlainOperation {
         ensures few { result ≤ 1_048_576 }
     {
         match self.act() {
-            Act::Start { ranges, rod, .. } => ranges.total().min(rod.blocks()),
+            Act::Start { ranges, rod, .. } => ranges.total().min(rod.list().blocks()),
             _ => 0,
         }
     }
@@ -160,7 +160,7 @@ impl PlainOperation {
     {
         match self.act() {
             Act::Start { rod, .. } => {
-                (pieces(rod.blocks()) + 1).saturating_sub(self.servers.len() as u64)
+                (pieces(rod.list().blocks()) + 1).saturating_sub(self.servers.len() as u64)
             }
             Act::Open { .. } => 1,
             _ => 0,
@@ -192,7 +192,7 @@ impl PlainOperation {
         ensures few { IfOk result (λ piece. length piece ≤ 1024) }
     {
         let list = match self.act() {
-            Act::Start { ranges, rod, .. } => PlainWritings::paired(alloc, ranges, rod)?,
+            Act::Start { ranges, rod, .. } => PlainWritings::paired(alloc, ranges, rod.list())?,
             _ => PlainWritings::new(alloc),
         };
         list.part(alloc, self.written(), PIECE_BLOCKS as usize)

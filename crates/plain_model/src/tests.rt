@@ -5,7 +5,9 @@ ghost use Rattle.plain_model.specs.Holds.{AreWithin};
 
 use super::*;
 use cm_base::{Bytes, Config, Holder, Payload, UnitConfig, UnitList};
-use cm_history::{Act, Actor, Answer, Entry, History, OpState, TokenText, within_limits};
+use cm_history::{
+    Act, Actor, Answer, Entry, History, OpState, RodBlocks, TokenText, within_limits,
+};
 use lba_ranges::{BlockList, Fill, Piece, Range, RangeList};
 use scsi_sense::Sense;
 use std::test::Fail;
@@ -232,7 +234,7 @@ fn start(rt: &HostRuntime) -> Result<Act, Fail> {
         id: 1,
         background: true,
         ranges: all_blocks(rt)?,
-        rod,
+        rod: RodBlocks::new(rt.alloc(), rod)?,
     })
 }
 

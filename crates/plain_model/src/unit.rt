@@ -279,7 +279,7 @@ impl PlainUnit {
                 ranges,
                 rod,
                 ..
-            } => Ok(self.start(unit, actor, *id, ranges, rod)),
+            } => Ok(self.start(unit, actor, *id, ranges, rod.list())),
             Act::End { .. } => Ok(answer_end(served)),
             Act::Abort { .. } => Ok(done_if(served)),
             Act::Close { .. } => Ok(done_if(served)),
@@ -470,7 +470,7 @@ impl PlainUnit {
         ensures { result ≡ need self.now actor act.now }
     {
         match act {
-            Act::Start { rod, .. } => 2 + pieces(rod.blocks()),
+            Act::Start { rod, .. } => 2 + pieces(rod.list().blocks()),
             Act::Open { .. } => 2,
             Act::Advance { .. } => self.need_to_serve(actor, act),
             Act::Pump => self.need_to_serve(actor, act),

@@ -4,7 +4,7 @@ ghost use Rattle.random_acts.specs.Asked.{IsOfNexus};
 
 use crate::numbers::Numbers;
 use cm_base::{Config, OutOfMemory, Payload, ReservationAction};
-use cm_history::{Act, CopyEnd, CopyState, TokenText};
+use cm_history::{Act, CopyEnd, CopyState, RodBlocks, TokenText};
 use lba_ranges::{BlockList, Fill, Piece, Range, RangeList};
 use std::alloc::Global;
 
@@ -114,7 +114,7 @@ fn act_on_operations(alloc: Global, numbers: &mut Numbers) -> Result<Act, OutOfM
             id,
             background: numbers.below(2) == 0,
             ranges: ranges(alloc, numbers)?,
-            rod: blocks(alloc, numbers)?,
+            rod: RodBlocks::new(alloc, blocks(alloc, numbers)?)?,
         }),
         2 => Ok(Act::Advance { id }),
         3 => Ok(Act::End { id }),
@@ -143,7 +143,7 @@ fn long_start(alloc: Global, numbers: &mut Numbers) -> Result<Act, OutOfMemory>
         id: numbers.below(2),
         background: numbers.below(2) == 0,
         ranges,
-        rod,
+        rod: RodBlocks::new(alloc, rod)?,
     })
 }
 

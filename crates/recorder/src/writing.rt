@@ -222,7 +222,7 @@ fn write_fields(into: &mut Text, act: &Act) -> Result<(), OutOfMemory>
             background,
             ref ranges,
             ref rod,
-        } => write_start(into, id, background, ranges, rod),
+        } => write_start(into, id, background, ranges, rod.list()),
         Act::Advance { id } => write_u32(into, id),
         Act::Pump => Ok(()),
         Act::End { id } => write_u32(into, id),
@@ -310,7 +310,7 @@ pub fn has_short_lists(act: &Act) -> bool
     match act {
         Act::Write { list, .. } => is_short(list),
         Act::Put { list, .. } => is_short(list),
-        Act::Start { rod, .. } => is_short(rod),
+        Act::Start { rod, .. } => is_short(rod.list()),
         _ => true,
     }
 }

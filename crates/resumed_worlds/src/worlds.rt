@@ -7,7 +7,7 @@ ghost use Rattle.nexus.specs.Worlds.{IsFreePass};
 
 use crate::journals::{MemoryJournal, disk_with, entries_on, new_disk, one_unit, stores_on};
 use cm_base::{Config, Payload};
-use cm_history::{Act, Answer, within_limits};
+use cm_history::{Act, Answer, RodBlocks, within_limits};
 use journal_disk::MemoryDisk;
 use lba_ranges::{BlockList, Range, RangeList};
 use nexus::{Pass, Root, World};
@@ -36,7 +36,7 @@ fn write_of_one(alloc: Global) -> Result<Act, Fail>
 
 /// A Start of an operation that writes the first block.
 fn start_of_one(alloc: Global) -> Result<Act, Fail> {
-    let rod = one_block(alloc)?;
+    let rod = RodBlocks::new(alloc, one_block(alloc)?)?;
     let mut ranges = RangeList::empty(alloc);
     ranges.push(Range { lba: 0, count: 1 })?;
     Ok(Act::Start {

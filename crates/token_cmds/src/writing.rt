@@ -25,7 +25,7 @@ use crate::phase::{TokenCommand, TokenPhase};
 use block_params::{WriteList, read_write_token};
 use cm_base::{Config, OutOfMemory, Payload};
 use cm_frame::Reply;
-use cm_history::{Act, Answer, OpState, PIECE_BLOCKS, TokenText};
+use cm_history::{Act, Answer, OpState, PIECE_BLOCKS, RodBlocks, TokenText};
 use cmd_machine::{CommandOf, Ended, LastAct, refusal};
 use cmd_program::Step;
 use lba_ranges::{BlockList, Fill, Piece};
@@ -144,6 +144,7 @@ impl Write {
         ensures { IfOk result (λ s. s ≡ next (starting self.now rod)) }
     {
         let ranges = self.list.ranges.copy(alloc)?;
+        let rod = RodBlocks::new(alloc, rod)?;
         Ok(Step::Do {
             unit: self.unit,
             act: Act::Start {

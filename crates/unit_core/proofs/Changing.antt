@@ -25,6 +25,7 @@ on-err (Err e) F f = f
 pub nothing-written : (b : BlockChange) → is_nothing b ≡ true → writings_of b ≡ []
 nothing-written BlockChange.Nothing e = refl
 nothing-written (BlockChange.Put ranges list) e = cc
+nothing-written (BlockChange.PutPiece ranges list) e = cc
 nothing-written (BlockChange.Clear ranges) e = cc
 
 -- a change that has a pin is one that makes a token

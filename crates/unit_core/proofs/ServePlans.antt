@@ -263,7 +263,7 @@ piece-plan config unit past actor at act o p known is of = go (nat_lt u.quota (m
     move : Plan
     move = record {
       answer = Answer.Progress (if p.is_last then OpState.Done else OpState.Running) (p.written + length p.list.items);
-      blocks = BlockChange.Put p.ranges p.list;
+      blocks = BlockChange.PutPiece p.ranges p.list;
       jobs = JobChange.Move p.key (length p.list.items);
       tokens = TokenChange.Nothing;
       reservations = None;
@@ -296,7 +296,7 @@ piece-plan config unit past actor at act o p known is of = go (nat_lt u.quota (m
         ∙ ap (λ n. Answer.Progress (if count o + length p.list.items == length (list_of o.made.entry.act) then OpState.Done else OpState.Running) (n + length p.list.items)) (sym count-is)
         ∙ ap (λ n. Answer.Progress (if count o + n == length (list_of o.made.entry.act) then OpState.Done else OpState.Running) (count o + n)) of.long in
         let wrote : wrote_of (progress_by o (length (next_piece o))) (writings past actor act) ≡ next_piece o = goes (count o + length (next_piece o) == length (list_of o.made.entry.act)) (count o + length (next_piece o)) (writings past actor act) ∙ is.writes in
-        served-plan config unit past actor at act o (Answer.Progress (if p.is_last then OpState.Done else OpState.Running) (p.written + length p.list.items)) (BlockChange.Put p.ranges p.list)
+        served-plan config unit past actor at act o (Answer.Progress (if p.is_last then OpState.Done else OpState.Running) (p.written + length p.list.items)) (BlockChange.PutPiece p.ranges p.list)
         (JobChange.Move p.key (length p.list.items)) (with_work (moved_by (length p.list.items)))
         known is.found (told ∙ sym says) (of.writes ∙ sym wrote ∙ ap (λ a. wrote_of a (writings past actor act)) (sym told)) of.put (of.token, of.counted)
         (ap (λ k. change (jobs.runs_as k) (with_work (moved_by (length p.list.items))) (jobs_of past)) of.key) refl

@@ -6,15 +6,26 @@ ghost use Rattle.unit_core.specs.inner.BlockChanges.{writings_of, MayChange, is_
 use cm_base::OutOfMemory;
 use lba_ranges::{BlockList, Blocks, RangeList};
 
-/// What an act is to write to the blocks.
+/// What an act is to write to the blocks. Lists of the act itself stay where they are.
 #[derive(Drop)]
-pub(crate) enum BlockChange {
+pub(crate) enum BlockChange<'a> {
     Nothing,
-    Put { ranges: RangeList, list: BlockList },
-    Clear { ranges: RangeList },
+    /// The list of an act.
+    Put {
+        ranges: RangeList,
+        list: &'a BlockList,
+    },
+    /// The next piece of an operation.
+    PutPiece {
+        ranges: RangeList,
+        list: BlockList,
+    },
+    Clear {
+        ranges: &'a RangeList,
+    },
 }
 
-impl BlockChange {
+impl BlockChange<'_> {
     /// Writes the change. At `OutOfMemory` each block holds what it held.
     pub(crate) fn apply<B: Blocks>(&self, blocks: &mut B) -> Result<(), OutOfMemory>
         requires { MayChange (B.blocks blocks.old) (B.block_length blocks.old) self.now }
@@ -32,6 +43,7 @@ impl BlockChange {
         match self {
             BlockChange::Nothing => Ok(()),
             BlockChange::Put { ranges, list } => blocks.put(ranges, list),
+            BlockChange::PutPiece { ranges, list } => blocks.put(ranges, list),
             BlockChange::Clear { ranges } => blocks.clear(ranges),
         }
     }

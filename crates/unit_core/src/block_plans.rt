@@ -15,13 +15,13 @@ use unmap_thin::{exceeds_quota, map_runs};
 
 /// What an act is answered, and what it is to write.
 #[derive(Drop)]
-pub(crate) struct BlockPlan {
+pub(crate) struct BlockPlan<'a> {
     pub answer: Answer,
-    pub change: BlockChange,
+    pub change: BlockChange<'a>,
 }
 
 /// An act that writes nothing.
-pub(crate) fn answered(answer: Answer) -> BlockPlan
+pub(crate) fn answered<'a>(answer: Answer) -> BlockPlan<'a>
     ensures answer { result.answer ≡ answer }
     ensures change { result.change ≡ BlockChange.Nothing }
 {
@@ -41,13 +41,13 @@ fn row_of(alloc: Global, lba: u64, count: u32) -> Result<RangeList, OutOfMemory>
 }
 
 /// Reads blocks as they stand.
-pub(crate) fn read<B: Blocks>(
+pub(crate) fn read<'a, B: Blocks>(
     alloc: Global,
     blocks: &B,
     unit: UnitConfig,
     lba: u64,
     count: u32,
-) -> Result<BlockPlan, OutOfMemory>
+) -> Result<BlockPlan<'a>, OutOfMemory>
     requires count { B.blocks blocks.now ≡ unit.blocks }
     requires size { B.block_length blocks.now ≡ unit.block_length }
     ensures answer { IfOk result (λ p. p.answer ≡ answer_read unit (B.holds blocks.now) lba count) }
@@ -62,13 +62,13 @@ pub(crate) fn read<B: Blocks>(
 }
 
 /// Writes the list to the blocks from `lba` on, if the quota allows it.
-pub(crate) fn write<B: Blocks>(
+pub(crate) fn write<'a, B: Blocks>(
     alloc: Global,
     blocks: &B,
     unit: UnitConfig,
     lba: u64,
-    list: &BlockList,
-) -> Result<BlockPlan, OutOfMemory>
+    list: &'a BlockList,
+) -> Result<BlockPlan<'a>, OutOfMemory>
     requires count { B.blocks blocks.now ≡ unit.blocks }
     requires size { list.now.block_length ≡ unit.block_length }
     requires few { length list.now.items < 2 ^ 32 }
@@ -84,40 +84,34 @@ pub(crate) fn write<B: Blocks>(
     if exceeds_quota(blocks, &ranges, list, unit.quota) {
         return Ok(answered(refusals::space_allocation_failed()));
     }
-    let list = list.copy(alloc)?;
     Ok(BlockPlan {
         answer: Answer::Done,
         change: BlockChange::Put { ranges, list },
     })
 }
 
-/// Unmaps the blocks of the ranges.
-pub(crate) fn unmap(
-    alloc: Global,
-    unit: UnitConfig,
-    ranges: &RangeList,
-) -> Result<BlockPlan, OutOfMemory>
-    ensures answer { IfOk result (λ p. p.answer ≡ answer_unmap unit ranges.now) }
-    ensures change { IfOk result (λ p. writings_of p.change ≡ wrote_of p.answer (unmapped (blocks_of ranges.now))) }
-    ensures may { IfOk result (λ p. MayChange unit.blocks unit.block_length p.change) }
+/// Unmaps the blocks of the ranges. It takes no memory.
+pub(crate) fn unmap(unit: UnitConfig, ranges: &RangeList) -> BlockPlan<'_>
+    ensures answer { result.answer ≡ answer_unmap unit ranges.now }
+    ensures change { writings_of result.change ≡ wrote_of result.answer (unmapped (blocks_of ranges.now)) }
+    ensures may { MayChange unit.blocks unit.block_length result.change }
 {
     if !ranges.within(unit.blocks) {
-        return Ok(answered(refusals::lba_out_of_range()));
+        return answered(refusals::lba_out_of_range());
     }
-    let ranges = ranges.copy(alloc)?;
-    Ok(BlockPlan {
+    BlockPlan {
         answer: Answer::Done,
         change: BlockChange::Clear { ranges },
-    })
+    }
 }
 
 /// Which blocks are mapped from `lba` on.
-pub(crate) fn status<B: Blocks>(
+pub(crate) fn status<'a, B: Blocks>(
     alloc: Global,
     blocks: &B,
     unit: UnitConfig,
     lba: u64,
-) -> Result<BlockPlan, OutOfMemory>
+) -> Result<BlockPlan<'a>, OutOfMemory>
     requires { B.blocks blocks.now ≡ unit.blocks }
     ensures answer { IfOk result (λ p. p.answer ≡ answer_status unit (B.holds blocks.now) lba) }
     ensures change { IfOk result (λ p. p.change ≡ BlockChange.Nothing) }

@@ -42,14 +42,14 @@ where
     B::Pin: Drop,
 {
     /// Keeps an operation that is to write the rod to the ranges.
-    pub(crate) fn plan_start(
+    pub(crate) fn plan_start<'a>(
         &self,
         actor: Actor,
         id: u32,
         background: bool,
         ranges: &RangeList,
         rod: &BlockList,
-    ) -> Result<Plan, OutOfMemory>
+    ) -> Result<Plan<'a>, OutOfMemory>
         requires known { ⟦<Core<B> as Reached>⟧.IsReached self.now }
         requires limits { within_limits self.now.config self.now.unit (Act.Start id background ranges.now rod.now) ≡ true }
         requires asked { may_ask self.now.unit actor (Act.Start id background ranges.now rod.now) ≡ true }
@@ -86,11 +86,11 @@ where
 
     /// Writes the next piece of an operation, if the quota allows it: of a key, or without a key of the background
     /// operation that was begun first.
-    pub(crate) fn plan_piece(
+    pub(crate) fn plan_piece<'a>(
         &self,
         key: Option<Key>,
         otherwise: Answer,
-    ) -> Result<Plan, OutOfMemory>
+    ) -> Result<Plan<'a>, OutOfMemory>
         requires known { ⟦<Core<B> as Reached>⟧.IsReached self.now }
         ensures { IfOk result (λ p. (h : List Entry) → ⟦<Core<B> as Reached>⟧.IsAfter self.now h → (actor : Actor) (at : ℕ) (act : Act) → WritesPiece self.now.unit actor act key otherwise
             → IsPlan self.now.config self.now.unit (past_of self.now.config self.now.unit h) actor at act p) }
@@ -102,7 +102,7 @@ where
     }
 
     /// Writes the piece, if the quota allows it.
-    fn write_piece(&self, piece: NextPiece) -> Plan
+    fn write_piece<'a>(&self, piece: NextPiece) -> Plan<'a>
         requires known { ⟦<Core<B> as Reached>⟧.IsReached self.now }
         requires within { is_within (unit_of self.now.config self.now.unit).blocks piece.ranges ≡ true }
         requires apart { is_overlapping piece.ranges ≡ false }
@@ -132,7 +132,7 @@ where
                 state: state_after(is_last),
                 count: written + blocks,
             },
-            blocks: BlockChange::Put { ranges, list },
+            blocks: BlockChange::PutPiece { ranges, list },
             jobs: JobChange::Move { key, blocks },
             tokens: TokenChange::Nothing,
             reservations: None,
@@ -140,7 +140,7 @@ where
     }
 
     /// Ends the foreground operation of the key.
-    pub(crate) fn plan_end(&self, actor: Actor, id: u32) -> Plan
+    pub(crate) fn plan_end<'a>(&self, actor: Actor, id: u32) -> Plan<'a>
         requires known { ⟦<Core<B> as Reached>⟧.IsReached self.now }
         requires asked { may_ask self.now.unit actor (Act.End id) ≡ true }
         ensures { (h : List Entry) → ⟦<Core<B> as Reached>⟧.IsAfter self.now h → (at : ℕ)
@@ -163,7 +163,7 @@ where
     }
 
     /// Ends the background operation of the key.
-    pub(crate) fn plan_abort(&self, actor: Actor, id: u32) -> Plan
+    pub(crate) fn plan_abort<'a>(&self, actor: Actor, id: u32) -> Plan<'a>
         requires known { ⟦<Core<B> as Reached>⟧.IsReached self.now }
         requires asked { may_ask self.now.unit actor (Act.Abort id) ≡ true }
         ensures { (h : List Entry) → ⟦<Core<B> as Reached>⟧.IsAfter self.now h → (at : ℕ)
@@ -177,7 +177,7 @@ where
     }
 
     /// Tells what is kept of the token operation of the key.
-    pub(crate) fn plan_report(&self, actor: Actor, id: u32) -> Plan
+    pub(crate) fn plan_report<'a>(&self, actor: Actor, id: u32) -> Plan<'a>
         requires known { ⟦<Core<B> as Reached>⟧.IsReached self.now }
         requires asked { may_ask self.now.unit actor (Act.Report id) ≡ true }
         ensures { (h : List Entry) → ⟦<Core<B> as Reached>⟧.IsAfter self.now h → (at : ℕ)
@@ -190,7 +190,7 @@ where
     }
 
     /// Keeps a copy that its nexus is to carry out.
-    pub(crate) fn plan_open(&self, actor: Actor, id: u8) -> Plan
+    pub(crate) fn plan_open<'a>(&self, actor: Actor, id: u8) -> Plan<'a>
         requires known { ⟦<Core<B> as Reached>⟧.IsReached self.now }
         requires asked { may_ask self.now.unit actor (Act.Open id) ≡ true }
         ensures { (h : List Entry) → ⟦<Core<B> as Reached>⟧.IsAfter self.now h → (at : ℕ)
@@ -207,7 +207,7 @@ where
     }
 
     /// Keeps how the copy of the key ended.
-    pub(crate) fn plan_close(&self, actor: Actor, id: u8, end: CopyEnd) -> Plan
+    pub(crate) fn plan_close<'a>(&self, actor: Actor, id: u8, end: CopyEnd) -> Plan<'a>
         requires known { ⟦<Core<B> as Reached>⟧.IsReached self.now }
         requires limits { within_limits self.now.config self.now.unit (Act.Close id end) ≡ true }
         requires asked { may_ask self.now.unit actor (Act.Close id end) ≡ true }
@@ -222,7 +222,7 @@ where
     }
 
     /// Tells how the copy of the key ended.
-    pub(crate) fn plan_recall(&self, actor: Actor, id: u8) -> Plan
+    pub(crate) fn plan_recall<'a>(&self, actor: Actor, id: u8) -> Plan<'a>
         requires known { ⟦<Core<B> as Reached>⟧.IsReached self.now }
         requires asked { may_ask self.now.unit actor (Act.Recall id) ≡ true }
         ensures { (h : List Entry) → ⟦<Core<B> as Reached>⟧.IsAfter self.now h → (at : ℕ)

@@ -10,18 +10,18 @@ use token_pins::TokenChange;
 
 /// What an act is answered, and what it is to change.
 #[derive(Drop)]
-pub(crate) struct Plan {
+pub(crate) struct Plan<'a> {
     pub answer: Answer,
-    pub blocks: BlockChange,
+    pub blocks: BlockChange<'a>,
     pub jobs: JobChange,
     pub tokens: TokenChange,
     /// What the reservations are to be, if they change.
     pub reservations: Option<PrState>,
 }
 
-impl Plan {
+impl<'a> Plan<'a> {
     /// An act that changes nothing.
-    pub(crate) fn answered(answer: Answer) -> Plan
+    pub(crate) fn answered(answer: Answer) -> Plan<'a>
         ensures { result ≡ quiet answer }
     {
         Plan {
@@ -34,7 +34,7 @@ impl Plan {
     }
 
     /// An act that changes an operation alone.
-    pub(crate) fn of_jobs(answer: Answer, jobs: JobChange) -> Plan
+    pub(crate) fn of_jobs(answer: Answer, jobs: JobChange) -> Plan<'a>
         ensures { result ≡ record (quiet answer) { jobs = jobs } }
     {
         Plan {
@@ -47,7 +47,7 @@ impl Plan {
     }
 
     /// An act that changes a token alone.
-    pub(crate) fn of_tokens(answer: Answer, tokens: TokenChange) -> Plan
+    pub(crate) fn of_tokens(answer: Answer, tokens: TokenChange) -> Plan<'a>
         ensures { result ≡ record (quiet answer) { tokens = tokens } }
     {
         Plan {
@@ -60,7 +60,7 @@ impl Plan {
     }
 
     /// An act on reservations alone.
-    pub(crate) fn of_reservations(answer: Answer, reservations: PrState) -> Plan
+    pub(crate) fn of_reservations(answer: Answer, reservations: PrState) -> Plan<'a>
         ensures { result ≡ record (quiet answer) { reservations = Some reservations } }
     {
         Plan {
@@ -73,8 +73,8 @@ impl Plan {
     }
 
     /// An act that changes blocks alone.
-    pub(crate) fn of_blocks(plan: BlockPlan) -> Plan
-        ensures { result ≡ of_blocks plan }
+    pub(crate) fn of_blocks(plan: BlockPlan<'a>) -> Plan<'a>
+        ensures { result ≡ of_blocks plan.entry }
     {
         Plan {
             answer: plan.answer,

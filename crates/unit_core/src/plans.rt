@@ -25,7 +25,12 @@ where
     B::Pin: Drop,
 {
     /// What an act is answered, and what it is to change. One that ends an operation takes no memory.
-    pub(crate) fn plan(&self, actor: Actor, moment: u64, act: &Act) -> Result<Plan, OutOfMemory>
+    pub(crate) fn plan<'a>(
+        &self,
+        actor: Actor,
+        moment: u64,
+        act: &'a Act,
+    ) -> Result<Plan<'a>, OutOfMemory>
         requires known { ⟦<Core<B> as Reached>⟧.IsReached self.now }
         requires pinned { ⟦<Core<B> as Reached>⟧.IsPinned self.now }
         requires limits { within_limits self.now.config self.now.unit act.now ≡ true }
@@ -42,7 +47,12 @@ where
     }
 
     /// What an act that no reservation bars is answered, and what it is to change.
-    fn plan_unbarred(&self, actor: Actor, moment: u64, act: &Act) -> Result<Plan, OutOfMemory>
+    fn plan_unbarred<'a>(
+        &self,
+        actor: Actor,
+        moment: u64,
+        act: &'a Act,
+    ) -> Result<Plan<'a>, OutOfMemory>
         requires known { ⟦<Core<B> as Reached>⟧.IsReached self.now }
         requires pinned { ⟦<Core<B> as Reached>⟧.IsPinned self.now }
         requires limits { within_limits self.now.config self.now.unit act.now ≡ true }
@@ -56,7 +66,7 @@ where
         match act {
             Act::Read { lba, count } | Act::Capture { lba, count } => self.plan_read(*lba, *count),
             Act::Write { lba, list } | Act::Put { lba, list } => self.plan_write(*lba, list),
-            Act::Unmap { ranges } => self.plan_unmap(ranges),
+            Act::Unmap { ranges } => Ok(self.plan_unmap(ranges)),
             Act::MapStatus { lba } => self.plan_status(*lba),
             Act::Populate {
                 id,
@@ -73,7 +83,7 @@ where
                 background,
                 ranges,
                 rod,
-            } => { self.plan_start(actor, *id, *background, ranges, rod) }
+            } => { self.plan_start(actor, *id, *background, ranges, rod.list()) }
             Act::Advance { id } => {
                 self.plan_piece(Some(token_key(actor, *id)), refusals::no_such_operation())
             }
@@ -97,7 +107,7 @@ where
     }
 
     /// Reads blocks as they stand.
-    fn plan_read(&self, lba: u64, count: u32) -> Result<Plan, OutOfMemory>
+    fn plan_read<'a>(&self, lba: u64, count: u32) -> Result<Plan<'a>, OutOfMemory>
         requires known { ⟦<Core<B> as Reached>⟧.IsReached self.now }
         ensures { IfOk result (λ p. (h : List Entry) → ⟦<Core<B> as Reached>⟧.IsAfter self.now h → (actor : Actor) (at : ℕ) (act : Act) → Reads lba count act → bars_act (reservations (past_of self.now.config self.now.unit h)) actor act ≡ false
             → IsPlan self.now.config self.now.unit (past_of self.now.config self.now.unit h) actor at act p) }
@@ -108,7 +118,7 @@ where
     }
 
     /// Writes the list to the blocks from `lba` on, if the quota allows it.
-    fn plan_write(&self, lba: u64, list: &BlockList) -> Result<Plan, OutOfMemory>
+    fn plan_write<'a>(&self, lba: u64, list: &'a BlockList) -> Result<Plan<'a>, OutOfMemory>
         requires known { ⟦<Core<B> as Reached>⟧.IsReached self.now }
         requires length { list.now.block_length ≡ (unit_of self.now.config self.now.unit).block_length }
         requires few { length list.now.items ≤ 2048 }
@@ -121,18 +131,18 @@ where
     }
 
     /// Unmaps the blocks of the ranges.
-    fn plan_unmap(&self, ranges: &RangeList) -> Result<Plan, OutOfMemory>
+    fn plan_unmap<'a>(&self, ranges: &'a RangeList) -> Plan<'a>
         requires known { ⟦<Core<B> as Reached>⟧.IsReached self.now }
-        ensures { IfOk result (λ p. (h : List Entry) → ⟦<Core<B> as Reached>⟧.IsAfter self.now h → (actor : Actor) (at : ℕ) → bars_act (reservations (past_of self.now.config self.now.unit h)) actor (Act.Unmap ranges.now) ≡ false
-            → IsPlan self.now.config self.now.unit (past_of self.now.config self.now.unit h) actor at (Act.Unmap ranges.now) p) }
+        ensures { (h : List Entry) → ⟦<Core<B> as Reached>⟧.IsAfter self.now h → (actor : Actor) (at : ℕ) → bars_act (reservations (past_of self.now.config self.now.unit h)) actor (Act.Unmap ranges.now) ≡ false
+            → IsPlan self.now.config self.now.unit (past_of self.now.config self.now.unit h) actor at (Act.Unmap ranges.now) result }
     {
         let unit = self.config.unit(self.unit);
-        let plan = blocks::unmap(self.alloc, unit, ranges)?;
-        Ok(Plan::of_blocks(plan))
+        let plan = blocks::unmap(unit, ranges);
+        Plan::of_blocks(plan)
     }
 
     /// Which blocks are mapped from `lba` on.
-    fn plan_status(&self, lba: u64) -> Result<Plan, OutOfMemory>
+    fn plan_status<'a>(&self, lba: u64) -> Result<Plan<'a>, OutOfMemory>
         requires known { ⟦<Core<B> as Reached>⟧.IsReached self.now }
         ensures { IfOk result (λ p. (h : List Entry) → ⟦<Core<B> as Reached>⟧.IsAfter self.now h → (actor : Actor) (at : ℕ) → bars_act (reservations (past_of self.now.config self.now.unit h)) actor (Act.MapStatus lba) ≡ false
             → IsPlan self.now.config self.now.unit (past_of self.now.config self.now.unit h) actor at (Act.MapStatus lba) p) }

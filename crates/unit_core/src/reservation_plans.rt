@@ -17,7 +17,7 @@ where
     B::Pin: Drop,
 {
     /// Does what a PERSISTENT RESERVE OUT asks, given by its fields.
-    pub(crate) fn plan_out(
+    pub(crate) fn plan_out<'a>(
         &self,
         actor: Actor,
         action: u8,
@@ -25,7 +25,7 @@ where
         kind: u8,
         key: u64,
         action_key: u64,
-    ) -> Result<Plan, OutOfMemory>
+    ) -> Result<Plan<'a>, OutOfMemory>
         requires known { ⟦<Core<B> as Reached>⟧.IsReached self.now }
         ensures { IfOk result (λ p. (h : List Entry) → ⟦<Core<B> as Reached>⟧.IsAfter self.now h → (at : ℕ)
             → IsPlan self.now.config self.now.unit (past_of self.now.config self.now.unit h) actor at (Act.PrOut action scope kind key action_key) p) }
@@ -39,7 +39,7 @@ where
     }
 
     /// Tells the keys of the registered nexuses.
-    pub(crate) fn plan_keys(&self) -> Result<Plan, OutOfMemory>
+    pub(crate) fn plan_keys<'a>(&self) -> Result<Plan<'a>, OutOfMemory>
         requires known { ⟦<Core<B> as Reached>⟧.IsReached self.now }
         ensures { IfOk result (λ p. (h : List Entry) → ⟦<Core<B> as Reached>⟧.IsAfter self.now h → (actor : Actor) (at : ℕ)
             → IsPlan self.now.config self.now.unit (past_of self.now.config self.now.unit h) actor at Act.PrKeys p) }
@@ -48,7 +48,7 @@ where
     }
 
     /// Tells the reservation.
-    pub(crate) fn plan_holder(&self) -> Plan
+    pub(crate) fn plan_holder<'a>(&self) -> Plan<'a>
         requires known { ⟦<Core<B> as Reached>⟧.IsReached self.now }
         ensures { (h : List Entry) → ⟦<Core<B> as Reached>⟧.IsAfter self.now h → (actor : Actor) (at : ℕ)
             → IsPlan self.now.config self.now.unit (past_of self.now.config self.now.unit h) actor at Act.PrHolder result }

@@ -92,7 +92,7 @@ where
         ensures few { result ≤ 1026 }
     {
         match act {
-            Act::Start { rod, .. } => 2 + pieces(rod.blocks()),
+            Act::Start { rod, .. } => 2 + pieces(rod.list().blocks()),
             Act::Open { .. } => 2,
             _ if self.serves(actor, act) => 0,
             _ => 1,

@@ -60,19 +60,20 @@ where
         ensures reservations { IfOk result (λ t. t.reservations ≡ unreserved) }
         ensures written { IfOk result (λ t. B.written_by t.blocks no_writers) }
     {
+        let jobs = JobTable::new(alloc)?;
         let told = config.unit(unit);
         let tokens = RodStore::new(alloc, config, unit)?;
         let blocks = B::new(alloc, told.blocks, told.block_length)?;
         Ok(Tables {
             blocks,
             tokens,
-            jobs: JobTable::new(alloc),
+            jobs,
             reservations: PrState::new(alloc),
         })
     }
 
     /// Does what is planned, at a moment, and gives the planned answer. At `OutOfMemory` all stands as before.
-    pub fn change(&mut self, now: u64, plan: Plan) -> Result<Answer, OutOfMemory>
+    pub fn change(&mut self, now: u64, plan: Plan<'_>) -> Result<Answer, OutOfMemory>
         requires blocks { MayChange (B.blocks self.old.blocks) (B.block_length self.old.blocks) plan.blocks }
         requires jobs { MayJob plan.jobs self.old.jobs }
         requires tokens { (spare : ℕ) → (is_make plan.tokens ≡ true → 1 ≤ spare)
@@ -81,13 +82,13 @@ where
         requires apart { (grows plan.jobs || is_make plan.tokens) ≡ true → is_nothing plan.blocks ≡ true }
         requires pinned { ArePinned B.number (B.blocks self.old.blocks) (B.pinned self.old.blocks) (holder None self.old.tokens.tokens) }
         ensures pinned { ArePinned B.number (B.blocks self.new.blocks) (B.pinned self.new.blocks) (holder None self.new.tokens.tokens) }
-        ensures answer { IfOk result (λ a. a ≡ plan.answer) }
+        ensures answer { IfOk result (λ a. a ≡ plan.entry.answer) }
         ensures wrote { OnOk result ((block : ℕ) → B.holds self.new.blocks block
-            ≡ after (writings_of plan.blocks) block (B.holds self.old.blocks block)) }
-        ensures jobs { OnOk result (self.new.jobs ≡ jobs_after plan.jobs self.old.jobs) }
-        ensures reservations { OnOk result (self.new.reservations ≡ unwrap_or plan.reservations self.old.reservations) }
+            ≡ after (writings_of plan.entry.blocks) block (B.holds self.old.blocks block)) }
+        ensures jobs { OnOk result (self.new.jobs ≡ jobs_after plan.entry.jobs self.old.jobs) }
+        ensures reservations { OnOk result (self.new.reservations ≡ unwrap_or plan.entry.reservations self.old.reservations) }
         ensures tokens { OnOk result ((rods_of B.number (B.block_length self.new.blocks) (B.shown self.new.blocks) self.new.tokens).tokens
-            ≡ tokens_after (rod_now (B.block_length self.old.blocks) (B.holds self.old.blocks)) plan.tokens now
+            ≡ tokens_after (rod_now (B.block_length self.old.blocks) (B.holds self.old.blocks)) plan.entry.tokens now
             (rods_of B.number (B.block_length self.old.blocks) (B.shown self.old.blocks) self.old.tokens).tokens) }
         ensures unit { self.new.tokens.unit ≡ self.old.tokens.unit }
         ensures blocks { B.blocks self.new.blocks ≡ B.blocks self.old.blocks }
@@ -97,10 +98,10 @@ where
         ensures same_reservations { OnErr result (self.new.reservations ≡ self.old.reservations) }
         ensures same_tokens { OnErr result ((rods_of B.number (B.block_length self.new.blocks) (B.shown self.new.blocks) self.new.tokens).tokens
             ≡ (rods_of B.number (B.block_length self.old.blocks) (B.shown self.old.blocks) self.old.tokens).tokens) }
-        ensures memory { OnErr result (takes_none plan ≡ false) }
+        ensures memory { OnErr result (takes_none plan.entry ≡ false) }
         ensures written { OnOk result ((w : Writers) (put : ℕ) → B.written_by self.old.blocks w → IsNew (B.blocks self.old.blocks) (B.pinned self.old.blocks) w put
             → AreWriters B.number (B.written_by self.new.blocks) self.new.tokens.tokens
-            (seen_after put (writings_of plan.blocks) (ranges_pinned plan.tokens) (length self.old.tokens.tokens) (lives_in self.new.tokens.tokens) (put_seen B.number w self.old.tokens.tokens))) }
+            (seen_after put (writings_of plan.entry.blocks) (ranges_pinned plan.entry.tokens) (length self.old.tokens.tokens) (lives_in self.new.tokens.tokens) (put_seen B.number w self.old.tokens.tokens))) }
         ensures writers { OnErr result ((w : Writers) → B.written_by self.old.blocks w
             → AreWriters B.number (B.written_by self.new.blocks) self.new.tokens.tokens (put_seen B.number w self.old.tokens.tokens)) }
     {

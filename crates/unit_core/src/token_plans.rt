@@ -28,13 +28,13 @@ where
     B::Pin: Drop,
 {
     /// Makes a token of the blocks of the ranges, as they stand.
-    pub(crate) fn plan_populate(
+    pub(crate) fn plan_populate<'a>(
         &self,
         actor: Actor,
         id: u32,
         timeout: u32,
         ranges: &RangeList,
-    ) -> Result<Plan, OutOfMemory>
+    ) -> Result<Plan<'a>, OutOfMemory>
         requires known { ⟦<Core<B> as Reached>⟧.IsReached self.now }
         requires limits { within_limits self.now.config self.now.unit (Act.Populate id timeout ranges.now) ≡ true }
         requires asked { may_ask self.now.unit actor (Act.Populate id timeout ranges.now) ≡ true }
@@ -73,12 +73,12 @@ where
     }
 
     /// Gives the blocks of the token that the text names, and notes the use.
-    pub(crate) fn plan_redeem(
+    pub(crate) fn plan_redeem<'a>(
         &self,
         moment: u64,
         text: &[u8; 512],
         target: u16,
-    ) -> Result<Plan, OutOfMemory>
+    ) -> Result<Plan<'a>, OutOfMemory>
         requires known { ⟦<Core<B> as Reached>⟧.IsReached self.now }
         requires pinned { ⟦<Core<B> as Reached>⟧.IsPinned self.now }
         requires limits { within_limits self.now.config self.now.unit (Act.Redeem text.now target) ≡ true }

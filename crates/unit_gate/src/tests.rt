@@ -6,7 +6,7 @@ ghost use Rattle.unit_gate.specs.Recorded.{HasRecorded};
 
 use super::*;
 use cm_base::{CallList, Config, Payload, UnitConfig, UnitList};
-use cm_history::{Act, ActRefused, Actor, Entry, History, within_limits};
+use cm_history::{Act, ActRefused, Actor, Entry, History, RodBlocks, within_limits};
 use lba_ranges::{BlockList, Range, RangeList};
 use recorder::{MemoryRecorder, NoRecorder};
 use std::alloc::Global;
@@ -373,7 +373,7 @@ fn start_of_one(alloc: Global) -> Result<Act, Fail>
         id: 1,
         background: false,
         ranges,
-        rod,
+        rod: RodBlocks::new(alloc, rod)?,
     })
 }
 

@@ -251,7 +251,7 @@ impl Needed {
                 Actor::Nexus(nexus),
             ) => {
                 let key = Key { nexus, id: *id };
-                return self.start(alloc, key, *background, ranges, rod);
+                return self.start(alloc, key, *background, ranges, rod.list());
             }
             (Act::Advance { id } | Act::End { id }, _) => *id,
             _ => 0,

@@ -241,8 +241,8 @@ fn seen_token_act(unit: u16, act: &Act) -> Seen {
             ..
         } => Seen::Start {
             background: *background,
-            blocks: rod.blocks(),
-            mapped: rod.held(0).is_some(),
+            blocks: rod.list().blocks(),
+            mapped: rod.list().held(0).is_some(),
         },
         Act::Advance { id } => Seen::Advance { id: *id },
         Act::End { id } => Seen::End { id: *id },

@@ -35,11 +35,6 @@ abbrev pub AllJobs : List Job → Type 0
 AllJobs [] = ⊤
 AllJobs (job ∷ jobs) = IsJob job × AllJobs jobs
 
--- no job has a greater identifier
-abbrev pub AreUpTo : ℕ → List Job → Type 0
-AreUpTo highest [] = ⊤
-AreUpTo highest (job ∷ jobs) = (job.key.id ≤ highest) × AreUpTo highest jobs
-
 -- the jobs, and what is counted of them
 pub record IsTable (kept : List Job) (own_running own_reserved : ℕ) : Type 0 where
   pub counts_running : own_running ≡ length (running kept)

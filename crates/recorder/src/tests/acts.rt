@@ -4,7 +4,7 @@ ghost use Rattle.lba_ranges.specs.HeldBlocks.{IsFull};
 ghost use Rattle.recorder.specs.Text.{HasShortLists};
 
 use cm_base::{Bytes, Payload};
-use cm_history::{Act, CopyEnd, CopyState, TokenText};
+use cm_history::{Act, CopyEnd, CopyState, RodBlocks, TokenText};
 use lba_ranges::{BlockList, Fill, Piece, Range, RangeList};
 use std::alloc::Global;
 use std::test::Fail;
@@ -179,7 +179,7 @@ fn low_act(alloc: Global, code: u8) -> Result<Act, Fail>
             id,
             background: true,
             ranges: ranges(alloc)?,
-            rod: blocks(alloc)?,
+            rod: RodBlocks::new(alloc, blocks(alloc)?)?,
         }),
         _ => Ok(Act::Advance { id }),
     }

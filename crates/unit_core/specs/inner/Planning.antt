@@ -107,7 +107,7 @@ piece_plan unit now piece =
     }
     else record {
       answer = Answer.Progress (if piece.is_last then OpState.Done else OpState.Running) (piece.written + length piece.list.items);
-      blocks = BlockChange.Put piece.ranges piece.list;
+      blocks = BlockChange.PutPiece piece.ranges piece.list;
       jobs = JobChange.Move piece.key (length piece.list.items);
       tokens = TokenChange.Nothing;
       reservations = None;

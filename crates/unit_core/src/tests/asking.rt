@@ -7,7 +7,8 @@ ghost use Rattle.cm_history.specs.Legal.{may_ask};
 use crate::{FoldEnd, Unit};
 use cm_base::{Config, Payload, UnitConfig, UnitList};
 use cm_history::{
-    Act, ActRefused, Actor, Answer, CopyEnd, CopyState, OpState, TokenText, within_limits,
+    Act, ActRefused, Actor, Answer, CopyEnd, CopyState, OpState, RodBlocks, TokenText,
+    within_limits,
 };
 use lba_ranges::{BlockList, Range, RangeList};
 use recorder::MemoryRecorder;
@@ -271,7 +272,7 @@ pub(crate) fn start(
     ensures unit { unit.new.unit ≡ unit.old.unit }
 {
     let ranges = row(alloc, 0, count)?;
-    let rod = blocks(alloc, 0x33, count)?;
+    let rod = RodBlocks::new(alloc, blocks(alloc, 0x33, count)?)?;
     let act = Act::Start {
         id: 2,
         background,

@@ -6,7 +6,7 @@ ghost use Rattle.cm_history.specs.Legal.{may_ask};
 use super::asking::{Told, ample, ask_as, blocks, fold, pump, read, report, row, start};
 use crate::Unit;
 use cm_base::{CallList, Config, ReservationAction};
-use cm_history::Act;
+use cm_history::{Act, RodBlocks};
 use recorder::MemoryRecorder;
 use std::alloc::Global;
 use std::test::Fail;
@@ -148,7 +148,7 @@ fn act_on_blocks(alloc: Global, number: u32) -> Result<Act, Fail>
             id: 2,
             background: true,
             ranges: row(alloc, 2, 1)?,
-            rod: blocks(alloc, 0x66, 1)?,
+            rod: RodBlocks::new(alloc, blocks(alloc, 0x66, 1)?)?,
         }),
     }
 }

@@ -4,7 +4,7 @@ ghost use Rattle.std.specs.Prelude.{◌≡◌, length};
 use super::asking::{Told, advance, ample, ask, fill, populate, redeem, row, write};
 use crate::Unit;
 use cm_base::Config;
-use cm_history::{Act, Actor, Answer, TokenText, within_limits};
+use cm_history::{Act, Actor, Answer, RodBlocks, TokenText, within_limits};
 use lba_ranges::BlockList;
 use std::alloc::Global;
 use std::test::Fail;
@@ -52,7 +52,7 @@ fn start_redeemed(alloc: Global, config: &Config, unit: &mut Unit) -> Result<Tol
     ensures config { unit.new.config ≡ unit.old.config }
     ensures unit { unit.new.unit ≡ unit.old.unit }
 {
-    let rod = redeemed(alloc, config, unit)?;
+    let rod = RodBlocks::new(alloc, redeemed(alloc, config, unit)?)?;
     let ranges = row(alloc, 10, 2)?;
     let act = Act::Start {
         id: 2,

@@ -11,7 +11,7 @@ pub returns-clause-may : goal.returns-clause-may
 returns-clause-may g c =
     let fits : c.args.lba + c.blocks-count.result ≤ c.args.unit.blocks = omega arith in
     let test : nat_le (c.args.lba + c.blocks-count.result) c.args.unit.blocks ≡ true = grind (arith, nat_tests) in
-    rw (c.in_ok-ranges.ensures, c.in_ok-list.ensures) (record {
+    rw c.in_ok-ranges.ensures (record {
       within = rw test refl;
       apart = overlapping-cons (record { lba = c.args.lba; count = c.blocks-count.result }) [];
       total = omega arith;

@@ -1,15 +1,16 @@
-use Rattle.std.proofs.Common.{List, ◌∙◌, arith, drop, rules, tests}
-use Rattle.std.proofs.lemmas.Iterator.Search.{any_from_yields_List}
-use Rattle.std.proofs.lemmas.Iterator.Consumers.{YieldsList-from_deque}
-use Rattle.copy_jobs.specs.declared.job.Job.{Job}
-use Rattle.copy_jobs.specs.Jobs.{runs_as}
-use Rattle.copy_jobs.proofs.Later.{any-later, runs-running, rest-all}
+use Rattle.std.proofs.Common.{ap, sym, ◌∙◌}
+use Rattle.std.specs.Prelude.{Some, None}
+use Rattle.std.specs.Option.{option_copied}
+use Rattle.copy_jobs.proofs.KeyEq.{key-own}
+use Rattle.copy_jobs.proofs.Own.{busy-under}
 use Rattle.copy_jobs.proofs.table.JobTable.runs.Goals as goal
 
-pub returns-clause-busy : goal.returns-clause-busy
-returns-clause-busy c =
-    let jobs : List Job = c.self.inside.jobs.items in
-    let from = c.first_to_run.result in
-    let is = any_from_yields_List (runs_as c.args.key) _ _ c.any.result c.any.ensures.ran
-    (YieldsList-from_deque (drop from jobs) (c.range.ensures.rest ∙ rest-all jobs from _ (omega arith))) (λ x b q k. search (rules, tests)) in
-    rw (← c.self.view_is) (is ∙ any-later (runs_as c.args.key) jobs from (runs-running c.args.key) (rw c.self.view_is c.first_to_run.ensures.none))
+pub returns-in-Some-clause-busy : goal.returns-in-Some-clause-busy
+returns-in-Some-clause-busy c =
+    let is = busy-under c.args.key _ c.self.inside.works.entries (key-own c.args.key) c.self.invariant.0.apart (Some c.in-Some.work.now) (sym (ap option_copied c.in-Some.is) ∙ c.peek.ensures) in
+    rw (c.is_running.ensures, ← c.self.view_is) (sym is)
+
+pub returns-in-None-clause-busy : goal.returns-in-None-clause-busy
+returns-in-None-clause-busy c =
+    let is = busy-under c.args.key _ c.self.inside.works.entries (key-own c.args.key) c.self.invariant.0.apart None (sym (ap option_copied c.in-None.is) ∙ c.peek.ensures) in
+    rw (← c.self.view_is) (sym is)

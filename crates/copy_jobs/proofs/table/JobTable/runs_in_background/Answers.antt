@@ -1,17 +1,16 @@
-use Rattle.std.proofs.Common.{List, ◌∙◌, arith, drop, rules, tests}
-use Rattle.std.proofs.lemmas.Iterator.Search.{any_from_yields_List}
-use Rattle.std.proofs.lemmas.Iterator.Consumers.{YieldsList-from_deque}
-use Rattle.copy_jobs.specs.declared.job.Job.{Job}
-use Rattle.copy_jobs.specs.Jobs.{runs_as}
-use Rattle.copy_jobs.specs.Pieces.{is_background, runs_in_background}
-use Rattle.cm_history.proofs.PublicLaws.{and_first}
-use Rattle.copy_jobs.proofs.Later.{any-later, runs-running, rest-all}
+use Rattle.std.proofs.Common.{ap, sym, ◌∙◌}
+use Rattle.std.specs.Prelude.{Some, None}
+use Rattle.std.specs.Option.{option_copied}
+use Rattle.copy_jobs.proofs.KeyEq.{key-own}
+use Rattle.copy_jobs.proofs.Own.{background-under}
 use Rattle.copy_jobs.proofs.table.JobTable.runs_in_background.Goals as goal
 
-pub returns : goal.returns
-returns c =
-    let jobs : List Job = c.self.inside.jobs.items in
-    let from = c.first_to_run.result in
-    let is = any_from_yields_List (runs_in_background c.args.key) _ _ c.any.result c.any.ensures.ran
-    (YieldsList-from_deque (drop from jobs) (c.range.ensures.rest ∙ rest-all jobs from _ (omega arith))) (λ x b q k. search (rules, tests)) in
-    rw (← c.self.view_is) (is ∙ any-later (runs_in_background c.args.key) jobs from (λ job e. runs-running c.args.key job (and_first (runs_as c.args.key job) (is_background job.work) e)) (rw c.self.view_is c.first_to_run.ensures.none))
+pub returns-in-Some : goal.returns-in-Some
+returns-in-Some c =
+    let is = background-under c.args.key _ c.self.inside.works.entries (key-own c.args.key) c.self.invariant.0.apart (Some c.in-Some.work.now) (sym (ap option_copied c.in-Some.is) ∙ c.peek.ensures) in
+    rw (c.is.ensures, ← c.self.view_is) (sym is)
+
+pub returns-in-None : goal.returns-in-None
+returns-in-None c =
+    let is = background-under c.args.key _ c.self.inside.works.entries (key-own c.args.key) c.self.invariant.0.apart None (sym (ap option_copied c.in-None.is) ∙ c.peek.ensures) in
+    rw (← c.self.view_is) (sym is)

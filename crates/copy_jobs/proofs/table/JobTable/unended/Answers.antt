@@ -1,36 +1,19 @@
-use Rattle.std.proofs.Common.{◌≡◌, List, sym, ◌∙◌, arith, drop, rules, tests, refl}
-use Rattle.std.specs.Prelude.{Some, None, find}
-use Rattle.std.proofs.lemmas.Iterator.Search.{find_from_yields_List}
-use Rattle.std.proofs.lemmas.Iterator.Consumers.{YieldsList-from_deque}
+use Rattle.std.proofs.Common.{◌≡◌, ◌<◌, List, refl, true}
+use Rattle.std.specs.Prelude.{Option, Some, None, find, IfSome}
+use Rattle.std.specs.Option.{option_map}
 use Rattle.copy_jobs.specs.declared.job.Job.{Job}
-use Rattle.copy_jobs.specs.Unended.{is_unended}
+use Rattle.copy_jobs.specs.Unended.{is_unended, unended}
+use Rattle.copy_jobs.specs.inner.Tables.{AllJobs}
 use Rattle.copy_jobs.proofs.Found.{find-job}
-use Rattle.copy_jobs.proofs.Later.{find-later, rest-all, unended-runs}
 use Rattle.copy_jobs.proofs.table.JobTable.unended.Goals as goal
 
-pub returns-in_err-job-clause-unended : goal.returns-in_err-job-clause-unended
-returns-in_err-job-clause-unended c =
-    let jobs : List Job = c.self.inside.jobs.items in
-    let is = find_from_yields_List is_unended _ _ c.find.result c.find.ensures.ran
-    (YieldsList-from_deque (drop c.first_to_run.result jobs) (c.range-later.ensures.rest ∙ rest-all jobs c.first_to_run.result _ (omega arith))) (λ x b q k. search (rules, tests)) in
-    let first = find-later is_unended jobs c.first_to_run.result unended-runs (rw c.self.view_is c.first_to_run.ensures.none) in
-    let none : find is_unended jobs ≡ None = sym first ∙ sym is ∙ rw c.in_err-job.was refl in
-    c.from_residual.ensures ∙ rw (← c.self.view_is, none) refl
-
-pub returns-clause-unended : goal.returns-clause-unended
-returns-clause-unended c =
-    let jobs : List Job = c.self.inside.jobs.items in
-    let is = find_from_yields_List is_unended _ _ c.find.result c.find.ensures.ran
-    (YieldsList-from_deque (drop c.first_to_run.result jobs) (c.range-later.ensures.rest ∙ rest-all jobs c.first_to_run.result _ (omega arith))) (λ x b q k. search (rules, tests)) in
-    let first = find-later is_unended jobs c.first_to_run.result unended-runs (rw c.self.view_is c.first_to_run.ensures.none) in
-    let found : find is_unended jobs ≡ Some c.in_ok-job.job.now = sym first ∙ sym is ∙ rw c.in_ok-job.was refl in
-    rw (← c.self.view_is, found) refl
+-- the identifier of a copy has one byte
+bytes : (jobs : List Job) → AllJobs jobs → IfSome (unended jobs) (λ key. key.copy ≡ true → key.id < 256)
+bytes jobs all = of (find is_unended jobs) refl
+  where
+    of : (o : Option Job) → find is_unended jobs ≡ o → IfSome (option_map (λ (job : Job). job.key) o) (λ key. key.copy ≡ true → key.id < 256)
+    of None e = tt
+    of (Some job) e = (find-job is_unended jobs job all e).byte
 
 pub returns-clause-byte : goal.returns-clause-byte
-returns-clause-byte c =
-    let jobs : List Job = c.self.inside.jobs.items in
-    let is = find_from_yields_List is_unended _ _ c.find.result c.find.ensures.ran
-    (YieldsList-from_deque (drop c.first_to_run.result jobs) (c.range-later.ensures.rest ∙ rest-all jobs c.first_to_run.result _ (omega arith))) (λ x b q k. search (rules, tests)) in
-    let first = find-later is_unended jobs c.first_to_run.result unended-runs (rw c.self.view_is c.first_to_run.ensures.none) in
-    let found : find is_unended jobs ≡ Some c.in_ok-job.job.now = sym first ∙ sym is ∙ rw c.in_ok-job.was refl in
-    (find-job is_unended jobs c.in_ok-job.job.now c.self.invariant.0.jobs found).byte
+returns-clause-byte c = rw c.first_running.ensures.first (bytes c.args.self.now c.first_running.ensures.jobs)

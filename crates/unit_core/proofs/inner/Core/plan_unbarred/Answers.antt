@@ -22,7 +22,9 @@ returns-in-Pump-clause-planned g c =
     (c.requires.asked, inr (record { act = c.in-Pump.is; key_is = refl; none = refl }))) c.plan_piece-in-Pump.ensures
 
 pub returns-in-Unmap-clause-planned : goal.returns-in-Unmap-clause-planned
-returns-in-Unmap-clause-planned g c = rw c.in-Unmap.is (IfOk-weaker c.plan_unmap.result _ _ (λ p f h a. f h a c.args.actor c.args.moment) c.plan_unmap.ensures)
+returns-in-Unmap-clause-planned g c = λ h a free.
+    let unbarred = rw c.in-Unmap.is at free in
+    rw c.in-Unmap.is (c.plan_unmap.ensures h a c.args.actor c.args.moment unbarred)
 
 pub returns-in-MapStatus-clause-planned : goal.returns-in-MapStatus-clause-planned
 returns-in-MapStatus-clause-planned g c = rw c.in-MapStatus.is (IfOk-weaker c.plan_status.result _ _ (λ p f h a. f h a c.args.actor c.args.moment) c.plan_status.ensures)
@@ -34,7 +36,7 @@ pub returns-in-Redeem-clause-planned : goal.returns-in-Redeem-clause-planned
 returns-in-Redeem-clause-planned g c = rw (c.in-Redeem.is, ← c.bytes.ensures) (IfOk-weaker c.plan_redeem.result _ _ (λ p f h a free. f h a c.args.actor) c.plan_redeem.ensures)
 
 pub returns-in-Start-clause-planned : goal.returns-in-Start-clause-planned
-returns-in-Start-clause-planned g c = rw c.in-Start.is (IfOk-weaker c.plan_start.result _ _ (λ p f h a. f h a c.args.moment) c.plan_start.ensures)
+returns-in-Start-clause-planned g c = rw (c.in-Start.is, ← c.list.ensures) (IfOk-weaker c.plan_start.result _ _ (λ p f h a. f h a c.args.moment) c.plan_start.ensures)
 
 pub returns-in-Delete-clause-planned : goal.returns-in-Delete-clause-planned
 returns-in-Delete-clause-planned g c = λ h a free.

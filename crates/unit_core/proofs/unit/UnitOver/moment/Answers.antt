@@ -1,14 +1,7 @@
-use Rattle.std.proofs.Common.{◌≡◌, ◌≤◌, ◌<◌, ◌+◌, ◌-◌, ◌++◌, ◌∷◌, [], ℕ, List, length, true, false, Bool, ◌∙◌, ap, refl, sym, subst, arith}
-use Rattle.std.specs.Prelude.{is_some, max}
-use Rattle.cm_base.specs.Units.{unit_of}
+use Rattle.std.proofs.Common.{◌+◌, length, ap, sym}
 use Rattle.cm_history.specs.Folding.{StandsFor}
-use Rattle.cm_history.specs.History.{past_of}
-use Rattle.unit_core.specs.UnitState.{Stands}
 use Rattle.unit_core.proofs.AnswersAs.{answers_as}
-use Rattle.unit_core.specs.inner.Agreeing.{TablesAgree}
 use Rattle.unit_core.specs.inner.Shown.{image_shown}
-use Rattle.unit_core.proofs.Standing.{stands-own}
-use Rattle.unit_core.proofs.Steps.{known-of}
 use Rattle.cm_history.specs.Image.{Image}
 use Rattle.token_pins.specs.Pinning.{rods_of}
 use Rattle.unit_core.proofs.unit.UnitOver.moment.Goals as goal

@@ -1,0 +1,13 @@
+-- The jobs as they lie under their keys, the newest first
+use Rattle.std.specs.Prelude.{List, [], ◌∷◌, ◌++◌}
+use Rattle.copy_jobs.specs.declared.key.Key.{Key}
+use Rattle.copy_jobs.specs.declared.job.Job.{Job}
+use Rattle.copy_jobs.specs.declared.job.Work.{Work}
+
+abbrev pub job_of : Key × Work → Job
+job_of entry = record { key = entry.0; work = entry.1 }
+
+-- in the order in which they were kept
+abbrev pub jobs_of : List (Key × Work) → List Job
+jobs_of [] = []
+jobs_of (entry ∷ entries) = jobs_of entries ++ job_of entry ∷ []
