@@ -1,11 +1,12 @@
 -- The jobs as they lie under their keys
-use Rattle.std.proofs.Common.{◌≡◌, ℕ, zero, suc, ◌-◌, ◌≤◌, List, [], ◌∷◌, ◌++◌, length, length-append, append-nil, take, refl, ap, sym, ◌∙◌, arith, true, false, Bool}
+use Rattle.std.proofs.Common.{◌≡◌, ℕ, zero, suc, ◌+◌, ◌-◌, ◌<◌, ◌≤◌, List, [], ◌∷◌, ◌++◌, length, length-append, append-nil, take, refl, ap, sym, ◌∙◌, arith, true, false, Bool}
 use Rattle.std.specs.Prelude.{◌||◌, ◌&&◌, not, Option, Some, None, slice_get, find, filter, cond, if◌then◌else◌}
 use Rattle.std.specs.List.{list_any}
 use Rattle.std.specs.Option.{option_map, option_map_or}
 use Rattle.std.specs.Map.{lookup, lookup_entry, remove_entry, set_value}
 use Rattle.std.proofs.lemmas.List.Elements.{filter-append}
-use Rattle.lru.specs.LruCache.{LruCache, put_entries}
+use Rattle.lru.specs.LruCache.{LruCache, put_entries, last_entry}
+use Rattle.lru.proofs.Pairs.{last_of_push}
 use Rattle.copy_jobs.specs.declared.key.Key.{Key}
 use Rattle.copy_jobs.specs.declared.job.Job.{Job}
 use Rattle.copy_jobs.specs.declared.job.Work.{Work}
@@ -14,7 +15,7 @@ use Rattle.copy_jobs.specs.Jobs.{has_key, is_running, is_running_work, runs_as, 
 use Rattle.copy_jobs.specs.Keeping.{is_other, without_first}
 use Rattle.copy_jobs.specs.Changes.{change, with_work}
 use Rattle.copy_jobs.specs.Tables.{KeysApart}
-use Rattle.copy_jobs.specs.inner.Entries.{job_of, jobs_of}
+use Rattle.copy_jobs.specs.inner.Entries.{job_of, jobs_of, first_runs}
 use Rattle.copy_jobs.proofs.Lists.{or_first, or_later}
 use Rattle.copy_jobs.proofs.SameKeys.{same_key-sym, same_key-refl, same_key-is, any-alike, same-all}
 use Rattle.copy_jobs.proofs.Next.{other-key}
@@ -223,7 +224,7 @@ pub length-jobs : (entries : List (Key × Work)) → length (jobs_of entries) �
 length-jobs [] = refl
 length-jobs (entry ∷ entries) = let rest = length-jobs entries in let sum = length-append (jobs_of entries) (job_of entry ∷ []) in omega (arith, sum, rest)
 
-take-whole : {X : Type 0} (xs : List X) (n : ℕ) → length xs ≤ n → take n xs ≡ xs
+pub take-whole : {X : Type 0} (xs : List X) (n : ℕ) → length xs ≤ n → take n xs ≡ xs
 take-whole [] zero h = refl
 take-whole [] (suc n) h = refl
 take-whole (x ∷ xs) zero h = absurd (omega arith)
@@ -245,27 +246,48 @@ none-removed own (x ∷ xs) e = go (own x.0) e (none-removed own xs)
     go true f later = cc
     go false f later = ap (λ l. x ∷ l) (later f)
 
+-- where none is kept under its key, all stay
+pub fresh : (own : Key → Bool) (entries : List (Key × Work)) (key : Key) → IsOwn key own → KeysApart (jobs_of entries) → is_busy key (jobs_of entries) ≡ false
+    → lookup_entry own entries ≡ None → filter (is_other key) (jobs_of entries) ≡ jobs_of entries
+fresh own entries key is a idle none = sym (removed key own entries is a idle) ∙ ap jobs_of (none-removed own entries none)
+
+removed-length : (own : Key → Bool) (entries : List (Key × Work)) (entry : Key × Work) → lookup_entry own entries ≡ Some entry → length (remove_entry own entries) + 1 ≡ length entries
+removed-length own [] entry e = cc
+removed-length own (x ∷ xs) entry e = go (own x.0) e (removed-length own xs entry)
+  where
+    go : (t : Bool) → cond t (Some x) (lookup_entry own xs) ≡ Some entry → (lookup_entry own xs ≡ Some entry → length (remove_entry own xs) + 1 ≡ length xs)
+        → length (cond t xs (x ∷ remove_entry own xs)) + 1 ≡ length (x ∷ xs)
+    go true f later = omega arith
+    go false f later = let rest = later f in omega arith
+
+-- where one is, it goes
+pub fewer : (own : Key → Bool) (entries : List (Key × Work)) (key : Key) (entry : Key × Work) → IsOwn key own → KeysApart (jobs_of entries) → is_busy key (jobs_of entries) ≡ false
+    → lookup_entry own entries ≡ Some entry → length (filter (is_other key) (jobs_of entries)) + 1 ≡ length entries
+fewer own entries key entry is a idle e =
+    let left : length (jobs_of (remove_entry own entries)) ≡ length (filter (is_other key) (jobs_of entries)) = ap length (removed key own entries is a idle) in
+    let long = length-jobs (remove_entry own entries) in
+    let one = removed-length own entries entry e in
+    omega arith
+
+pub put-again : (own : Key → Bool) (entries : List (Key × Work)) (job : Job) (entry : Key × Work) → IsOwn job.key own → KeysApart (jobs_of entries) → is_busy job.key (jobs_of entries) ≡ false
+    → lookup_entry own entries ≡ Some entry → jobs_of ((entry.0, job.work) ∷ remove_entry own entries) ≡ filter (is_other job.key) (jobs_of entries) ++ job ∷ []
+put-again own entries job entry is a idle e =
+    let same : same_key job.key entry.0 ≡ true = sym (is entry.0) ∙ entry-own own entries entry e in
+    rw (← same_key-is job.key entry.0 same, removed job.key own entries is a idle) refl
+
 pub put : (eq : Key → Key → Bool) (cache : LruCache Key Work) (job : Job) → IsOwn job.key (eq job.key) → KeysApart (jobs_of cache.entries) → is_busy job.key (jobs_of cache.entries) ≡ false
     → length cache.entries ≤ cache.cap - 1 → jobs_of (put_entries eq cache job.key job.work) ≡ filter (is_other job.key) (jobs_of cache.entries) ++ job ∷ []
 put eq cache job is a idle low = go (lookup_entry (eq job.key) cache.entries) refl
   where
-    left : jobs_of (remove_entry (eq job.key) cache.entries) ≡ filter (is_other job.key) (jobs_of cache.entries)
-    left = removed job.key (eq job.key) cache.entries is a idle
-
     go : (o : Option (Key × Work)) → lookup_entry (eq job.key) cache.entries ≡ o
         → jobs_of (option_map_or (λ e. (e.0, job.work) ∷ remove_entry (eq job.key) cache.entries) o ((job.key, job.work) ∷ take (cache.cap - 1) cache.entries))
         ≡ filter (is_other job.key) (jobs_of cache.entries) ++ job ∷ []
-    go (Some entry) h =
-        let own : same_key job.key entry.0 ≡ true = sym (is entry.0) ∙ entry-own (eq job.key) cache.entries entry h in
-        rw (← same_key-is job.key entry.0 own, left) refl
-    go None h =
-        let whole : take (cache.cap - 1) cache.entries ≡ remove_entry (eq job.key) cache.entries =
-        take-whole cache.entries (cache.cap - 1) low ∙ sym (none-removed (eq job.key) cache.entries h) in
-        rw (whole, left) refl
+    go (Some entry) h = put-again (eq job.key) cache.entries job entry is a idle h
+    go None h = rw (take-whole cache.entries (cache.cap - 1) low, fresh (eq job.key) cache.entries job.key is a idle h) refl
 
 -- ---- the oldest
 
-jobs-oldest : (entries : List (Key × Work)) (entry : Key × Work) → jobs_of (entries ++ entry ∷ []) ≡ job_of entry ∷ jobs_of entries
+pub jobs-oldest : (entries : List (Key × Work)) (entry : Key × Work) → jobs_of (entries ++ entry ∷ []) ≡ job_of entry ∷ jobs_of entries
 jobs-oldest [] entry = refl
 jobs-oldest (x ∷ xs) entry = ap (λ l. l ++ job_of x ∷ []) (jobs-oldest xs entry)
 
@@ -273,14 +295,19 @@ pub find-oldest : (test : Job → Bool) (all entries : List (Key × Work)) (entr
     → find test (jobs_of all) ≡ cond (test (job_of entry)) (Some (job_of entry)) (find test (jobs_of entries))
 find-oldest test all entries entry e = ap (λ l. find test (jobs_of l)) e ∙ ap (find test) (jobs-oldest entries entry)
 
--- the job that is found, by its key
-pub keyed : (o : Option Job) (key : Key) → option_map (λ (job : Job). job.key) o ≡ Some key → (job : Job) × (o ≡ Some job) × (job.key ≡ key)
-keyed None key e = cc
-keyed (Some job) key e = let same : job.key ≡ key = cc in (job, refl, same)
+pub last : (entries : List (Key × Work)) → 0 < length entries → (rest : List (Key × Work)) × (entry : Key × Work) × (entries ≡ rest ++ entry ∷ [])
+last [] some = absurd (omega arith)
+last (x ∷ []) some = ([], x, refl)
+last (x ∷ y ∷ ys) some = let it = last (y ∷ ys) (omega arith) in (x ∷ it.0, it.1, ap (λ l. x ∷ l) it.2)
 
-pub unkeyed : (o : Option Job) → option_map (λ (job : Job). job.key) o ≡ None → o ≡ None
-unkeyed None e = refl
-unkeyed (Some job) e = cc
+-- the one that was kept first
+pub first-runs : (entries : List (Key × Work)) (o : Option (Key × Work)) → o ≡ last_entry entries → first_runs (jobs_of entries) ≡ option_map_or (λ e. is_running_work e.1) o false
+first-runs [] o e = rw e refl
+first-runs (x ∷ xs) o e =
+    let it = last (x ∷ xs) (omega arith) in
+    let at : last_entry (x ∷ xs) ≡ Some it.1 = ap last_entry it.2 ∙ (last_of_push it.0 it.1).0 in
+    let told : o ≡ Some it.1 = e ∙ at in
+    ap (λ l. first_runs (jobs_of l)) it.2 ∙ ap first_runs (jobs-oldest it.0 it.1) ∙ rw told refl
 
 pub newest : (entries : List (Key × Work)) (entry : Key × Work) → slice_get entries 0 ≡ Some entry → (rest : List (Key × Work)) × (entries ≡ entry ∷ rest)
 newest [] entry e = cc

@@ -40,6 +40,16 @@ room-length jobs few runs = go (length jobs == kept_operations) refl
         omega arith
     go false e = grind (arith, nat_tests)
 
+pub kept-few : (jobs : List Job) (job : Job) → length jobs ≤ kept_operations → length (running jobs) ≤ running_operations → length (keep jobs job) ≤ kept_operations
+kept-few jobs job few runs =
+    let others = filter (is_other job.key) jobs in
+    let first = trims-filter job.key jobs in
+    let short : length others ≤ length jobs = trims-length jobs others first in
+    let alike : length (running others) ≡ length (running jobs) = ap length (trims-running jobs others first) in
+    let long : length (keep jobs job) ≡ length (with_room others) + 1 = length-append (with_room others) (job ∷ []) in
+    let fits = room-length others (omega arith) (omega arith) in
+    omega arith
+
 -- no job that stays has the key of a new one, if none of them runs
 pub fresh-key : (key : Key) (jobs : List Job) → is_busy key jobs ≡ false → list_any (has_key key) (filter (is_other key) jobs) ≡ false
 fresh-key key [] idle = refl

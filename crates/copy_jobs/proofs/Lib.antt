@@ -12,4 +12,5 @@ pub mod Entries
 pub mod KeyEq
 pub mod Own
 pub mod Newest
+pub mod Puts
 pub mod PublicLaws

@@ -1,12 +1,12 @@
 -- The newest job, where it alone runs
 use Rattle.std.proofs.Common.{◌≡◌, ◌+◌, List, [], ◌∷◌, ◌++◌, length, length-append, refl, ap, ◌∙◌, arith, true, false, Bool}
-use Rattle.std.specs.Prelude.{◌||◌, not, Some, None, find, cond}
+use Rattle.std.specs.Prelude.{◌||◌, ◌&&◌, not, Some, None, find, cond}
 use Rattle.std.specs.List.{list_any}
 use Rattle.std.proofs.lemmas.List.Elements.{filter-append}
 use Rattle.copy_jobs.specs.declared.key.Key.{Key}
 use Rattle.copy_jobs.specs.declared.job.Job.{Job}
 use Rattle.copy_jobs.specs.declared.job.Work.{Work}
-use Rattle.copy_jobs.specs.Jobs.{is_running, is_running_work, running, has_ended}
+use Rattle.copy_jobs.specs.Jobs.{has_key, is_busy, is_running, is_running_work, running, has_ended}
 use Rattle.copy_jobs.specs.inner.Entries.{job_of, jobs_of}
 use Rattle.copy_jobs.specs.inner.Sought.{runs_so}
 use Rattle.copy_jobs.proofs.Counts.{one_if, running-more}
@@ -38,6 +38,14 @@ none-found background jobs none = off jobs (none-run background jobs none)
             → cond t (Some x) (find (λ (job : Job). runs_so background job.work) xs) ≡ None
         go true f later = cc
         go false f later = later f
+
+pub none-busy : (key : Key) (jobs : List Job) → length (running jobs) ≡ 0 → is_busy key jobs ≡ false
+none-busy key [] none = refl
+none-busy key (x ∷ xs) none = go (is_running x) (has_key key x) (running-more x xs) (none-busy key xs)
+  where
+    go : (t k : Bool) → length (running (x ∷ xs)) ≡ one_if t + length (running xs) → (length (running xs) ≡ 0 → is_busy key xs ≡ false) → ((t && k) || is_busy key xs) ≡ false
+    go true k counted later = absurd (omega arith)
+    go false k counted later = later (omega arith)
 
 pub newest-alone : (background : Bool) (entry : Key × Work) (entries : List (Key × Work)) → length (running (jobs_of (entry ∷ entries))) ≡ 1 → is_running_work entry.1 ≡ true
     → find (λ (job : Job). runs_so background job.work) (jobs_of (entry ∷ entries)) ≡ cond (runs_so background entry.1) (Some (job_of entry)) None

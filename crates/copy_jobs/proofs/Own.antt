@@ -14,8 +14,6 @@ use Rattle.copy_jobs.specs.inner.Entries.{jobs_of}
 use Rattle.copy_jobs.specs.inner.Sought.{runs_so}
 use Rattle.copy_jobs.proofs.Lists.{or_first, or_later}
 use Rattle.copy_jobs.proofs.SameKeys.{any-alike}
-use Rattle.copy_jobs.proofs.Found.{find-any}
-use Rattle.copy_jobs.proofs.Next.{alone}
 use Rattle.copy_jobs.proofs.Entries.{IsOwn, looked-up, job-under}
 
 -- the test holds of jobs of the key alone, as the other does of their work
@@ -129,23 +127,3 @@ module _ (key : Key) (own : Key → Bool) (entries : List (Key × Work)) (is : I
       of : (p : Option Work) → if_so is_running_work (option_map (job-under key) p) ≡ Some job → IfSome p (λ work. work ≡ job.work)
       of None f = tt
       of (Some work) f = so (is_running_work work) work f
-
--- ---- a job that runs, by its key
-
--- it is what lies under its key
-pub runs-under : (test : Job → Bool) (job : Job) (key : Key) (own : Key → Bool) (entries : List (Key × Work)) (o : Option Work) → IsOwn key own → KeysApart (jobs_of entries) → o ≡ lookup own entries
-    → find test (jobs_of entries) ≡ Some job → is_running job ≡ true → job.key ≡ key → o ≡ Some job.work
-runs-under test job key own entries o is a e found runs same = of o refl
-  where
-    alike : find (runs_as key) (jobs_of entries) ≡ Some job
-    alike = rw (← same) (alone test (jobs_of entries) job a found runs)
-
-    of : (p : Option Work) → o ≡ p → p ≡ Some job.work
-    of None h =
-        let idle : is_busy key (jobs_of entries) ≡ false = busy-under key own entries is a None (sym h ∙ e) in
-        let busy : is_busy key (jobs_of entries) ≡ true = find-any (runs_as key) (jobs_of entries) job alike in
-        let no : true ≡ false = sym busy ∙ idle in
-        absurd cc
-    of (Some work) h =
-        let is-work : work ≡ job.work = running-under key own entries is a (Some work) (sym h ∙ e) job alike in
-        ap Some is-work

@@ -20,7 +20,7 @@ use crate::change::Change;
 use crate::job::{Job, Sought, Work, WriteJob};
 use crate::key::Key;
 use crate::piece::NextPiece;
-use crate::records::{self, Works};
+use crate::records::{self, KEPT_RECORDS, Works};
 use cm_base::OutOfMemory;
 use cm_history::{CopyEnd, CopyState, OpReport, OpState};
 use lba_ranges::{BlockList, RangeList};
@@ -43,7 +43,8 @@ pub struct JobTable {
 }
 
 impl Model for JobTable {
-    ghost use Rattle.std.specs.Prelude.{◌≡◌, ◌-◌, ◌^◌, List};
+    ghost use Rattle.std.specs.Prelude.{◌≡◌, List};
+    ghost use Rattle.cm_history.specs.Bounds.{kept_operations};
     ghost use Rattle.copy_jobs.specs.declared.job.Job.{Job};
     ghost use Rattle.copy_jobs.specs.inner.Entries.{jobs_of};
     ghost use Rattle.copy_jobs.specs.inner.Tables.{IsTable};
@@ -52,7 +53,7 @@ impl Model for JobTable {
 
     ghost view = { λ t. jobs_of t.works.entries };
 
-    ghost invariant = { λ t. IsTable (jobs_of t.works.entries) t.running t.reserved × (t.works.cap ≡ 2 ^ 64 - 1) };
+    ghost invariant = { λ t. IsTable (jobs_of t.works.entries) t.running t.reserved × (t.works.cap ≡ kept_operations) };
 }
 
 impl JobTable {
@@ -62,15 +63,17 @@ impl JobTable {
     {
         Ok(JobTable {
             alloc,
-            works: LruCache::unbounded(alloc)?,
+            works: LruCache::sparse(alloc, records::room(KEPT_RECORDS))?,
             running: 0,
             reserved: 0,
         })
     }
 
-    /// The key of the operation that was kept first of those that run so. Where one alone runs, it is mostly the newest.
-    fn first_running(&self, background: bool) -> Option<Key>
-        ensures first { result ≡ option_map (λ (job : Job). job.key) (find (λ (job : Job). runs_so background job.work) self.now) }
+    /// The operation that was kept first of those that run so, with its key. Where one alone runs, it is mostly the
+    /// newest.
+    fn first_running(&self, background: bool) -> Option<(Key, &Work)>
+        ensures none { result ≡ None → find (λ (job : Job). runs_so background job.work) self.now ≡ None }
+        ensures found { IfSome result (λ found. find (λ (job : Job). runs_so background job.work) self.now ≡ Some (record { key = found.0; work = found.1.now })) }
         ensures jobs { AllJobs self.now }
     {
         let sought = Sought::Running { background };
@@ -82,7 +85,7 @@ impl JobTable {
             && work.is_running()
         {
             if work.is(sought) {
-                return Some(*key);
+                return Some((*key, work));
             }
             return None;
         }
@@ -94,20 +97,14 @@ impl JobTable {
         ensures none { result ≡ None → find (is_next key) self.now ≡ None }
         ensures found { IfSome result (λ found. find (is_next key) self.now ≡ Some (record { key = found.0; work = found.1.now })) }
     {
-        match key {
-            Some(key) => {
-                let work = self.works.peek(&key)?;
-                if work.runs_in_foreground() {
-                    Some((key, work))
-                } else {
-                    None
-                }
-            }
-            None => {
-                let key = self.first_running(true)?;
-                let work = self.works.peek(&key)?;
-                Some((key, work))
-            }
+        let Some(key) = key else {
+            return self.first_running(true);
+        };
+        let work = self.works.peek(&key)?;
+        if work.runs_in_foreground() {
+            Some((key, work))
+        } else {
+            None
         }
     }
 
@@ -116,6 +113,9 @@ impl JobTable {
         ensures busy { result ≡ is_busy key self.now }
         ensures apart { KeysApart self.now }
     {
+        if self.running == 0 {
+            return false;
+        }
         match self.works.peek(&key) {
             Some(work) => work.is_running(),
             None => false,
@@ -146,7 +146,8 @@ impl JobTable {
         ensures unended { result ≡ unended self.now }
         ensures byte { IfSome result (λ key. key.copy ≡ true → key.id < 2 ^ 8) }
     {
-        self.first_running(false)
+        let (key, _) = self.first_running(false)?;
+        Some(key)
     }
 
     /// How many operations run, at most 64. It takes no memory.

@@ -273,6 +273,19 @@ fn room(rt: HostRuntime) -> Result<(), Fail> {
     Ok(())
 }
 
+/// Where all have ended the 257th takes the place of the oldest, and one of a key that is kept takes no other's.
+#[test]
+fn room_of_the_oldest(rt: HostRuntime) -> Result<(), Fail> {
+    let mut table = JobTable::new(rt.alloc())?;
+    for id in 0..257 {
+        assert!(rt; make(&mut table, token(id), 9, 1)?);
+    }
+    assert!(rt; table.report(token(0)).is_none());
+    assert!(rt; make(&mut table, token(256), 10, 1)?);
+    assert!(rt; table.report(token(1)).is_some());
+    Ok(())
+}
+
 /// Of a write in the background, a copy and a write in the foreground the copy is the first that its initiator has to
 /// end, and after it the write.
 #[test]
@@ -283,16 +296,7 @@ fn unended(rt: HostRuntime) -> Result<(), Fail> {
     assert!(rt; table.unended().is_none());
     assert!(rt; open(&mut table, copy(2))?);
     start(rt.alloc(), &mut table, token(3), false, 10, 5)?;
-    assert!(rt;
-        matches!(
-            table.unended(),
-            Some(Key {
-                actor: 7,
-                copy: true,
-                id: 2
-            })
-        )
-    );
+    assert!(rt; table.unended() == Some(copy(2)));
     let key = copy(2);
     if table.runs(key) {
         table.close(
@@ -304,16 +308,7 @@ fn unended(rt: HostRuntime) -> Result<(), Fail> {
             },
         );
     }
-    assert!(rt;
-        matches!(
-            table.unended(),
-            Some(Key {
-                actor: 7,
-                copy: false,
-                id: 3
-            })
-        )
-    );
+    assert!(rt; table.unended() == Some(token(3)));
     let key = token(3);
     if table.runs(key) {
         table.terminate(key);

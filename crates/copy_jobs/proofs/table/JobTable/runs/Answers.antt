@@ -2,8 +2,14 @@ use Rattle.std.proofs.Common.{ap, sym, ◌∙◌}
 use Rattle.std.specs.Prelude.{Some, None}
 use Rattle.std.specs.Option.{option_copied}
 use Rattle.copy_jobs.proofs.KeyEq.{key-own}
+use Rattle.copy_jobs.specs.inner.Entries.{jobs_of}
+use Rattle.copy_jobs.proofs.Newest.{none-busy}
 use Rattle.copy_jobs.proofs.Own.{busy-under}
 use Rattle.copy_jobs.proofs.table.JobTable.runs.Goals as goal
+
+pub returns-then-self-eq0-clause-busy : goal.returns-then-self-eq0-clause-busy
+returns-then-self-eq0-clause-busy c =
+    rw (← c.self.view_is) (sym (none-busy c.args.key (jobs_of c.self.inside.works.entries) (sym c.self.invariant.0.counts_running ∙ c.if-self-eq0.true)))
 
 pub returns-in-Some-clause-busy : goal.returns-in-Some-clause-busy
 returns-in-Some-clause-busy c =
