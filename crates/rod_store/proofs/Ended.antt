@@ -1,16 +1,14 @@
 -- Which token of a store ends where tokens expire, make room or are deleted
-use Rattle.std.proofs.Common.{◌≡◌, ℕ, zero, suc, ◌+◌, List, [], ◌∷◌, ◌++◌, length, refl, ap, sym, ◌∙◌, subst, arith, true, false, Bool, inl, inr}
-use Rattle.std.specs.Prelude.{Option, Some, None, ◌⊎◌, ◌==◌, ◌&&◌, ◌||◌, map, slice_get, nat_lt, nat_le, if◌then◌else◌}
+use Rattle.std.proofs.Common.{◌≡◌, ℕ, zero, suc, ◌+◌, List, [], ◌∷◌, ◌++◌, length, refl, ap, sym, ◌∙◌, arith, true, false, Bool}
+use Rattle.std.specs.Prelude.{Option, Some, None, ◌==◌, ◌&&◌, ◌||◌, map, slice_get, nat_lt, nat_le, if◌then◌else◌}
 use Rattle.std.specs.Option.{option_map}
 use Rattle.std.specs.List.{list_all}
-use Rattle.std.proofs.lemmas.Bool.{cases_eq}
 use Rattle.std.proofs.lemmas.Bool.Decides.{nat_tests}
-use Rattle.std.proofs.lemmas.List.{length-map}
 use Rattle.cm_history.specs.Bounds.{live_tokens}
 use Rattle.rod_store.specs.declared.kept.Kept.{Kept}
 use Rattle.rod_store.specs.declared.kept.TokenState.{TokenState}
 use Rattle.rod_store.specs.declared.kept.TokenState.TheVariants.{Live, Expired, Evicted, Deleted}
-use Rattle.rod_store.specs.Kept.{is_live, is_over, is_over_at, used_last, value_of, live, IsPlaced, value_in, value_at, first, first_value, expire_at, expire_first, is_older, gives_way, evict_if, evicted_value, populated, end_at, deleted, with_use, use_at, used}
+use Rattle.rod_store.specs.Kept.{is_live, is_over, is_over_at, used_last, value_of, live, IsPlaced, value_in, value_at, first, first_value, expire_first, is_older, gives_way, evict_if, evicted_value, end_at, deleted, with_use, use_at, used}
 
 older-both : (a s b t : ℕ) → (nat_lt a b || (a == b && nat_le s t)) ≡ true → (nat_lt b a || (b == a && nat_le t s)) ≡ true → s ≡ t
 older-both a s b t e f = grind (arith, nat_tests)

@@ -9,7 +9,7 @@ use Rattle.rod_store.specs.declared.kept.Kept.{Kept}
 use Rattle.rod_store.specs.declared.kept.TokenState.{TokenState}
 use Rattle.rod_store.specs.declared.kept.TokenState.TheVariants.{Live, Expired, Evicted, Deleted}
 use Rattle.rod_store.specs.Kept.{IsPlaced, is_live, is_over, is_over_at, live, value_of, end_at, use_at, with_use, used, first, expire_at, expired, expire_first}
-use Rattle.rod_store.specs.inner.Store.{serials}
+use Rattle.rod_store.specs.inner.Store.{serials, is_used_before}
 use Rattle.rod_store.proofs.Places.{map-behind, first-at}
 
 module _ {T : Type 0} where
@@ -32,6 +32,18 @@ module _ {T : Type 0} where
   not_over-earlier now earlier before Expired e = refl
   not_over-earlier now earlier before Evicted e = refl
   not_over-earlier now earlier before Deleted e = refl
+
+  pub ended-not_before : (now : ℕ) (s : TokenState T) → is_live s ≡ false → is_used_before now s ≡ false
+  ended-not_before now (Live timeout last_use value) e = cc
+  ended-not_before now Expired e = refl
+  ended-not_before now Evicted e = refl
+  ended-not_before now Deleted e = refl
+
+  pub not_before-earlier : (now earlier : ℕ) → earlier ≤ now → (s : TokenState T) → is_used_before now s ≡ false → is_used_before earlier s ≡ false
+  not_before-earlier now earlier before (Live timeout last_use value) e = grind (arith, nat_tests)
+  not_before-earlier now earlier before Expired e = refl
+  not_before-earlier now earlier before Evicted e = refl
+  not_before-earlier now earlier before Deleted e = refl
 
   pub live-value : (s : TokenState T) → is_some (value_of s) ≡ is_live s
   live-value (Live timeout last_use value) = refl

@@ -1,17 +1,19 @@
 -- The token that was used least lately
-use Rattle.std.proofs.Common.{◌≡◌, ℕ, ◌+◌, ◌<◌, ◌≤◌, ◌≢◌, take, get_or, List, map, length, refl, sym, ◌∙◌, subst, arith, true, false, Bool, slice_get, Some, None, ◌⊎◌, inl, inr}
+use Rattle.std.proofs.Common.{◌≡◌, ℕ, suc, [], ◌∷◌, cond, ◌+◌, ◌<◌, ◌≤◌, ◌≢◌, take, get_or, List, map, length, refl, sym, ◌∙◌, subst, arith, true, false, Bool, slice_get, Some, None, ◌⊎◌, inl, inr}
 use Rattle.rod_store.proofs.Places.{same_or_not}
 use Rattle.std.specs.Prelude.{◌||◌, ◌&&◌, ◌==◌, nat_lt, nat_le}
-use Rattle.std.specs.List.{list_all}
+use Rattle.std.specs.List.{list_any, list_all}
 use Rattle.std.proofs.lemmas.Bool.Decides.{nat_tests}
 use Rattle.cm_history.specs.Bounds.{live_tokens}
 use Rattle.rod_store.specs.declared.kept.Kept.{Kept}
-use Rattle.rod_store.specs.declared.kept.TokenState.TheVariants.{Evicted}
+use Rattle.rod_store.specs.declared.kept.TokenState.{TokenState}
+use Rattle.rod_store.specs.declared.kept.TokenState.TheVariants.{Live, Expired, Evicted, Deleted}
 use Rattle.rod_store.specs.Kept.{IsPlaced, is_live, live, used_last, is_older, gives_way, evict_if, evicted_value, end_at, value_at, first}
-use Rattle.rod_store.specs.inner.Store.{IsOldest}
+use Rattle.rod_store.specs.inner.Store.{is_used_before, is_used_before_at, IsOldest}
 use Rattle.rod_store.proofs.Places.{next, placed-front, map-agree, map-same, first-is, first-none, all-more, all-implies}
-use Rattle.rod_store.proofs.Endings.{end_at-is, end_at-other}
+use Rattle.rod_store.proofs.Endings.{ended-not_before, end_at-is, end_at-other}
 use Rattle.std.proofs.lemmas.List.{take_all}
+use Rattle.cm_history.proofs.PublicLaws.{and_second as and-right, and_first as and-left}
 use Rattle.rod_store.proofs.LiveWalks.{LiveAt, all-live-at, token-read, token-found}
 
 -- the order of two pairs of a last use and a serial
@@ -29,6 +31,14 @@ older-next a s b t c u e f = grind (arith, nat_tests)
 
 older-both : (a s b t : ℕ) → older a s b t ≡ true → older b t a s ≡ true → s ≡ t
 older-both a s b t e f = grind (arith, nat_tests)
+
+or-first : (a b : Bool) → (a || b) ≡ false → a ≡ false
+or-first true b e = cc
+or-first false b e = refl
+
+or-later : (a b : Bool) → (a || b) ≡ false → b ≡ false
+or-later true b e = cc
+or-later false b e = e
 
 module _ {T : Type 0} where
   pub is_older-self : (t : Kept T) → is_older t t ≡ true
@@ -150,3 +160,71 @@ module _ {T : Type 0} where
         lives = o.lives;
         oldest = all-more (is_older o.token) (live tokens) passed at.token at.nth o.oldest (is_older-else at.token o.token later);
       }
+
+  -- ---- the first, where none was used before it
+
+  used-from : (moment : ℕ) (s : TokenState T) → is_live s ≡ true → is_used_before moment s ≡ false → moment ≤ used_last s
+  used-from moment (Live timeout last_use value) lives e = grind (arith, nat_tests)
+  used-from moment Expired lives e = cc
+  used-from moment Evicted lives e = cc
+  used-from moment Deleted lives e = cc
+
+  -- it is older than those behind it
+  older-than-later : (t : Kept T) (moment n : ℕ) (tokens : List (Kept T)) → IsPlaced n tokens → t.serial ≤ n → used_last t.state ≤ moment
+      → list_any (is_used_before_at moment) tokens ≡ false → list_all (is_older t) (live tokens) ≡ true
+  older-than-later t moment n [] placed low used none = refl
+  older-than-later t moment n (x ∷ xs) placed low used none = go (is_live x.state) refl (older-than-later t moment (suc n) xs placed.1 (omega arith) used (or-later (is_used_before moment x.state) (list_any (is_used_before_at moment) xs) none))
+    where
+      go : (b : Bool) → is_live x.state ≡ b → list_all (is_older t) (live xs) ≡ true → list_all (is_older t) (cond b (x ∷ live xs) (live xs)) ≡ true
+      go true lives rest =
+          let here : x.serial ≡ n = placed.0 in
+          let from = used-from moment x.state lives (or-first (is_used_before moment x.state) (list_any (is_used_before_at moment) xs) none) in
+          let older : is_older t x ≡ true = grind (arith, nat_tests) in
+          rw (older, rest) refl
+      go false lives rest = rest
+
+  first-oldest : (t : Kept T) (moment n : ℕ) (tokens : List (Kept T)) → IsPlaced n tokens → slice_get (live tokens) 0 ≡ Some t → used_last t.state ≤ moment
+      → list_any (is_used_before_at moment) tokens ≡ false → list_all (is_older t) (live tokens) ≡ true
+  first-oldest t moment n [] placed found used none = refl
+  first-oldest t moment n (x ∷ xs) placed found used none = go (is_live x.state) refl found (λ f. first-oldest t moment (suc n) xs placed.1 f used (or-later (is_used_before moment x.state) (list_any (is_used_before_at moment) xs) none))
+    where
+      go : (b : Bool) → is_live x.state ≡ b → slice_get (cond b (x ∷ live xs) (live xs)) 0 ≡ Some t
+          → (slice_get (live xs) 0 ≡ Some t → list_all (is_older t) (live xs) ≡ true) → list_all (is_older t) (cond b (x ∷ live xs) (live xs)) ≡ true
+      go true lives f later =
+          let same : x ≡ t = grind arith in
+          let here : t.serial ≡ n = rw (← same) placed.0 in
+          let rest = older-than-later t moment (suc n) xs placed.1 (omega arith) used (or-later (is_used_before moment x.state) (list_any (is_used_before_at moment) xs) none) in
+          let self : is_older t x ≡ true = rw (← same) (is_older-self x) in
+          rw (self, rest) refl
+      go false lives f later = later f
+
+  pub oldest-at-first : (tokens : List (Kept T)) (moment serial : ℕ) (x : Kept T) → IsPlaced 0 tokens → x ≡ get_or tokens serial x → LiveAt tokens 0 serial → used_last x.state ≤ moment
+      → list_any (is_used_before_at moment) tokens ≡ false → IsOldest tokens serial
+  oldest-at-first tokens moment serial x placed read at used none =
+      let same : at.token ≡ x = token-read tokens 0 serial at x ∙ sym read in
+      let low : used_last at.token.state ≤ moment = rw same used in
+      record { token = at.token; found = at.found; lives = at.lives; oldest = first-oldest at.token moment 0 tokens placed at.nth low none }
+
+  -- none was used before the oldest
+  none-before-oldest : (t : Kept T) (tokens : List (Kept T)) → list_all (is_older t) (live tokens) ≡ true → list_any (is_used_before_at (used_last t.state)) tokens ≡ false
+  none-before-oldest t [] all = refl
+  none-before-oldest t (x ∷ xs) all = go (is_live x.state) refl all (none-before-oldest t xs)
+    where
+      not-before : (s : TokenState T) → used_last t.state ≤ used_last s → is_used_before (used_last t.state) s ≡ false
+      not-before (Live timeout last_use value) low = grind (arith, nat_tests)
+      not-before Expired low = refl
+      not-before Evicted low = refl
+      not-before Deleted low = refl
+
+      go : (b : Bool) → is_live x.state ≡ b → list_all (is_older t) (cond b (x ∷ live xs) (live xs)) ≡ true
+          → (list_all (is_older t) (live xs) ≡ true → list_any (is_used_before_at (used_last t.state)) xs ≡ false) → list_any (is_used_before_at (used_last t.state)) (x ∷ xs) ≡ false
+      go true lives f later =
+          let older : is_older t x ≡ true = and-left (is_older t x) (list_all (is_older t) (live xs)) f in
+          let low : used_last t.state ≤ used_last x.state = grind (arith, nat_tests) in
+          rw (not-before x.state low, later (and-right (is_older t x) (list_all (is_older t) (live xs)) f)) refl
+      go false lives f later = rw (ended-not_before (used_last t.state) x.state lives, later f) refl
+
+  pub least-of-oldest : (tokens : List (Kept T)) (serial : ℕ) (x : Kept T) → x ≡ get_or tokens serial x → IsOldest tokens serial → list_any (is_used_before_at (used_last x.state)) tokens ≡ false
+  least-of-oldest tokens serial x read o =
+      let same : o.token ≡ x = token-found tokens serial x o.token o.found ∙ sym read in
+      rw (← same) (none-before-oldest o.token tokens o.oldest)

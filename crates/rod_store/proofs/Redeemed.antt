@@ -1,5 +1,5 @@
 -- A token that is redeemed at a moment lives on at it
-use Rattle.std.proofs.Common.{◌≡◌, ℕ, ◌+◌, List, refl, ap, ◌∙◌, subst, sym, true, false, Bool, slice_get, Some, None}
+use Rattle.std.proofs.Common.{◌≡◌, ℕ, ◌+◌, List, refl, subst, sym, true, false, Bool, slice_get, Some, None}
 use Rattle.std.specs.Prelude.{Option, Ok, Err, Result, IsSome, not, nat_lt, option_map, if◌then◌else◌}
 use Rattle.std.specs.Str.{bytes_eq}
 use Rattle.std.proofs.lemmas.Option.{slice_get-map}

@@ -1,5 +1,6 @@
 ghost use Rattle.std.specs.Prelude.{◌≡◌, ◌≤◌, false};
 ghost use Rattle.rod_store.specs.Kept.{is_over, is_older, used_last, with_use};
+ghost use Rattle.rod_store.specs.inner.Store.{is_used_before};
 
 /// Where a token stands. The first end stays.
 #[derive(Drop)]
@@ -41,7 +42,7 @@ impl<K> TokenState<K> {
     }
 
     /// When it was used last, if it is live.
-    fn used_last(&self) -> u64
+    pub(crate) fn used_last(&self) -> u64
         ensures { result ≡ used_last self.now }
     {
         match self {
@@ -61,6 +62,17 @@ impl<K> TokenState<K> {
                 last_use,
                 ..
             } => most.min(last_use.saturating_add(u64::from(*timeout))),
+            _ => most,
+        }
+    }
+
+    /// The greatest moment, up to `most`, before which it was not used last.
+    pub(crate) fn use_until(&self, most: u64) -> u64
+        ensures until { result ≤ most }
+        ensures within { is_used_before result self.now ≡ false }
+    {
+        match self {
+            TokenState::Live { last_use, .. } => most.min(*last_use),
             _ => most,
         }
     }

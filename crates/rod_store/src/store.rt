@@ -35,6 +35,8 @@ pub struct RodStore<K> {
     live_serials: Vec<u64>,
     // Up to this moment no token is over.
     next_expiry: u64,
+    // Before this moment no live token was used last.
+    least_use: u64,
     spare: u64,
 }
 
@@ -47,7 +49,7 @@ impl<K> Model for RodStore<K> {
 
     ghost view = { λ s. record { unit = s.unit; tokens = s.tokens.items; spare = s.spare } };
 
-    ghost invariant = { λ s. IsStored s.tokens.items s.live_serials.items s.next_expiry
+    ghost invariant = { λ s. IsStored s.tokens.items s.live_serials.items s.next_expiry s.least_use
         × HasRoom (vec_len s.tokens) s.spare (vec_capacity s.tokens) (vec_capacity s.live_serials) };
 }
 
@@ -63,6 +65,7 @@ impl<K: Drop> RodStore<K> {
             tokens: Vec::new(alloc),
             live_serials: Vec::with_capacity(alloc, MOST_LIVE)?,
             next_expiry: u64::MAX,
+            least_use: u64::MAX,
             spare: 0,
         })
     }
@@ -208,6 +211,7 @@ impl<K: Drop> RodStore<K> {
         let token = &mut self.tokens[serial as usize];
         token.state.note_use(moment);
         self.next_expiry = token.state.end_until(self.next_expiry);
+        self.least_use = token.state.use_until(self.least_use);
     }
 
     /// Ends the token of the serial and hands its value back; `None` where no live one has it, and
@@ -274,7 +278,8 @@ impl<K: Drop> RodStore<K> {
         if self.live_serials.len() < MOST_LIVE {
             return None;
         }
-        let serial = walks::oldest(&self.tokens, &self.live_serials);
+        let serial = walks::oldest(&self.tokens, &self.live_serials, self.least_use);
+        self.least_use = self.tokens[serial as usize].state.used_last();
         Some(self.end(serial, TokenState::Evicted))
     }
 
@@ -290,6 +295,7 @@ impl<K: Drop> RodStore<K> {
         ensures spare { self.new.spare + 1 ≡ self.old.spare }
     {
         self.next_expiry = token.state.end_until(self.next_expiry);
+        self.least_use = token.state.use_until(self.least_use);
         self.live_serials.push(token.serial).unwrap();
         self.tokens.push(token).unwrap();
         self.spare -= 1;

@@ -2,7 +2,7 @@
 ghost use Rattle.std.specs.Prelude.{◌≡◌, ◌≤◌, ◌==◌, ℕ, length, filter, not, false, vec_capacity};
 ghost use Rattle.std.specs.List.{list_any};
 ghost use Rattle.rod_store.specs.Kept.{IsPlaced, live, first, is_over_at};
-ghost use Rattle.rod_store.specs.inner.Store.{serials, serial_in, IsOldest};
+ghost use Rattle.rod_store.specs.inner.Store.{serials, serial_in, is_used_before_at, AreApart, IsOldest};
 
 use crate::kept::Kept;
 
@@ -33,8 +33,8 @@ pub(crate) fn least_end<K>(tokens: &[Kept<K>], live_serials: &[u64]) -> u64
     least
 }
 
-/// The serial of the live token that was used least lately.
-pub(crate) fn oldest<K>(tokens: &[Kept<K>], live_serials: &[u64]) -> u64
+/// The serial of the live token that was used least lately, by a look at each.
+fn oldest_of_all<K>(tokens: &[Kept<K>], live_serials: &[u64]) -> u64
     requires placed { IsPlaced 0 tokens.now }
     requires live_serials { live_serials.now ≡ serials (live tokens.now) }
     requires some { 1 ≤ length live_serials.now }
@@ -49,10 +49,31 @@ pub(crate) fn oldest<K>(tokens: &[Kept<K>], live_serials: &[u64]) -> u64
     oldest
 }
 
-/// Takes a serial out. The room stays.
+/// The serial of the live token that was used least lately. None was used last before `least_use`, so where the first
+/// was used at that moment, the others need no look.
+pub(crate) fn oldest<K>(tokens: &[Kept<K>], live_serials: &[u64], least_use: u64) -> u64
+    requires placed { IsPlaced 0 tokens.now }
+    requires live_serials { live_serials.now ≡ serials (live tokens.now) }
+    requires some { 1 ≤ length live_serials.now }
+    requires least_use { list_any (is_used_before_at least_use) tokens.now ≡ false }
+    ensures { IsOldest tokens.now result }
+{
+    let first = live_serials[0];
+    if tokens[first as usize].state.used_last() <= least_use {
+        return first;
+    }
+    oldest_of_all(tokens, live_serials)
+}
+
+/// Takes a serial out. The room stays. Mostly the one that was made first goes, and the others need not be looked at.
 pub(crate) fn forget(live_serials: &mut Vec<u64>, serial: u64)
+    requires { AreApart live_serials.old.items }
     ensures serials { live_serials.new.items ≡ filter (λ other. not (other == serial)) live_serials.old.items }
     ensures room { vec_capacity live_serials.new ≡ vec_capacity live_serials.old }
 {
-    live_serials.retain(|other| *other != serial);
+    if live_serials.first() == Some(&serial) {
+        live_serials.remove(0);
+    } else {
+        live_serials.retain(|other| *other != serial);
+    }
 }

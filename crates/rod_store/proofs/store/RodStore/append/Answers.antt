@@ -14,8 +14,8 @@ invariant_of-self g c =
     let few : length (live tokens) < live_tokens = subst (λ l. length (live l) < live_tokens) (sym kept) c.requires.few in
     let serial : c.args.token.serial ≡ length tokens = c.requires.serial ∙ ap length (sym kept) in
     let count : length tokens < 2 ^ 48 = subst (λ l. length l < 2 ^ 48) (sym kept) c.requires.serials in
-    let stored = stored-push tokens c.self.inside.live_serials.items c.self.inside.next_expiry c.end_until-self-inside.result c.args.token c.self.invariant.0 few serial count c.requires.live
-    c.end_until-self-inside.ensures.until c.end_until-self-inside.ensures.within in
+    let stored = stored-push tokens c.self.inside.live_serials.items c.self.inside.next_expiry c.self.inside.least_use c.end_until-self-inside.result c.use_until-self-inside.result c.args.token c.self.invariant.0 few serial count c.requires.live
+    c.end_until-self-inside.ensures.until c.end_until-self-inside.ensures.within c.use_until-self-inside.ensures.until c.use_until-self-inside.ensures.within in
     let ok : is_ok c.push.result ≡ true = ap is_ok c.unwrap.ensures in
     let ok_2 : is_ok c.push-2.result ≡ true = ap is_ok c.unwrap-2.ensures in
     let own : c.push.new.self.items ≡ c.self.inside.live_serials.items ++ c.args.token.serial ∷ [] = rw ok at c.push.ensures.items in

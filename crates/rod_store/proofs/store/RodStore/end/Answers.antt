@@ -2,8 +2,9 @@ use Rattle.std.proofs.Common.{◌≡◌, Some, IsSome, ap, sym, ◌∙◌, subst
 use Rattle.std.specs.Prelude.{true}
 use Rattle.rod_store.specs.Kept.{is_live, value_of, value_at}
 use Rattle.rod_store.specs.Store.{Store}
+use Rattle.rod_store.specs.inner.Store.{AreApart}
 use Rattle.rod_store.proofs.Endings.{fewer-end}
-use Rattle.rod_store.proofs.Stored.{lives_at, value-at, token-is, end-set, stored-end}
+use Rattle.rod_store.proofs.Stored.{lives_at, value-at, token-is, end-set, stored-end, serials-apart}
 use Rattle.rod_store.proofs.store.RodStore.end.Goals as goal
 
 pub invariant_of-self : goal.invariant_of-self
@@ -14,9 +15,12 @@ invariant_of-self g c =
     let same : at.token ≡ c.index_mut.result.now = token-is tokens c.args.serial at.token c.index_mut.result.now at.found c.index_mut.ensures.value in
     let found = at.found ∙ ap Some same in
     let lives : is_live c.index_mut.result.now.state ≡ true = rw (← same) at.lives in
-    let stored = stored-end tokens c.self.inside.live_serials.items c.self.inside.next_expiry c.self.invariant.0 c.args.ending c.requires.ends c.args.serial c.index_mut.result.now found lives in
+    let stored = stored-end tokens c.self.inside.live_serials.items c.self.inside.next_expiry c.self.inside.least_use c.self.invariant.0 c.args.ending c.requires.ends c.args.serial c.index_mut.result.now found lives in
     let write = end-set tokens c.self.invariant.0.placed c.args.ending c.args.serial c.index_mut.result.now found lives in
     (rw (c.replace.ensures.after, write, c.forget.ensures.serials) stored, rw c.forget.ensures.room c.self.invariant.1)
+
+pub forget-requires : goal.forget-requires
+forget-requires g c = subst AreApart (sym c.self.invariant.0.live_serials) (serials-apart 0 c.self.inside.tokens.items c.self.invariant.0.placed)
 
 pub returns-clause-value : goal.returns-clause-value
 returns-clause-value g c =
