@@ -21,3 +21,4 @@ pub mod Plans
 pub mod Keeping
 pub mod Putting
 pub mod Empty
+pub mod Spans

@@ -1,4 +1,5 @@
 pub mod Chains
+pub mod Pins
 pub mod Segments
 pub mod Units
 pub mod Versioned

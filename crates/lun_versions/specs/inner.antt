@@ -1,4 +1,5 @@
 pub mod Chains
+pub mod Pins
 pub mod Units
 pub mod Segments
 pub mod GivenUp

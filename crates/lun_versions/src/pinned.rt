@@ -9,12 +9,57 @@ ghost use Rattle.lun_versions.specs.inner.Units.{LivesAt, NewerPin, IsEvenPin};
 
 use lba_ranges::{Range, RangeList};
 use slab::Slab;
+use std::marker::Model;
 
 /// A live pin: how many pins had been made, it included, and its ranges.
 #[derive(Drop)]
 pub struct Pinned {
     pub(crate) time: u64,
+    // the blocks of the ranges lie from `first` on and before `end`, which tells most pins that lie
+    // elsewhere without a look at the ranges, on the heap
+    first: u64,
+    end: u64,
     pub(crate) ranges: RangeList,
+}
+
+impl Model for Pinned {
+    ghost use Rattle.lun_versions.specs.Pins.{LivePin};
+    ghost use Rattle.lun_versions.specs.inner.Pins.{IsSpan};
+
+    ghost Value = { LivePin };
+
+    ghost view = { λ p. record { time = p.time; ranges = p.ranges } };
+
+    ghost invariant = { λ p. IsSpan p.first p.end p.ranges };
+}
+
+impl Pinned {
+    /// A pin of ranges that lie within so many blocks.
+    pub(crate) fn new(time: u64, ranges: RangeList, blocks: u64) -> Pinned
+        requires { IsTrue (is_within blocks ranges) }
+        ensures { result ≡ record { time = time; ranges = ranges } }
+    {
+        let mut first = blocks;
+        let mut end: u64 = 0;
+        for index in 0..ranges.len() {
+            let range = ranges.at(index);
+            first = first.min(range.lba);
+            end = end.max(range.lba + u64::from(range.count));
+        }
+        Pinned {
+            time,
+            first,
+            end,
+            ranges,
+        }
+    }
+
+    /// The pin covers the block.
+    fn covers(&self, block: u64) -> bool
+        ensures { result ≡ denotes self.now.ranges block }
+    {
+        self.first <= block && block < self.end && denotes(&self.ranges, block)
+    }
 }
 
 /// The block is in the range.
@@ -43,7 +88,7 @@ pub(crate) fn is_shown(pins: &Slab<Pinned>, block: u64, since: u64, to: u64) -> 
 {
     for (key, pinned) in pins.iter() {
         let _ = key;
-        if since < pinned.time && pinned.time <= to && denotes(&pinned.ranges, block) {
+        if since < pinned.time && pinned.time <= to && pinned.covers(block) {
             return true;
         }
     }
@@ -96,11 +141,12 @@ fn with_pin(found: EvenPart, pinned: &Pinned, blocks: u64, at: u64, last: u64) -
     ensures even { IsEvenPin pinned.now at last result.covered result.end }
     ensures covered { result.covered ≡ (found.covered || (nat_lt last pinned.now.time && denotes pinned.now.ranges at)) }
 {
-    if pinned.time <= last {
+    // it shows what was there before, or lies elsewhere
+    if pinned.time <= last || pinned.end <= at || found.end <= pinned.first {
         return found;
     }
     let end = border_after(&pinned.ranges, blocks, at, found.end);
-    if denotes(&pinned.ranges, at) {
+    if pinned.covers(at) {
         EvenPart { covered: true, end }
     } else {
         EvenPart {

@@ -4,6 +4,7 @@ use super::*;
 use cm_base::Payload;
 use lba_ranges::{BlockList, Blocks, Pins, Range, RangeList};
 use std::alloc::Global;
+use std::process::Abort;
 use std::test::Fail;
 
 /// A row of blocks.
@@ -132,51 +133,107 @@ fn stored<B: Pins>(unit: &B) -> u64 {
     unit.stored()
 }
 
-/// Two blocks are written and pinned, one is written over, one is unmapped, the pinned ones are put
-/// elsewhere, and the pin ends.
-#[test]
-fn stored_versions_step_by_step(rt: HostRuntime) -> Result<(), Fail> {
-    let alloc = rt.alloc();
-    let mut unit = VersionUnit::new(alloc, 100, 1)?;
-    write(&mut unit, alloc, 100, 0, &[1, 2])?;
-    assert!(rt; stored(&unit) == 2);
-    let two = pin(&mut unit, alloc, 100, 0, 2)?;
-    assert!(rt; stored(&unit) == 2);
-    write(&mut unit, alloc, 100, 0, &[3])?;
-    assert!(rt; stored(&unit) == 3);
-    let mut twice = row(alloc, 1, 1)?;
-    twice.push(Range { lba: 1, count: 1 })?;
-    clear(&mut unit, 100, &twice)?;
-    assert!(rt; stored(&unit) == 3 && unit.mapped() == 1);
-    let rod = cut_at(&unit, alloc, 100, &two, &row(alloc, 0, 2)?)?;
-    put(&mut unit, 100, &row(alloc, 10, 2)?, &rod)?;
-    assert!(rt; stored(&unit) == 5);
-    unpin(&mut unit, two);
-    assert!(rt; stored(&unit) == 3 && unit.held(1).is_none() && unit.mapped_until(10) == 12);
-    assert!(rt; unit.held(0) == Some([3].as_slice()) && unit.held(11) == Some([2].as_slice()));
+/// One block, denoted twice.
+fn twice(alloc: Global, lba: u64) -> Result<RangeList, Fail> {
+    let mut ranges = row(alloc, lba, 1)?;
+    ranges.push(Range { lba, count: 1 })?;
+    Ok(ranges)
+}
+
+/// Block 0 is written over, and block 1 is unmapped, while a pin shows both.
+fn change_pinned<B: Pins>(rt: &impl Abort, alloc: Global, unit: &mut B) -> Result<(), Fail>
+where
+    B::Pin: Drop,
+    requires count { B.blocks unit.old ≡ 100 }
+    requires size { B.block_length unit.old ≡ 1 }
+    ensures count { B.blocks unit.new ≡ 100 }
+    ensures size { B.block_length unit.new ≡ 1 }
+    ensures pins { (n : ℕ) → B.pinned unit.new n ≡ B.pinned unit.old n }
+{
+    write(unit, alloc, 100, 0, &[3])?;
+    assert!(rt; stored(unit) == 3);
+    let ranges = twice(alloc, 1)?;
+    clear(unit, 100, &ranges)?;
+    assert!(rt; stored(unit) == 3 && unit.mapped() == 1);
     Ok(())
 }
 
+/// Blocks 10 and 11 get what a pin shows of blocks 0 and 1.
+fn put_pinned<B: Pins>(alloc: Global, unit: &mut B, pin: &B::Pin) -> Result<(), Fail>
+where
+    B::Pin: Drop,
+    requires count { B.blocks unit.old ≡ 100 }
+    requires size { B.block_length unit.old ≡ 1 }
+    requires live { IsSome (B.pinned unit.old (B.number pin.now)) }
+    ensures count { B.blocks unit.new ≡ 100 }
+    ensures live { IsSome (B.pinned unit.new (B.number pin.now)) }
+{
+    let from = row(alloc, 0, 2)?;
+    let rod = cut_at(unit, alloc, 100, pin, &from)?;
+    let to = row(alloc, 10, 2)?;
+    put(unit, 100, &to, &rod)
+}
+
+/// The block holds this byte.
+fn is<B: Blocks>(unit: &B, block: u64, byte: u8) -> bool {
+    matches!(unit.held(block), Some(bytes) if bytes == [byte].as_slice())
+}
+
+/// Two blocks are written and pinned, one is written over, one is unmapped, the pinned ones are put
+/// elsewhere, and the pin ends.
+fn step_by_step<B: Pins>(rt: &impl Abort, alloc: Global, unit: &mut B) -> Result<(), Fail>
+where
+    B::Pin: Drop,
+    requires count { B.blocks unit.old ≡ 100 }
+    requires size { B.block_length unit.old ≡ 1 }
+{
+    write(unit, alloc, 100, 0, &[1, 2])?;
+    assert!(rt; stored(unit) == 2);
+    let two = pin(unit, alloc, 100, 0, 2)?;
+    assert!(rt; stored(unit) == 2);
+    change_pinned(rt, alloc, unit)?;
+    put_pinned(alloc, unit, &two)?;
+    assert!(rt; stored(unit) == 5);
+    unpin(unit, two);
+    assert!(rt; stored(unit) == 3 && unit.held(1).is_none() && unit.mapped_until(10) == 12);
+    assert!(rt; is(unit, 0, 3) && is(unit, 11, 2));
+    Ok(())
+}
+
+#[test]
+fn stored_versions_step_by_step(rt: HostRuntime) -> Result<(), Fail> {
+    let mut unit = VersionUnit::new(rt.alloc(), 100, 1)?;
+    step_by_step(&rt, rt.alloc(), &mut unit)
+}
+
 /// Two pins of one block, each made before a write of it, and a third one that shows what the second shows.
+fn pin_one_block<B: Pins>(rt: &impl Abort, alloc: Global, unit: &mut B) -> Result<(), Fail>
+where
+    B::Pin: Drop,
+    requires count { B.blocks unit.old ≡ 8 }
+    requires size { B.block_length unit.old ≡ 1 }
+{
+    write(unit, alloc, 8, 5, &[1])?;
+    let first = pin(unit, alloc, 8, 5, 1)?;
+    write(unit, alloc, 8, 5, &[2])?;
+    let second = pin(unit, alloc, 8, 4, 2)?;
+    let third = pin(unit, alloc, 8, 5, 2)?;
+    write(unit, alloc, 8, 5, &[3])?;
+    write(unit, alloc, 8, 5, &[4])?;
+    assert!(rt; stored(unit) == 3);
+    unpin(unit, second);
+    assert!(rt; stored(unit) == 3);
+    unpin(unit, first);
+    assert!(rt; stored(unit) == 2);
+    unpin(unit, third);
+    assert!(rt; stored(unit) == 1 && is(unit, 5, 4));
+    Ok(())
+}
+
 #[test]
 fn pins_of_one_block(rt: HostRuntime) -> Result<(), Fail> {
-    let alloc = rt.alloc();
-    let mut unit = VersionUnit::new(alloc, 8, 1)?;
-    write(&mut unit, alloc, 8, 5, &[1])?;
-    let first = pin(&mut unit, alloc, 8, 5, 1)?;
-    write(&mut unit, alloc, 8, 5, &[2])?;
-    let second = pin(&mut unit, alloc, 8, 4, 2)?;
-    let third = pin(&mut unit, alloc, 8, 5, 2)?;
-    write(&mut unit, alloc, 8, 5, &[3])?;
-    write(&mut unit, alloc, 8, 5, &[4])?;
-    assert!(rt; stored(&unit) == 3);
-    unpin(&mut unit, second);
-    assert!(rt; stored(&unit) == 3);
-    unpin(&mut unit, first);
-    assert!(rt; stored(&unit) == 2);
-    unpin(&mut unit, third);
-    assert!(rt; stored(&unit) == 1 && unit.held(5) == Some([4].as_slice()));
-    Ok(())
+    let mut unit = VersionUnit::new(rt.alloc(), 8, 1)?;
+    pin_one_block(&rt, rt.alloc(), &mut unit)
 }
 
 /// Writes 2,048 blocks of 512 bytes at each of 128 places.

@@ -98,7 +98,8 @@ impl VersionUnit {
         };
         self.earlier.sound();
         let ranges = ranges.copy(self.alloc)?;
-        let key = self.pins.insert(Pinned { time: made, ranges })?;
+        let pinned = Pinned::new(made, ranges, self.earlier.blocks());
+        let key = self.pins.insert(pinned)?;
         self.made = made;
         Ok(Pin { key })
     }
@@ -251,8 +252,8 @@ impl VersionUnit {
         ensures { IfOk result (λ list. list
             ≡ record { block_length = self.now.current.block_length; items = map (shown self.now pin.now.key) (blocks_of ranges.now) }) }
     {
-        let time = self.pins[pin.key].time;
-        self.cut_then(alloc, ranges, time)
+        let pinned = &self.pins[pin.key];
+        self.cut_then(alloc, ranges, pinned.time)
     }
 
     /// The blocks of the ranges as a pin of this time shows them.
