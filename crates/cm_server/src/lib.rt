@@ -18,6 +18,3 @@ pub use served::{RecorderList, Served, serve, serve_at, serve_with};
 pub use sessions::meet::{Meet, NoMeet};
 pub use status::Status;
 pub use stored::{DiskList, Stored, serve_stored};
-
-#[cfg(test)]
-mod tests;

@@ -18,6 +18,3 @@ pub use pass::Pass;
 pub use resuming::Store;
 pub use root::Root;
 pub use world::World;
-
-#[cfg(test)]
-mod tests;

@@ -15,6 +15,3 @@ mod writings;
 
 pub use answering::plain_answer;
 pub use units::PlainUnits;
-
-#[cfg(test)]
-mod tests;

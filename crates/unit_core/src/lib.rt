@@ -15,8 +15,6 @@ mod reservation_plans;
 mod room;
 mod sharing;
 mod tables;
-#[cfg(test)]
-mod tests;
 mod token_plans;
 mod unit;
 

@@ -17,6 +17,3 @@ pub use recorded_unit::{ClosedUnit, RecordedUnit, UnitCount};
 pub use refused::TryRefused;
 pub use resuming::{ResumeRefused, resume};
 pub use seat_acts::{act, try_act};
-
-#[cfg(test)]
-mod tests;

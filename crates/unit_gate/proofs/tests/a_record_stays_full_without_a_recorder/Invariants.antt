@@ -1,5 +1,0 @@
-use Rattle.std.proofs.Common.{[]}
-use Rattle.unit_gate.proofs.tests.a_record_stays_full_without_a_recorder.Given as goal
-
-abbrev pub ghost-new : goal.ghost-new
-ghost-new g a = []

@@ -1,5 +1,0 @@
-use Rattle.std.proofs.Common.{[]}
-use Rattle.unit_gate.proofs.tests.gate_of.Given as goal
-
-abbrev pub ghost-new : goal.ghost-new
-ghost-new a = []

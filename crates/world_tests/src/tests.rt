@@ -1,0 +1,281 @@
+ghost use Rattle.std.specs.Prelude.{◌≡◌, ◌<◌, [], ◌∷◌, length, map, IfOk, true};
+ghost use Rattle.cm_history.specs.declared.act.Act.{Act};
+ghost use Rattle.cm_history.specs.declared.act.Actor.{Actor};
+ghost use Rattle.cm_history.specs.Limits.{within_limits};
+ghost use Rattle.nexus.specs.Opening.{AreStored, no_recorder, stored};
+ghost use Rattle.nexus.specs.Worlds.{IsFreePass};
+
+use cm_base::{Config, UnitConfig, UnitList};
+use cm_history::{Act, Actor, Entry, History, within_limits};
+use nexus::{Pass, Store, World};
+use recorder::NoRecorder;
+use std::alloc::Global;
+use std::test::Fail;
+use std::thread::{Threads, join};
+use unit_gate::{ResumeRefused, TryRefused};
+
+/// A machine of two units of 100 blocks of 512 bytes.
+fn machine(alloc: Global) -> Result<Config, Fail>
+    ensures { IfOk result (λ config. length config.units ≡ 2) }
+{
+    let unit = UnitConfig {
+        blocks: 100,
+        block_length: 512,
+        entries: 100,
+        quota: 100,
+        payload: 1024,
+        group: 0,
+    };
+    let mut units = UnitList::empty(alloc);
+    units.push(unit)?;
+    units.push(unit)?;
+    Ok(Config::new([0; 32], units))
+}
+
+/// What came of an act.
+#[derive(Debug, Drop, Clone, Copy, PartialEq, Eq)]
+enum Told {
+    Done,
+    Held,
+    Refused,
+}
+
+/// Has one block of a unit read by the pass of a nexus, if the unit's turn is free.
+fn read(
+    world: &World<NoRecorder>,
+    config: &Config,
+    number: u32,
+    pass: &mut Pass<NoRecorder>,
+    unit: u16,
+) -> Told
+    requires config { config.now ≡ world.now.config }
+    requires pass { IsFreePass world.now number pass.old }
+    ensures { IsFreePass world.now number pass.new }
+{
+    let act = Act::Read { lba: 0, count: 1 };
+    if unit >= config.units() || !within_limits(config, unit, &act) {
+        return Told::Refused;
+    }
+    match world.try_act(pass, unit, 0, act) {
+        Ok(_) => Told::Done,
+        Err(TryRefused::Held(_)) => Told::Held,
+        Err(TryRefused::Act(_)) => Told::Refused,
+    }
+}
+
+/// The units and the stamps of a history, in its order.
+fn order_of(alloc: Global, history: &History) -> Result<Vec<(u16, u64)>, Fail> {
+    let mut order = Vec::new(alloc);
+    for index in 0..history.len() {
+        let entry = history.at(index);
+        order.push((entry.unit, entry.stamp))?;
+    }
+    Ok(order)
+}
+
+/// Has two passes read, the first one where that is true, on a unit each time.
+fn read_in_order(
+    world: &World<NoRecorder>,
+    config: &Config,
+    first: &mut Pass<NoRecorder>,
+    second: &mut Pass<NoRecorder>,
+    reads: &[(bool, u16)],
+) -> Result<(), Fail>
+    requires config { config.now ≡ world.now.config }
+    requires first { IsFreePass world.now 0 first.old }
+    requires second { IsFreePass world.now 1 second.old }
+    ensures first { IsFreePass world.now 0 first.new }
+    ensures second { IsFreePass world.now 1 second.new }
+{
+    for &(by_first, unit) in reads {
+        let told = if by_first {
+            read(world, config, 0, first, unit)
+        } else {
+            read(world, config, 1, second, unit)
+        };
+        if told != Told::Done {
+            return Err("the read was not answered".into());
+        }
+    }
+    Ok(())
+}
+
+/// The order of the reads of two passes.
+fn order_of_reads(alloc: Global, reads: &[(bool, u16)]) -> Result<Vec<(u16, u64)>, Fail> {
+    let config = machine(alloc)?;
+    let (world, mut root) = World::new(alloc, &config)?;
+    let mut first = world.pass(alloc, &mut root)?;
+    let mut second = world.pass(alloc, &mut root)?;
+    read_in_order(&world, &config, &mut first, &mut second, reads)?;
+    world.join(&mut root, first);
+    world.join(&mut root, second);
+    let Ok(closed) = world.close(alloc, root) else {
+        return Err("no memory for the merged history".into());
+    };
+    order_of(alloc, &closed.merged)
+}
+
+#[test]
+fn stamps_follow_a_pass_over_units_and_a_unit_over_passes(rt: HostRuntime) -> Result<(), Fail> {
+    let order = order_of_reads(rt.alloc(), &[(true, 0), (true, 1), (false, 1), (false, 0)])?;
+    let wanted = [(0, 1), (1, 2), (1, 3), (0, 4)];
+    assert_eq!(rt; order.as_slice(), wanted.as_slice());
+    Ok(())
+}
+
+#[test]
+fn one_stamp_on_two_units_is_merged_by_unit(rt: HostRuntime) -> Result<(), Fail> {
+    let order = order_of_reads(rt.alloc(), &[(true, 0), (false, 1)])?;
+    let wanted = [(0, 1), (1, 1)];
+    assert_eq!(rt; order.as_slice(), wanted.as_slice());
+    Ok(())
+}
+
+/// Reads of both units, by a pass of another thread.
+fn read_both(
+    world: &World<NoRecorder>,
+    config: &Config,
+    pass: Pass<NoRecorder>,
+) -> (Told, Told, Pass<NoRecorder>)
+    requires config { config.now ≡ world.now.config }
+    requires pass { IsFreePass world.now 1 pass }
+    ensures { IsFreePass world.now 1 result.2 }
+{
+    let mut pass = pass;
+    let first = read(world, config, 1, &mut pass, 0);
+    let second = read(world, config, 1, &mut pass, 1);
+    (first, second, pass)
+}
+
+/// What comes of reads of both units in another thread while a pass holds the first one.
+fn beside_a_hold<R: Threads + Sync>(
+    rt: &R,
+    world: &World<NoRecorder>,
+    config: &Config,
+    holder: &mut Pass<NoRecorder>,
+    other: Pass<NoRecorder>,
+) -> Result<(Told, Told, Pass<NoRecorder>), Fail>
+    requires config { config.now ≡ world.now.config }
+    requires some { 0 < length config.now.units }
+    requires holder { IsFreePass world.now 0 holder.old }
+    requires other { IsFreePass world.now 1 other }
+    ensures holder { IsFreePass world.now 0 holder.new }
+    ensures other { IfOk result (λ r. IsFreePass world.now 1 r.2) }
+{
+    let Some(hold) = world.hold(holder, 0) else {
+        return Err("the turn was taken".into());
+    };
+    let (_, told) = join(
+        rt,
+        || {},
+        || -> (Told, Told, Pass<NoRecorder>)
+            requires config { config.now ≡ world.now.config }
+            requires pass { IsFreePass world.now 1 other }
+            ensures { IsFreePass world.entry.now 1 result.2 }
+        { read_both(world, config, other) },
+    );
+    world.release(holder, hold);
+    Ok(told)
+}
+
+/// A pass that holds a unit keeps others out of that unit alone, until it gives the turn back.
+#[test]
+fn a_held_unit_keeps_others_out(rt: HostRuntime) -> Result<(), Fail> {
+    let alloc = rt.alloc();
+    let config = machine(alloc)?;
+    let (world, mut root) = World::new(alloc, &config)?;
+    let mut holder = world.pass(alloc, &mut root)?;
+    let other = world.pass(alloc, &mut root)?;
+    let (held, done, other) = beside_a_hold(&rt, &world, &config, &mut holder, other)?;
+    let mut other = other;
+    let later = read(&world, &config, 1, &mut other, 0);
+    world.join(&mut root, holder);
+    world.join(&mut root, other);
+    let Ok(closed) = world.close(alloc, root) else {
+        return Err("no memory for the merged history".into());
+    };
+    assert!(rt; (held, done, later) == (Told::Held, Told::Done, Told::Done));
+    assert!(rt; closed.merged.len() == 2);
+    Ok(())
+}
+
+/// What a unit goes on with: a copy that the nexus opened, and has still to end.
+fn store_of(alloc: Global, unit: u16, number: u32) -> Result<Store<NoRecorder>, Fail>
+    ensures { IfOk result (λ s. s.history.entries
+        ≡ record { stamp = 1; unit = unit; actor = Actor.Nexus number; seq = 0; moment = 0; act = Act.Open 3 } ∷ []) }
+{
+    let mut history = History::empty(alloc);
+    history.push(Entry {
+        stamp: 1,
+        unit,
+        actor: Actor::Nexus(number),
+        seq: 0,
+        moment: 0,
+        act: Act::Open { id: 3 },
+    })?;
+    Ok(Store {
+        history,
+        recorder: NoRecorder,
+    })
+}
+
+/// What the machine's units go on with, by nexuses of these numbers.
+fn stores_of(
+    alloc: Global,
+    config: &Config,
+    first: u32,
+    second: u32,
+) -> Result<Vec<Store<NoRecorder>>, Fail>
+    requires { length config.now.units ≡ 2 }
+    ensures long { IfOk result (λ l. length l.items ≡ 2) }
+    ensures stored { IfOk result (λ l. AreStored config.now 0 (map (stored (λ _. no_recorder)) l.items)) }
+{
+    let open = Act::Open { id: 3 };
+    if !within_limits(config, 0, &open) {
+        return Err("past the limits".into());
+    }
+    if !within_limits(config, 1, &open) {
+        return Err("past the limits".into());
+    }
+    let lower = store_of(alloc, 0, first)?;
+    let upper = store_of(alloc, 1, second)?;
+    let mut stores = Vec::new(alloc);
+    stores.push(lower)?;
+    stores.push(upper)?;
+    Ok(stores)
+}
+
+/// Each copy that was open is ended: the ends are kept, and what was recorded is not.
+#[test]
+fn a_world_goes_on_with_histories(rt: HostRuntime) -> Result<(), Fail> {
+    let alloc = rt.alloc();
+    let config = machine(alloc)?;
+    let stores = stores_of(alloc, &config, 7, 8)?;
+    let Ok((world, root)) = World::resume(alloc, &config, stores) else {
+        return Err("the histories were refused".into());
+    };
+    let Ok(closed) = world.close(alloc, root) else {
+        return Err("no memory for the merged history".into());
+    };
+    let order = order_of(alloc, &closed.merged)?;
+    let wanted = [(0, 2), (1, 2)];
+    assert_eq!(rt; order.as_slice(), wanted.as_slice());
+    for unit in &closed.units {
+        assert!(rt; unit.folded == 1 && unit.count.steps == 2);
+    }
+    Ok(())
+}
+
+/// A history that is bad is told with its unit and its entry, and the stores come back.
+#[test]
+fn a_bad_history_is_told(rt: HostRuntime) -> Result<(), Fail> {
+    let alloc = rt.alloc();
+    let config = machine(alloc)?;
+    let stores = stores_of(alloc, &config, 7, 4_294_967_039)?;
+    let Err((stores, refused)) = World::resume(alloc, &config, stores) else {
+        return Err("the bad history was taken".into());
+    };
+    assert!(rt; refused == ResumeRefused::BadHistory { unit: 1, entry: 0 });
+    assert!(rt; stores.len() == 2);
+    Ok(())
+}
