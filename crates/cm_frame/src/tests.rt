@@ -2,7 +2,7 @@ ghost use Rattle.std.specs.Prelude.{◌≤◌, length};
 ghost use Rattle.cm_frame.specs.Grammar.{data_limit, data_in, data_out};
 
 use super::*;
-use cm_base::{Bytes, CallList, InputBuffer, MemorySource, Payload};
+use cm_base::{Bytes, CallList, Config, InputBuffer, MemorySource, Payload};
 use scsi_sense::Sense;
 use std::test::Fail;
 
@@ -29,40 +29,41 @@ const HEADER: [u8; 74] = [
     0, 100, 0, 0, 2, 0, 0, 0, 0x10, 0, 0, 0, 0, 0, 0, 0, 0, 100, 0x10, 0, 0, 0, 0, 0, 0, 0,
 ];
 
-/// How a header ends in which one byte is changed.
+/// How the reading of a header ends.
+fn header_ending(rt: &HostRuntime, header: &[u8]) -> Result<Ending, Fail> {
+    Ok(ending_of(read_header(rt.alloc(), header)?))
+}
+
+/// How the reading of a header ends in which one byte is changed.
 fn fault(rt: &HostRuntime, header: &[u8], at: usize, byte: u8) -> Result<Ending, Fail> {
     let mut changed = header.to_vec(rt.alloc())?;
     if let Some(old) = changed.get_mut(at) {
         *old = byte;
     }
-    Ok(ending_of(read_header(rt.alloc(), changed.as_slice())?))
+    header_ending(rt, changed.as_slice())
 }
 
-/// A header is read, and written as it was.
+/// Whether a configuration has one unit and the secret of `HEADER`, and is written as this header.
+fn is_written(rt: &HostRuntime, config: &Config, header: &[u8]) -> Result<bool, Fail> {
+    let written = write_header(rt.alloc(), config)?;
+    Ok(written.as_slice() == header && config.units() == 1 && config.secret()[31] == 31)
+}
+
+/// Whether a header is read, and written as it was.
 fn is_read_and_written(rt: &HostRuntime, header: &[u8]) -> Result<bool, Fail> {
-    let Parsed::Whole { value, used } = read_header(rt.alloc(), header)? else {
-        return Ok(false);
-    };
-    let written = write_header(rt.alloc(), &value)?;
-    Ok(
-        written.as_slice() == header
-            && used == header.len()
-            && value.units() == 1
-            && value.secret()[31] == 31,
-    )
+    match &read_header(rt.alloc(), header)? {
+        Parsed::Whole { value, used } => Ok(
+            *used == header.len() && is_written(rt, value, header)?,
+        ),
+        _ => Ok(false),
+    }
 }
 
 #[test]
 fn a_header_is_read_and_written(rt: HostRuntime) -> Result<(), Fail> {
     assert!(rt; is_read_and_written(&rt, &HEADER)?);
-    assert_eq!(rt;
-        ending_of(read_header(rt.alloc(), &HEADER[..41])?),
-        Ending::Short
-    );
-    assert_eq!(rt;
-        ending_of(read_header(rt.alloc(), &HEADER[..73])?),
-        Ending::Short
-    );
+    assert_eq!(rt; header_ending(&rt, &HEADER[..41])?, Ending::Short);
+    assert_eq!(rt; header_ending(&rt, &HEADER[..73])?, Ending::Short);
     // A byte, what stands there, and the place of the field that it breaks.
     let faults = [
         (7, 0x32, 0),
@@ -82,6 +83,14 @@ fn a_header_is_read_and_written(rt: HostRuntime) -> Result<(), Fail> {
             Ending::Bad(place),
             "at {at}"
         );
+    }
+    Ok(())
+}
+
+/// Adds a byte so many times.
+fn repeat(bytes: &mut Bytes, byte: u8, times: usize) -> Result<(), Fail> {
+    for _ in 0..times {
+        bytes.push(byte)?;
     }
     Ok(())
 }
@@ -121,14 +130,25 @@ fn is_a_write(rt: &HostRuntime, bytes: &[u8]) -> Result<bool, Fail>
     Ok(same && begins(rt, &value, 0x8a, &bytes[35..], &bytes[13..])?)
 }
 
+/// A WRITE of one block of 11h and one of 22h.
+fn two_blocks(rt: &HostRuntime) -> Result<Bytes, Fail> {
+    let mut bytes = Bytes::copy(rt.alloc(), &WRITE)?;
+    repeat(&mut bytes, 0x11, 512)?;
+    repeat(&mut bytes, 0x22, 512)?;
+    Ok(bytes)
+}
+
+/// How the reading of a request ends.
+fn request_ending(rt: &HostRuntime, bytes: &[u8]) -> Result<Ending, Fail> {
+    Ok(ending_of(read_request(rt.alloc(), bytes)?))
+}
+
 #[test]
 fn items_are_read_and_written(rt: HostRuntime) -> Result<(), Fail> {
-    let mut bytes = Bytes::copy(rt.alloc(), &WRITE)?;
-    bytes.extend(&[0x11; 512])?;
-    bytes.extend(&[0x22; 512])?;
+    let bytes = two_blocks(&rt)?;
     assert_eq!(rt; bytes.len(), 1059);
     assert!(rt; is_a_write(&rt, bytes.as_slice())?);
-    let found = ending_of(read_request(rt.alloc(), &bytes.as_slice()[13..])?);
+    let found = request_ending(&rt, &bytes.as_slice()[13..])?;
     assert_eq!(rt; found, Ending::Whole(1046));
     Ok(())
 }
@@ -153,23 +173,21 @@ fn begins_with(item: Option<TraceItem>, count: usize, first: u8, last: u8) -> bo
     out.len() == count && out.first() == Some(&first) && out.last() == Some(&last)
 }
 
-/// Adds 65,536 bytes, the first one 3 and the last one 7.
-fn add_long_data(bytes: &mut Bytes) -> Result<(), Fail> {
-    bytes.push(3)?;
-    for _ in 0..65_534 {
-        bytes.push(1)?;
-    }
-    bytes.push(7)?;
-    Ok(())
-}
+/// Initiator 1 runs at moment 5.
+const RUN: [u8; 13] = [2, 0, 0, 0, 1, 0, 0, 0, 0, 0, 0, 0, 5];
+
+/// Unit 7 is pumped at moment 5.
+const PUMP: [u8; 11] = [3, 0, 7, 0, 0, 0, 0, 0, 0, 0, 5];
 
 /// A WRITE of 65,536 bytes, the first one 3 and the last one 7, and then a run.
 fn long_write(rt: &HostRuntime) -> Result<Bytes, Fail> {
     let mut bytes = Bytes::copy(rt.alloc(), &WRITE[..13])?;
-    bytes.extend(&65_536_u32.to_be_bytes())?;
+    bytes.extend(&[0, 1, 0, 0])?;
     bytes.extend(&WRITE[17..])?;
-    add_long_data(&mut bytes)?;
-    bytes.extend(&[2, 0, 0, 0, 1, 0, 0, 0, 0, 0, 0, 0, 5])?;
+    bytes.push(3)?;
+    repeat(&mut bytes, 1, 65_534)?;
+    bytes.push(7)?;
+    bytes.extend(&RUN)?;
     Ok(bytes)
 }
 
@@ -207,66 +225,74 @@ fn a_long_item_is_gathered(rt: HostRuntime) -> Result<(), Fail> {
     Ok(())
 }
 
+/// How the reading of an item ends.
+fn item_ending(rt: &HostRuntime, bytes: &[u8]) -> Result<Ending, Fail> {
+    Ok(ending_of(read_item(rt.alloc(), bytes)?))
+}
+
 #[test]
 fn items_are_judged(rt: HostRuntime) -> Result<(), Fail> {
     let mut long = WRITE;
     long[13] = 0xff;
-    let run = [2, 0, 0, 0, 1, 0, 0, 0, 0, 0, 0, 0, 5];
-    let pump = [3, 0, 7, 0, 0, 0, 0, 0, 0, 0, 5];
     let items: [(&[u8], Ending); 9] = [
         (&[], Ending::Short),
         (&[4], Ending::Bad(0)),
         (&WRITE[..16], Ending::Short),
         (&WRITE, Ending::Short),
         (&long[..17], Ending::Bad(13)),
-        (&run, Ending::Whole(13)),
-        (&run[..12], Ending::Short),
-        (&pump, Ending::Whole(11)),
-        (&pump[..10], Ending::Short),
+        (&RUN, Ending::Whole(13)),
+        (&RUN[..12], Ending::Short),
+        (&PUMP, Ending::Whole(11)),
+        (&PUMP[..10], Ending::Short),
     ];
     for (bytes, wanted) in items {
-        let found = ending_of(read_item(rt.alloc(), bytes)?);
-        assert_eq!(rt; found, wanted, "{bytes:?}");
+        assert_eq!(rt; item_ending(&rt, bytes)?, wanted, "{bytes:?}");
     }
     // Data of 8,388,609 bytes, and of FFFFFFFFh.
     for length in [[0, 0x80, 0, 1], [0xff, 0xff, 0xff, 0xff]] {
-        let found = ending_of(read_request(rt.alloc(), &length)?);
-        assert_eq!(rt; found, Ending::Bad(0));
+        assert_eq!(rt; request_ending(&rt, &length)?, Ending::Bad(0));
     }
     Ok(())
 }
 
-/// A reply, and its bytes.
-fn spelled(rt: &HostRuntime, reply: Reply, bytes: &[u8]) -> Result<bool, Fail>
+/// How the reading of a reply ends.
+fn reply_ending(rt: &HostRuntime, bytes: &[u8]) -> Result<Ending, Fail> {
+    Ok(ending_of(read_reply(rt.alloc(), bytes)?))
+}
+
+/// Whether a reply is written as these bytes, and these bytes are read as one reply.
+fn is_spelled(rt: &HostRuntime, reply: Reply, bytes: &[u8]) -> Result<bool, Fail>
     requires { length (data_in reply) ≤ data_limit }
 {
     let written = write_reply(rt.alloc(), &reply)?;
-    let found = ending_of(read_reply(rt.alloc(), bytes)?);
-    Ok(written.as_slice() == bytes && found == Ending::Whole(bytes.len()))
+    let same = written.as_slice() == bytes;
+    Ok(same && reply_ending(rt, bytes)? == Ending::Whole(bytes.len()))
 }
+
+/// CHECK CONDITION, with a sense of fixed format.
+const CHECK: [u8; 24] = [
+    2, 0x12, 0, 0, 0, 0, 0x70, 0, 5, 0, 0, 0, 0, 0x0a, 0, 0, 0, 0, 0x24, 0, 0, 0, 0, 0,
+];
 
 #[test]
 fn replies_are_read_and_written(rt: HostRuntime) -> Result<(), Fail> {
     let data = Payload::from_static(&[0x11, 0x22, 0x33]);
     let sense = Sense::new(0x05, 0x24, 0x00);
-    let check = [
-        2, 0x12, 0, 0, 0, 0, 0x70, 0, 5, 0, 0, 0, 0, 0x0a, 0, 0, 0, 0, 0x24, 0, 0, 0, 0, 0,
-    ];
-    assert!(rt;
-        spelled(
-            &rt,
-            Reply::Good(data),
-            &[0, 0, 0, 0, 0, 3, 0x11, 0x22, 0x33]
-        )?
-    );
-    assert!(rt; spelled(&rt, Reply::Check(sense), &check)?);
-    assert!(rt; spelled(&rt, Reply::Busy, &[8, 0, 0, 0, 0, 0])?);
-    assert!(rt; spelled(&rt, Reply::Conflict, &[0x18, 0, 0, 0, 0, 0])?);
-    assert!(rt; spelled(&rt, Reply::Full, &[0x28, 0, 0, 0, 0, 0])?);
-    let mut descriptor = check;
+    let good = [0, 0, 0, 0, 0, 3, 0x11, 0x22, 0x33];
+    assert!(rt; is_spelled(&rt, Reply::Good(data), &good)?);
+    assert!(rt; is_spelled(&rt, Reply::Check(sense), &CHECK)?);
+    assert!(rt; is_spelled(&rt, Reply::Busy, &[8, 0, 0, 0, 0, 0])?);
+    assert!(rt; is_spelled(&rt, Reply::Conflict, &[0x18, 0, 0, 0, 0, 0])?);
+    assert!(rt; is_spelled(&rt, Reply::Full, &[0x28, 0, 0, 0, 0, 0])?);
+    Ok(())
+}
+
+#[test]
+fn replies_are_judged(rt: HostRuntime) -> Result<(), Fail> {
+    let mut descriptor = CHECK;
     descriptor[6] = 0x72;
     let replies: [(&[u8], Ending); 11] = [
-        (&check[..23], Ending::Short),
+        (&CHECK[..23], Ending::Short),
         (&descriptor, Ending::Bad(6)),
         (&[1, 0, 0, 0, 0], Ending::Short),
         (&[1, 0, 0, 0, 0, 0], Ending::Bad(0)),
@@ -279,8 +305,7 @@ fn replies_are_read_and_written(rt: HostRuntime) -> Result<(), Fail> {
         (&[0, 0, 0, 0, 0, 2, 1], Ending::Short),
     ];
     for (bytes, wanted) in replies {
-        let found = ending_of(read_reply(rt.alloc(), bytes)?);
-        assert_eq!(rt; found, wanted, "{bytes:?}");
+        assert_eq!(rt; reply_ending(&rt, bytes)?, wanted, "{bytes:?}");
     }
     Ok(())
 }

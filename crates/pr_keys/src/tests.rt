@@ -54,19 +54,15 @@ fn byte_of(number: u64) -> u8 {
     u8::try_from(number).unwrap_or(0xff)
 }
 
+/// Two bits: whether the nexus may read, and write.
+fn rights_of(unit: &PrState, nexus: u32) -> u8 {
+    u8::from(unit.may(nexus, false)) | u8::from(unit.may(nexus, true)) << 1
+}
+
 /// Three pairs of bits: whether each nexus may read, and write.
 fn rights(unit: &PrState) -> u8 {
-    let mut bits = 0u8;
-    let mut bit = 1u8;
-    for nexus in NEXUSES {
-        for writes in [false, true] {
-            if unit.may(nexus, writes) {
-                bits |= bit;
-            }
-            bit = bit.wrapping_mul(2);
-        }
-    }
-    bits
+    let [first, second, third] = NEXUSES;
+    rights_of(unit, first) | rights_of(unit, second) << 2 | rights_of(unit, third) << 4
 }
 
 /// Adds what is told of a unit.
@@ -88,13 +84,11 @@ fn tell(unit: &PrState, told: &mut Bytes) -> Result<(), Fail> {
     Ok(())
 }
 
-/// A unit in the state of a row.
-fn unit_of(alloc: Global, row: &Row) -> Result<PrState, Fail> {
+/// A unit after these steps.
+fn unit_after(alloc: Global, steps: &[(u8, [u8; 5])]) -> Result<PrState, PrRefused> {
     let mut unit = PrState::new(alloc);
-    for (nexus, asked) in row.steps {
-        if apply(&mut unit, *nexus, asked).is_err() {
-            return Err(Fail::new("the state is not reached"));
-        }
+    for (nexus, asked) in steps {
+        apply(&mut unit, *nexus, asked)?;
     }
     Ok(unit)
 }
@@ -103,7 +97,7 @@ fn unit_of(alloc: Global, row: &Row) -> Result<PrState, Fail> {
 fn told(alloc: Global, row: &Row) -> Result<Bytes, Fail> {
     let mut told = Bytes::empty(alloc);
     for asked in &ASKED {
-        let mut unit = unit_of(alloc, row)?;
+        let mut unit = unit_after(alloc, row.steps)?;
         told.push(outcome(apply(&mut unit, 1, asked)))?;
         tell(&unit, &mut told)?;
     }
@@ -144,54 +138,130 @@ fn register(unit: &mut PrState, nexus: u32) -> Result<(), PrRefused> {
     unit.apply(nexus, 0x00, 0, 0, 0, u64::from(nexus).wrapping_add(1))
 }
 
-/// The sixty-fifth finds no room; a registered nexus may still change its key, and after a CLEAR there
-/// is room for all.
-#[test]
-fn sixty_four_nexuses_register(rt: HostRuntime) -> Result<(), Fail> {
-    let mut unit = PrState::new(rt.alloc());
+/// Gives a registered nexus another key.
+fn change_key(unit: &mut PrState, nexus: u32, key: u64) -> Result<(), PrRefused> {
+    unit.apply(nexus, 0x06, 0, 0, 0, key)
+}
+
+/// Ends all registrations, as a nexus with this key asks.
+fn clear(unit: &mut PrState, nexus: u32, key: u64) -> Result<(), PrRefused> {
+    unit.apply(nexus, 0x03, 0, 0, key, 0)
+}
+
+/// A unit where the nexuses 0 to 63 are registered.
+fn full_unit(alloc: Global) -> Result<PrState, PrRefused> {
+    let mut unit = PrState::new(alloc);
     for nexus in 0..64 {
         register(&mut unit, nexus)?;
     }
-    assert!(rt; outcome(register(&mut unit, 64)) == 4);
-    assert!(rt; unit.keys()?.len() == 64 && unit.generation() == 64);
-    unit.apply(63, 0x06, 0, 0, 0, 0xcafe)?;
+    Ok(unit)
+}
+
+/// How many nexuses are registered.
+fn registered(unit: &PrState) -> Result<usize, Fail> {
     let keys = unit.keys()?;
-    assert_eq!(rt; keys.as_slice().last().copied(), Some(0xcafe));
-    unit.apply(0, 0x03, 0, 0, 1, 0)?;
-    assert!(rt; unit.keys()?.is_empty());
+    Ok(keys.len())
+}
+
+/// The key of the nexus that registered last.
+fn last_key(unit: &PrState) -> Result<Option<u64>, Fail> {
+    let keys = unit.keys()?;
+    Ok(keys.as_slice().last().copied())
+}
+
+/// The sixty-fifth finds no room, and a registered nexus may still change its key.
+#[test]
+fn sixty_four_nexuses_register(rt: HostRuntime) -> Result<(), Fail> {
+    let mut unit = full_unit(rt.alloc())?;
+    assert!(rt; outcome(register(&mut unit, 64)) == 4);
+    assert!(rt; registered(&unit)? == 64);
+    assert!(rt; unit.generation() == 64);
+    change_key(&mut unit, 63, 0xcafe)?;
+    assert!(rt; last_key(&unit)? == Some(0xcafe));
+    Ok(())
+}
+
+/// After a CLEAR there is room for all.
+#[test]
+fn cleared_unit_has_room(rt: HostRuntime) -> Result<(), Fail> {
+    let mut unit = full_unit(rt.alloc())?;
+    clear(&mut unit, 0, 1)?;
+    assert!(rt; registered(&unit)? == 0);
     register(&mut unit, 64)?;
     Ok(())
 }
 
-/// The list and the data as they were worked out by hand from SPC-4.
+/// Two keys.
+const LIST: OutList = OutList {
+    key: 0x1234,
+    action_key: 0x5678,
+};
+
+/// The list of them, as it was worked out by hand from SPC-4.
+static SPELLED: [u8; 24] = [
+    0, 0, 0, 0, 0, 0, 0x12, 0x34, 0, 0, 0, 0, 0, 0, 0x56, 0x78, 0, 0, 0, 0, 0, 0, 0, 0,
+];
+
+/// The list is spelled by these bytes.
+fn is_written_as(list: OutList, bytes: &[u8; 24]) -> bool {
+    write_out_list(list) == *bytes
+}
+
+/// The list is what is read from these bytes.
+fn is_read_from(list: OutList, bytes: &[u8]) -> bool {
+    read_out_list(bytes) == Ok(list)
+}
+
+/// The bytes are refused by this sense.
+fn is_refused_by(sense: Sense, bytes: &[u8]) -> bool {
+    read_out_list(bytes) == Err(sense)
+}
+
 #[test]
-fn lists_and_data_of_the_standard(rt: HostRuntime) -> Result<(), Fail> {
-    let list = OutList {
-        key: 0x1234,
-        action_key: 0x5678,
-    };
-    let spelled = [
-        0, 0, 0, 0, 0, 0, 0x12, 0x34, 0, 0, 0, 0, 0, 0, 0x56, 0x78, 0, 0, 0, 0, 0, 0, 0, 0,
-    ];
-    assert_eq!(rt; write_out_list(list), spelled);
-    assert_eq!(rt; read_out_list(&spelled), Ok(list));
-    let cut = read_out_list(&spelled[..23]);
-    assert_eq!(rt; cut, Err(Sense::parameter_list_length_error()));
-    let keys = KeyList::copy(rt.alloc(), &[0x1234])?;
-    let data = keys_data(rt.alloc(), 1, &keys)?;
-    let wanted = [0, 0, 0, 1, 0, 0, 0, 8, 0, 0, 0, 0, 0, 0, 0x12, 0x34];
-    assert_eq!(rt; data.as_slice(), wanted.as_slice());
-    let held = Holder {
-        key: 0x1234,
-        kind: 1,
-    };
-    let data = holder_data(rt.alloc(), 1, Some(held))?;
-    let wanted = [
-        0, 0, 0, 1, 0, 0, 0, 16, 0, 0, 0, 0, 0, 0, 0x12, 0x34, 0, 0, 0, 0, 0, 1, 0, 0,
-    ];
-    assert_eq!(rt; data.as_slice(), wanted.as_slice());
-    let data = holder_data(rt.alloc(), 2, None)?;
-    assert_eq!(rt; data.as_slice(), [0, 0, 0, 2, 0, 0, 0, 0].as_slice());
+fn list_of_the_standard(rt: HostRuntime) {
+    assert!(rt; is_written_as(LIST, &SPELLED));
+    assert!(rt; is_read_from(LIST, &SPELLED));
+    assert!(rt; is_refused_by(Sense::parameter_list_length_error(), &SPELLED[..23]));
+}
+
+/// The reservation of the nexus with the first key.
+const HELD: Holder = Holder {
+    key: 0x1234,
+    kind: 1,
+};
+
+/// The data as they were worked out by hand from SPC-4: of one key, and of a reservation.
+static ONE_KEY: [u8; 16] = [0, 0, 0, 1, 0, 0, 0, 8, 0, 0, 0, 0, 0, 0, 0x12, 0x34];
+
+static RESERVED: [u8; 24] = [
+    0, 0, 0, 1, 0, 0, 0, 16, 0, 0, 0, 0, 0, 0, 0x12, 0x34, 0, 0, 0, 0, 0, 1, 0, 0,
+];
+
+static UNRESERVED: [u8; 8] = [0, 0, 0, 2, 0, 0, 0, 0];
+
+/// READ KEYS tells these bytes where one nexus is registered.
+fn tells_key(alloc: Global, generation: u32, key: u64, bytes: &[u8]) -> Result<bool, Fail> {
+    let keys = KeyList::copy(alloc, &[key])?;
+    let data = keys_data(alloc, generation, &keys)?;
+    Ok(data.as_slice() == bytes)
+}
+
+/// READ RESERVATION tells these bytes.
+fn tells_holder(
+    alloc: Global,
+    generation: u32,
+    holder: Option<Holder>,
+    bytes: &[u8],
+) -> Result<bool, Fail> {
+    let data = holder_data(alloc, generation, holder)?;
+    Ok(data.as_slice() == bytes)
+}
+
+#[test]
+fn data_of_the_standard(rt: HostRuntime) -> Result<(), Fail> {
+    assert!(rt; tells_key(rt.alloc(), 1, 0x1234, &ONE_KEY)?);
+    assert!(rt; tells_holder(rt.alloc(), 1, Some(HELD), &RESERVED)?);
+    assert!(rt; tells_holder(rt.alloc(), 2, None, &UNRESERVED)?);
     Ok(())
 }
 
