@@ -15,7 +15,8 @@ use std::thread::{Threads, join};
 use turn_gate::{Gate, GateSeat};
 use unit_core::Unit;
 use unit_gate::{
-    AskedAct, RecordedUnit, ResumeRefused, TryRefused, act, hold, release, resume, try_act,
+    AskedAct, RecordedUnit, ResumeRefused, TryRefused, UnitCount, act, hold, release, resume,
+    try_act,
 };
 
 type Recorded = RecordedUnit<MemoryRecorder>;
@@ -115,13 +116,17 @@ fn ask(
     }
 }
 
-/// Reads one block so many times, each of which is answered.
-fn read_all(
-    config: &Config,
-    gate: &Gate<Recorded>,
-    seat: &mut GateSeat<Recorded>,
-    count: u64,
-) -> Result<(), Fail>
+/// What is asked through the gate.
+#[derive(Clone, Copy)]
+enum Step {
+    /// So many Reads of one block; the last one's answer, or the first that is not done.
+    Reads(u64),
+    /// A Write of so many blocks.
+    Write(u32),
+}
+
+/// Reads one block so many times, until one is not done.
+fn reads(config: &Config, gate: &Gate<Recorded>, seat: &mut GateSeat<Recorded>, count: u64) -> Told
     requires kin { IfSome gate.now.kin (λ kin. (kin.config ≡ config.now) × (kin.unit ≡ 0)) }
     requires one { length config.now.units ≡ 1 }
     requires gate { seat.old.gate ≡ gate.now }
@@ -131,44 +136,17 @@ fn read_all(
     ensures first { seat.new.first ≡ seat.old.first }
     ensures out { seat.new.out ≡ seat.old.out }
 {
+    let mut told = Told::Done(0);
     for seq in 0..count {
-        let Told::Done(_) = ask(config, gate, seat, seq, Act::Read { lba: 0, count: 1 }) else {
-            return Err("a read was refused".into());
-        };
+        told = ask(config, gate, seat, seq, Act::Read { lba: 0, count: 1 });
+        if !matches!(told, Told::Done(_)) {
+            return told;
+        }
     }
-    Ok(())
+    told
 }
 
-/// A full record is recorded elsewhere, and the unit goes on.
-#[test]
-fn entries_are_folded(rt: HostRuntime) -> Result<(), Fail> {
-    let alloc = rt.alloc();
-    let config = machine(alloc, 6, 4096)?;
-    let (gate, mut seat) = gate_of(alloc, &config, CallList::empty(alloc))?;
-    read_all(&config, &gate, &mut seat, 20)?;
-    let closed = gate.close(seat).into_closed();
-    assert!(rt; closed.recorder.entries().len() == 18 && closed.folded == 18);
-    assert!(rt; closed.history.len() == 2 && closed.count.steps == 20);
-    Ok(())
-}
-
-/// Where the recorder fails at its first call, the seventh act is Full and the eighth is answered.
-#[test]
-fn a_failed_fold_is_full(rt: HostRuntime) -> Result<(), Fail> {
-    let alloc = rt.alloc();
-    let config = machine(alloc, 6, 4096)?;
-    let (gate, mut seat) = gate_of(alloc, &config, CallList::copy(alloc, &[1])?)?;
-    read_all(&config, &gate, &mut seat, 6)?;
-    let seventh = ask(&config, &gate, &mut seat, 6, Act::Read { lba: 0, count: 1 });
-    assert!(rt; seventh == Told::Full);
-    let eighth = ask(&config, &gate, &mut seat, 6, Act::Read { lba: 0, count: 1 });
-    assert!(rt; eighth == Told::Done(7));
-    let closed = gate.close(seat).into_closed();
-    assert!(rt; closed.recorder.entries().len() == 6 && closed.history.len() == 1);
-    Ok(())
-}
-
-/// A Write of so many blocks, and what it comes to.
+/// Writes so many blocks.
 fn write(
     alloc: Global,
     config: &Config,
@@ -176,7 +154,6 @@ fn write(
     seat: &mut GateSeat<Recorded>,
     count: u32,
 ) -> Result<Told, Fail>
-    requires count { count ≤ 2048 }
     requires kin { IfSome gate.now.kin (λ kin. (kin.config ≡ config.now) × (kin.unit ≡ 0)) }
     requires one { length config.now.units ≡ 1 }
     requires gate { seat.old.gate ≡ gate.now }
@@ -191,18 +168,135 @@ fn write(
     Ok(ask(config, gate, seat, 0, Act::Write { lba: 0, list }))
 }
 
+/// Whether each step is answered so.
+fn are_answered(
+    alloc: Global,
+    config: &Config,
+    gate: &Gate<Recorded>,
+    seat: &mut GateSeat<Recorded>,
+    steps: &[(Step, Told)],
+) -> Result<bool, Fail>
+    requires kin { IfSome gate.now.kin (λ kin. (kin.config ≡ config.now) × (kin.unit ≡ 0)) }
+    requires one { length config.now.units ≡ 1 }
+    requires gate { seat.old.gate ≡ gate.now }
+    requires idle { seat.old.holds ≡ false }
+    ensures gate { seat.new.gate ≡ seat.old.gate }
+    ensures idle { seat.new.holds ≡ false }
+    ensures first { seat.new.first ≡ seat.old.first }
+    ensures out { seat.new.out ≡ seat.old.out }
+{
+    for &(step, wanted) in steps {
+        let told = match step {
+            Step::Reads(count) => reads(config, gate, seat, count),
+            Step::Write(count) => write(alloc, config, gate, seat, count)?,
+        };
+        if told != wanted {
+            return Ok(false);
+        }
+    }
+    Ok(true)
+}
+
+/// What a closed unit has.
+#[derive(Clone, Copy, Debug, PartialEq)]
+struct Closed {
+    /// Entries of its recorder.
+    recorded: usize,
+    folded: u64,
+    late: u64,
+    /// Entries that were not dropped.
+    kept: usize,
+    count: UnitCount,
+}
+
+/// What the machine's unit has behind these steps, if each is answered so. Its recorder fails at the listed calls.
+fn played(
+    alloc: Global,
+    entries: u32,
+    payload: u32,
+    failing: &[u64],
+    steps: &[(Step, Told)],
+) -> Result<Option<Closed>, Fail>
+    requires entries { (1 ≤ entries) × (entries ≤ 1024) }
+    requires payload { (1 ≤ payload) × (payload ≤ 4_194_304) }
+{
+    let config = machine(alloc, entries, payload)?;
+    let (gate, mut seat) = gate_of(alloc, &config, CallList::copy(alloc, failing)?)?;
+    if !are_answered(alloc, &config, &gate, &mut seat, steps)? {
+        return Ok(None);
+    }
+    let closed = gate.close(seat).into_closed();
+    Ok(Some(Closed {
+        recorded: closed.recorder.entries().len(),
+        folded: closed.folded,
+        late: closed.late,
+        kept: closed.history.len(),
+        count: closed.count,
+    }))
+}
+
+/// A full record is recorded elsewhere, and the unit goes on.
+#[test]
+fn entries_are_folded(rt: HostRuntime) -> Result<(), Fail> {
+    let steps = [(Step::Reads(20), Told::Done(20))];
+    let wanted = Closed {
+        recorded: 18,
+        folded: 18,
+        late: 0,
+        kept: 2,
+        count: UnitCount {
+            steps: 20,
+            live: 0,
+            mapped: 0,
+        },
+    };
+    assert_eq!(rt; played(rt.alloc(), 6, 4096, &[], &steps)?, Some(wanted));
+    Ok(())
+}
+
+/// Where the recorder fails at its first call, the seventh act is Full and the eighth is answered.
+#[test]
+fn a_failed_fold_is_full(rt: HostRuntime) -> Result<(), Fail> {
+    let steps = [
+        (Step::Reads(6), Told::Done(6)),
+        (Step::Reads(1), Told::Full),
+        (Step::Reads(1), Told::Done(7)),
+    ];
+    let wanted = Closed {
+        recorded: 6,
+        folded: 6,
+        late: 0,
+        kept: 1,
+        count: UnitCount {
+            steps: 7,
+            live: 0,
+            mapped: 0,
+        },
+    };
+    assert_eq!(rt; played(rt.alloc(), 6, 4096, &[1], &steps)?, Some(wanted));
+    Ok(())
+}
+
 /// Payload is written out with its entries; more than the record has room for in all stays Full.
 #[test]
 fn payload_is_folded(rt: HostRuntime) -> Result<(), Fail> {
-    let alloc = rt.alloc();
-    let config = machine(alloc, 1024, 1024)?;
-    let (gate, mut seat) = gate_of(alloc, &config, CallList::empty(alloc))?;
-    assert!(rt; write(alloc, &config, &gate, &mut seat, 2)? == Told::Done(1));
-    assert!(rt; write(alloc, &config, &gate, &mut seat, 2)? == Told::Done(2));
-    assert!(rt; write(alloc, &config, &gate, &mut seat, 3)? == Told::Full);
-    let closed = gate.close(seat).into_closed();
-    assert!(rt; closed.folded == 2 && closed.history.is_empty());
-    assert!(rt; closed.count.mapped == 2 && closed.count.live == 0);
+    let steps = [
+        (Step::Write(2), Told::Done(1)),
+        (Step::Write(2), Told::Done(2)),
+        (Step::Write(3), Told::Full),
+    ];
+    let wanted = Closed {
+        recorded: 2,
+        folded: 2,
+        late: 0,
+        kept: 0,
+        count: UnitCount {
+            steps: 2,
+            live: 0,
+            mapped: 2,
+        },
+    };
+    assert_eq!(rt; played(rt.alloc(), 1024, 1024, &[], &steps)?, Some(wanted));
     Ok(())
 }
 
@@ -272,10 +366,12 @@ fn a_held_unit_keeps_others_out(rt: HostRuntime) -> Result<(), Fail> {
     Ok(())
 }
 
-/// Without a recorder a record stays full.
-#[test]
-fn a_record_stays_full_without_a_recorder(rt: HostRuntime) -> Result<(), Fail> {
-    let alloc = rt.alloc();
+/// Whether the first of two Reads is answered where there is no recorder, whether the second finds the record full, and how
+/// many entries were dropped and are kept.
+fn without_a_recorder<R: Wait + Sync>(
+    rt: &R,
+    alloc: Global,
+) -> Result<(bool, bool, u64, usize), Fail> {
     let config = machine(alloc, 1, 4096)?;
     let Ok(unit) = RecordedUnit::new(alloc, &config, 0, NoRecorder) else {
         return Err("no memory for a unit".into());
@@ -283,21 +379,19 @@ fn a_record_stays_full_without_a_recorder(rt: HostRuntime) -> Result<(), Fail> {
     let Ok((gate, mut seat)) = Gate::new(alloc, unit) else {
         return Err("no memory for a gate".into());
     };
-    let first = act(
-        &rt,
-        &gate,
-        &mut seat,
-        asked(0, Act::Read { lba: 0, count: 1 }),
-    );
-    let second = act(
-        &rt,
-        &gate,
-        &mut seat,
-        asked(1, Act::Read { lba: 0, count: 1 }),
-    );
-    assert!(rt; first.is_ok() && matches!(second, Err(ActRefused::Full)));
+    let read = asked(0, Act::Read { lba: 0, count: 1 });
+    let first = act(rt, &gate, &mut seat, read).is_ok();
+    let read = asked(1, Act::Read { lba: 0, count: 1 });
+    let second = matches!(act(rt, &gate, &mut seat, read), Err(ActRefused::Full));
     let closed = gate.close(seat).into_closed();
-    assert!(rt; closed.folded == 0 && closed.history.len() == 1);
+    Ok((first, second, closed.folded, closed.history.len()))
+}
+
+/// Without a recorder a record stays full.
+#[test]
+fn a_record_stays_full_without_a_recorder(rt: HostRuntime) -> Result<(), Fail> {
+    let found = without_a_recorder(&rt, rt.alloc())?;
+    assert_eq!(rt; found, (true, true, 0, 1));
     Ok(())
 }
 
@@ -336,30 +430,54 @@ fn resumed(
     Ok(resume(alloc, config, 0, &history))
 }
 
+/// The machine's unit, which goes on with a copy that a nexus opened.
+fn with_open_copy(alloc: Global) -> Result<Unit, Fail>
+    ensures { IfOk result (λ u. (h : List Entry) × HasRecorded u None h) }
+{
+    let config = machine(alloc, 6, 4096)?;
+    match resumed(alloc, &config, 7, Act::Open { id: 3 })? {
+        Ok(unit) => Ok(unit),
+        Err(_) => Err("the history was refused".into()),
+    }
+}
+
+/// How many entries were dropped and are kept, the last stamp, and whether a copy is still to be ended.
+fn seen(alloc: Global) -> Result<(u64, u64, u64, bool), Fail> {
+    let unit = with_open_copy(alloc)?;
+    let is_open = unit.unended().is_some();
+    Ok((unit.folded(), unit.kept(), unit.last_stamp(), is_open))
+}
+
 /// A copy that was open is ended: the end alone is kept, and what was recorded is dropped.
 #[test]
 fn an_open_copy_is_ended(rt: HostRuntime) -> Result<(), Fail> {
-    let alloc = rt.alloc();
-    let config = machine(alloc, 6, 4096)?;
-    let Ok(unit) = resumed(alloc, &config, 7, Act::Open { id: 3 })? else {
-        return Err("the history was refused".into());
-    };
-    assert!(rt; unit.folded() == 1 && unit.kept() == 1 && unit.last_stamp() == 2);
-    assert!(rt; unit.unended().is_none());
+    assert_eq!(rt; seen(rt.alloc())?, (1, 1, 2, false));
     Ok(())
 }
+
+/// Why a unit with room for so many entries does not go on with one entry of a nexus, if it does not.
+fn refused(
+    alloc: Global,
+    entries: u32,
+    number: u32,
+    act: Act,
+) -> Result<Option<ResumeRefused>, Fail>
+    requires entries { (1 ≤ entries) × (entries ≤ 1024) }
+    requires asked { may_ask 0 (Actor.Nexus number) act ≡ true }
+{
+    let config = machine(alloc, entries, 4096)?;
+    Ok(resumed(alloc, &config, number, act)?.err())
+}
+
+const BAD: Option<ResumeRefused> = Some(ResumeRefused::BadHistory { unit: 0, entry: 0 });
 
 /// Above the number 4,294,967,038 of a nexus its entry is refused.
 #[test]
 fn too_great_a_number_is_bad(rt: HostRuntime) -> Result<(), Fail> {
-    let alloc = rt.alloc();
-    let config = machine(alloc, 6, 4096)?;
     let read = Act::Read { lba: 0, count: 1 };
-    let last = resumed(alloc, &config, 4_294_967_038, read)?;
-    assert!(rt; last.is_ok());
+    assert_eq!(rt; refused(rt.alloc(), 6, 4_294_967_038, read)?, None);
     let read = Act::Read { lba: 0, count: 1 };
-    let late = resumed(alloc, &config, 4_294_967_039, read)?;
-    assert!(rt; matches!(late, Err(ResumeRefused::BadHistory { unit: 0, entry: 0 })));
+    assert_eq!(rt; refused(rt.alloc(), 6, 4_294_967_039, read)?, BAD);
     Ok(())
 }
 
@@ -382,23 +500,21 @@ fn start_of_one(alloc: Global) -> Result<Act, Fail>
 /// A record of two entries has no room for a Start of one block, which needs three.
 #[test]
 fn an_entry_without_room_is_bad(rt: HostRuntime) -> Result<(), Fail> {
-    let alloc = rt.alloc();
-    let config = machine(alloc, 2, 4096)?;
-    let told = resumed(alloc, &config, 1, start_of_one(alloc)?)?;
-    assert!(rt; matches!(told, Err(ResumeRefused::BadHistory { unit: 0, entry: 0 })));
+    let start = start_of_one(rt.alloc())?;
+    assert_eq!(rt; refused(rt.alloc(), 2, 1, start)?, BAD);
     Ok(())
+}
+
+/// What a unit has at its end that goes on without a recorder.
+fn closed_without_a_recorder(alloc: Global) -> Result<(u64, u64, usize, u64), Fail> {
+    let closed = RecordedUnit::over(with_open_copy(alloc)?, NoRecorder).into_closed();
+    let kept = closed.history.len();
+    Ok((closed.folded, closed.late, kept, closed.count.steps))
 }
 
 /// A unit may go on without a recorder, and then keeps what is asked of it.
 #[test]
 fn a_unit_goes_on_without_a_recorder(rt: HostRuntime) -> Result<(), Fail> {
-    let alloc = rt.alloc();
-    let config = machine(alloc, 6, 4096)?;
-    let Ok(unit) = resumed(alloc, &config, 7, Act::Open { id: 3 })? else {
-        return Err("the history was refused".into());
-    };
-    let closed = RecordedUnit::over(unit, NoRecorder).into_closed();
-    assert!(rt; closed.folded == 1 && closed.late == 0 && closed.history.len() == 1);
-    assert!(rt; closed.count.steps == 2);
+    assert_eq!(rt; closed_without_a_recorder(rt.alloc())?, (1, 0, 1, 2));
     Ok(())
 }

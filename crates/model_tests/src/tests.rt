@@ -10,28 +10,165 @@ use cm_history::{
 use lba_ranges::{BlockList, Fill, Piece, Range, RangeList};
 use plain_model::plain_answer;
 use scsi_sense::Sense;
+use std::alloc::Global;
 use std::test::Fail;
 
-/// One unit of four blocks of 512 bytes, of which two may be mapped.
-fn one_unit(rt: &HostRuntime) -> Result<Config, Fail>
-    ensures { IfOk result (λ config. length config.units ≡ 1) }
+/// An act of the unit, in short.
+#[derive(Clone, Copy)]
+enum Asked {
+    Read {
+        lba: u64,
+        count: u32,
+    },
+    /// Of one block, all of whose bytes are this one.
+    Write {
+        lba: u64,
+        byte: u8,
+    },
+    /// Of all blocks, by a token that lives for ten seconds.
+    Populate,
+    /// Of the unit's first token.
+    Redeem,
+    /// Of a background write of four unmapped blocks.
+    Start,
+    Pump,
+    Report,
+    PrOut {
+        action: u8,
+        kind: u8,
+        key: u64,
+        action_key: u64,
+    },
+    PrKeys,
+    PrHolder,
+}
+
+/// What an act is answered, in short.
+#[derive(Clone, Copy, PartialEq, Eq)]
+enum Told {
+    Done,
+    Conflict,
+    Refused(Sense),
+    /// The first byte of the last of four blocks, where that is mapped.
+    Rod {
+        last: Option<u8>,
+    },
+    Report {
+        background: bool,
+        count: u32,
+        done: bool,
+    },
+    Keys {
+        generation: u32,
+        count: usize,
+    },
+    Holder(Holder),
+    Other,
+}
+
+/// A unit of four blocks of 512 bytes, of which two may be mapped.
+fn unit() -> UnitConfig
+    ensures { result ≡ record {
+      blocks = 4;
+      block_length = 512;
+      entries = 16;
+      quota = 2;
+      payload = 65_536;
+      group = 0;
+    } }
 {
-    let only = UnitConfig {
+    UnitConfig {
         blocks: 4,
         block_length: 512,
         entries: 16,
         quota: 2,
         payload: 65_536,
         group: 0,
-    };
-    Ok(Config::new([7; 32], UnitList::copy(rt.alloc(), &[only])?))
+    }
+}
+
+/// This unit alone.
+fn one_unit(alloc: Global) -> Result<Config, Fail>
+    ensures { IfOk result (λ config. length config.units ≡ 1) }
+{
+    let mut units = UnitList::empty(alloc);
+    units.push(unit())?;
+    Ok(Config::new([7; 32], units))
 }
 
 /// A Write of one block, all of whose bytes are this one.
-fn write(rt: &HostRuntime, lba: u64, byte: u8) -> Result<Act, Fail> {
-    let bytes = Payload::from_vec(vec![in rt.alloc(); byte; 512]?)?;
-    let list = BlockList::from_payload(rt.alloc(), 512, 1, bytes)?;
+fn write(alloc: Global, lba: u64, byte: u8) -> Result<Act, Fail> {
+    let bytes = Payload::from_vec(vec![in alloc; byte; 512]?)?;
+    let list = BlockList::from_payload(alloc, 512, 1, bytes)?;
     Ok(Act::Write { lba, list })
+}
+
+/// All four blocks of the unit, as one range.
+fn all_blocks(alloc: Global) -> Result<RangeList, Fail> {
+    let mut list = RangeList::empty(alloc);
+    list.push(Range { lba: 0, count: 4 })?;
+    Ok(list)
+}
+
+/// A Populate of all blocks, whose token lives for ten seconds.
+fn populate(alloc: Global) -> Result<Act, Fail> {
+    Ok(Act::Populate {
+        id: 1,
+        timeout: 10,
+        ranges: all_blocks(alloc)?,
+    })
+}
+
+/// A Redeem of the first token of unit 0.
+fn redeem(alloc: Global, config: &Config) -> Result<Act, Fail>
+    requires { 1 ≤ length config.now.units }
+{
+    let text = TokenText::new(alloc, &rod_token::text(config, 0, 0, 4))?;
+    Ok(Act::Redeem { text, target: 0 })
+}
+
+/// A background write of four unmapped blocks.
+fn start(alloc: Global) -> Result<Act, Fail> {
+    let mut rod = BlockList::empty(alloc, 512);
+    rod.push(Piece {
+        count: 4,
+        fill: Fill::Hole,
+    })?;
+    Ok(Act::Start {
+        id: 1,
+        background: true,
+        ranges: all_blocks(alloc)?,
+        rod: RodBlocks::new(alloc, rod)?,
+    })
+}
+
+/// The act that is asked.
+fn act_of(alloc: Global, config: &Config, asked: Asked) -> Result<Act, Fail>
+    requires { 1 ≤ length config.now.units }
+{
+    match asked {
+        Asked::Read { lba, count } => Ok(Act::Read { lba, count }),
+        Asked::Write { lba, byte } => write(alloc, lba, byte),
+        Asked::Populate => populate(alloc),
+        Asked::Redeem => redeem(alloc, config),
+        Asked::Start => start(alloc),
+        Asked::Pump => Ok(Act::Pump),
+        Asked::Report => Ok(Act::Report { id: 1 }),
+        Asked::PrOut {
+            action,
+            kind,
+            key,
+            action_key,
+        } => Ok(Act::PrOut {
+            action,
+            scope: 0,
+            kind,
+            key,
+            action_key,
+        }),
+        Asked::PrKeys => Ok(Act::PrKeys),
+        Asked::PrHolder => Ok(Act::PrHolder),
+    }
 }
 
 /// The act is within its limits.
@@ -65,70 +202,129 @@ fn ask(config: &Config, history: &mut History, moment: u64, act: Act) -> Result<
     Ok(())
 }
 
-/// Four Writes of unit 0, the third of which is refused.
-fn four_writes(rt: &HostRuntime, config: &Config) -> Result<History, Fail>
-    requires { 1 ≤ length config.now.units }
+/// The history goes on with these acts of initiator 1, each at its moment.
+fn ask_all(
+    alloc: Global,
+    config: &Config,
+    history: History,
+    acts: &[(u64, Asked)],
+) -> Result<History, Fail>
+    requires one { 1 ≤ length config.now.units }
+    requires within { AreWithin config.now 0 history.entries }
     ensures { IfOk result (λ history. AreWithin config.now 0 history.entries) }
 {
-    let mut history = History::empty(rt.alloc());
-    ask(config, &mut history, 0, write(rt, 1, 0x11)?)?;
-    ask(config, &mut history, 1, write(rt, 1, 0x22)?)?;
-    ask(config, &mut history, 2, write(rt, 4, 0x33)?)?;
-    ask(config, &mut history, 3, write(rt, 3, 0x44)?)?;
+    let mut history = history;
+    for row in acts {
+        let act = act_of(alloc, config, row.1)?;
+        ask(config, &mut history, row.0, act)?;
+    }
     Ok(history)
 }
 
-/// What an initiator is answered at this moment.
-fn told_to(
-    nexus: u32,
-    rt: &HostRuntime,
-    config: &Config,
-    history: &History,
-    moment: u64,
-    act: &Act,
-) -> Result<Answer, Fail>
-    requires one { 1 ≤ length config.now.units }
-    requires within { AreWithin config.now 0 history.now.entries }
+/// Four Writes, the third of which is refused.
+const FOUR_WRITES: [(u64, Asked); 4] = [
+    (0, Asked::Write { lba: 1, byte: 0x11 }),
+    (1, Asked::Write { lba: 1, byte: 0x22 }),
+    (2, Asked::Write { lba: 4, byte: 0x33 }),
+    (3, Asked::Write { lba: 3, byte: 0x44 }),
+];
+
+/// The history of four Writes, and of these acts behind them.
+fn history_of(alloc: Global, config: &Config, acts: &[(u64, Asked)]) -> Result<History, Fail>
+    requires { 1 ≤ length config.now.units }
+    ensures { IfOk result (λ history. AreWithin config.now 0 history.entries) }
 {
-    allowed(config, act)?;
-    let alloc = rt.alloc();
-    let actor = Actor::Nexus(nexus);
-    Ok(plain_answer(alloc, config, history, 0, actor, moment, act)?)
+    let history = ask_all(alloc, config, History::empty(alloc), &FOUR_WRITES)?;
+    ask_all(alloc, config, history, acts)
 }
 
-/// What initiator 1 is answered at this moment.
-fn told(
-    rt: &HostRuntime,
-    config: &Config,
-    history: &History,
+/// What an initiator is answered, after four Writes and these acts of initiator 1, to an act at a moment.
+fn answered(
+    alloc: Global,
+    acts: &[(u64, Asked)],
+    nexus: u32,
     moment: u64,
-    act: &Act,
-) -> Result<Answer, Fail>
-    requires one { 1 ≤ length config.now.units }
-    requires within { AreWithin config.now 0 history.now.entries }
-{
-    told_to(1, rt, config, history, moment, act)
+    asked: Asked,
+) -> Result<Answer, Fail> {
+    let config = one_unit(alloc)?;
+    let history = history_of(alloc, &config, acts)?;
+    let act = act_of(alloc, &config, asked)?;
+    allowed(&config, &act)?;
+    let actor = Actor::Nexus(nexus);
+    Ok(plain_answer(alloc, &config, &history, 0, actor, moment, &act)?)
+}
+
+/// The first byte of the last of four blocks, where that is mapped.
+fn last_of(rod: &BlockList) -> Option<u8> {
+    match rod.held(3) {
+        Some(bytes) => bytes.first().copied(),
+        None => None,
+    }
+}
+
+fn told_of(answer: &Answer) -> Told {
+    match answer {
+        Answer::Done => Told::Done,
+        Answer::Conflict => Told::Conflict,
+        Answer::Refused(sense) => Told::Refused(*sense),
+        Answer::Rod(rod) => Told::Rod { last: last_of(rod) },
+        Answer::Report(report) => Told::Report {
+            background: report.background,
+            count: report.count,
+            done: matches!(report.state, OpState::Done),
+        },
+        Answer::Keys { generation, keys } => Told::Keys {
+            generation: *generation,
+            count: keys.len(),
+        },
+        Answer::Holder {
+            holder: Some(holder),
+            ..
+        } => Told::Holder(*holder),
+        _ => Told::Other,
+    }
+}
+
+/// What an initiator is told, after four Writes and these acts of initiator 1, where it asks at a moment.
+fn told_to(
+    alloc: Global,
+    acts: &[(u64, Asked)],
+    nexus: u32,
+    moment: u64,
+    asked: Asked,
+) -> Result<Told, Fail> {
+    let answer = answered(alloc, acts, nexus, moment, asked)?;
+    Ok(told_of(&answer))
 }
 
 /// The bytes of the blocks that a Read of all blocks is answered after four Writes.
-fn read_back(rt: &HostRuntime, config: &Config) -> Result<Bytes, Fail>
-    requires { 1 ≤ length config.now.units }
-{
-    let history = four_writes(rt, config)?;
-    let answer = told(rt, config, &history, 4, &Act::Read { lba: 0, count: 4 })?;
-    let mut bytes = Bytes::empty(rt.alloc());
-    if let Answer::Blocks(list) = answer {
+fn read_back(alloc: Global) -> Result<Bytes, Fail> {
+    let answer = answered(alloc, &[], 1, 4, Asked::Read { lba: 0, count: 4 })?;
+    let mut bytes = Bytes::empty(alloc);
+    if let Answer::Blocks(list) = &answer {
         list.read_into(&mut bytes)?;
     }
     Ok(bytes)
 }
 
+/// At these places are these bytes.
+fn hold(bytes: &[u8], held: &[(usize, u8)]) -> bool {
+    for (place, byte) in held {
+        if bytes.get(*place) != Some(byte) {
+            return false;
+        }
+    }
+    true
+}
+
+/// A Read after four Writes is answered so many bytes, and these at these places.
+fn reads(alloc: Global, length: usize, held: &[(usize, u8)]) -> Result<bool, Fail> {
+    let bytes = read_back(alloc)?;
+    Ok(bytes.len() == length && hold(bytes.as_slice(), held))
+}
+
 #[test]
 fn what_was_written_is_read(rt: HostRuntime) -> Result<(), Fail> {
-    let config = one_unit(&rt)?;
-    let bytes = read_back(&rt, &config)?;
-    let bytes = bytes.as_slice();
-    assert_eq!(rt; bytes.len(), 2048);
     let held = [
         (0, 0),
         (511, 0),
@@ -137,174 +333,104 @@ fn what_was_written_is_read(rt: HostRuntime) -> Result<(), Fail> {
         (1024, 0),
         (1536, 0x44),
     ];
-    for (place, byte) in held {
-        assert_eq!(rt; bytes.get(place), Some(&byte), "at {place}");
-    }
+    assert!(rt; reads(rt.alloc(), 2048, &held)?);
     Ok(())
-}
-
-/// The answer to an act after four Writes is this refusal.
-fn is_refused(rt: &HostRuntime, config: &Config, act: &Act, wanted: Sense) -> Result<bool, Fail>
-    requires { 1 ≤ length config.now.units }
-{
-    let history = four_writes(rt, config)?;
-    let answer = told(rt, config, &history, 4, act)?;
-    Ok(matches!(&answer, Answer::Refused(sense) if *sense == wanted))
 }
 
 /// The unit has four blocks, and the quota is of two.
 #[test]
 fn acts_are_refused(rt: HostRuntime) -> Result<(), Fail> {
-    let config = one_unit(&rt)?;
-    let out_of_range = Sense::new(0x05, 0x21, 0x00);
-    let over_quota = Sense::new(0x07, 0x27, 0x07);
-    let long = Act::Read { lba: 1, count: 4 };
-    assert!(rt; is_refused(&rt, &config, &long, out_of_range)?);
-    assert!(rt; is_refused(&rt, &config, &write(&rt, 0, 0x55)?, over_quota)?);
-    assert!(rt; !is_refused(&rt, &config, &write(&rt, 3, 0x55)?, over_quota)?);
-    Ok(())
-}
-
-/// All four blocks of the unit, as one range.
-fn all_blocks(rt: &HostRuntime) -> Result<RangeList, Fail> {
-    let mut list = RangeList::empty(rt.alloc());
-    list.push(Range { lba: 0, count: 4 })?;
-    Ok(list)
-}
-
-/// A Populate of all blocks, whose token lives for ten seconds.
-fn populate(rt: &HostRuntime) -> Result<Act, Fail> {
-    Ok(Act::Populate {
-        id: 1,
-        timeout: 10,
-        ranges: all_blocks(rt)?,
-    })
-}
-
-/// A Redeem of the first token of unit 0.
-fn redeem(rt: &HostRuntime, config: &Config) -> Result<Act, Fail>
-    requires { 1 ≤ length config.now.units }
-{
-    let text = TokenText::new(rt.alloc(), &rod_token::text(config, 0, 0, 4))?;
-    Ok(Act::Redeem { text, target: 0 })
-}
-
-/// A Populate of all blocks, the last of which is written again; then a Redeem at this moment.
-fn redeemed(rt: &HostRuntime, config: &Config, moment: u64) -> Result<Answer, Fail>
-    requires { 1 ≤ length config.now.units }
-{
-    let mut history = four_writes(rt, config)?;
-    ask(config, &mut history, 4, populate(rt)?)?;
-    ask(config, &mut history, 5, write(rt, 3, 0x66)?)?;
-    told(rt, config, &history, moment, &redeem(rt, config)?)
-}
-
-/// The last block of a rod has bytes like this one.
-fn is_rod(answer: &Answer, byte: u8) -> bool {
-    match answer {
-        Answer::Rod(list) => matches!(list.held(3), Some(bytes) if bytes.first() == Some(&byte)),
-        _ => false,
+    let out_of_range = Told::Refused(Sense::new(0x05, 0x21, 0x00));
+    let over_quota = Told::Refused(Sense::new(0x07, 0x27, 0x07));
+    let rows = [
+        (Asked::Read { lba: 1, count: 4 }, out_of_range),
+        (Asked::Write { lba: 0, byte: 0x55 }, over_quota),
+        (Asked::Write { lba: 3, byte: 0x55 }, Told::Done),
+    ];
+    for (asked, wanted) in rows {
+        assert!(rt; told_to(rt.alloc(), &[], 1, 4, asked)? == wanted);
     }
-}
-
-/// The answer is this refusal.
-fn is_refusal(answer: &Answer, wanted: Sense) -> bool {
-    matches!(answer, Answer::Refused(sense) if *sense == wanted)
+    Ok(())
 }
 
 /// A token has the blocks of its making for ten seconds.
 #[test]
 fn a_token_is_redeemed(rt: HostRuntime) -> Result<(), Fail> {
-    let config = one_unit(&rt)?;
-    let answer = redeemed(&rt, &config, 14)?;
-    assert!(rt; is_rod(&answer, 0x44));
-    let answer = redeemed(&rt, &config, 15)?;
-    assert!(rt; is_refusal(&answer, Sense::new(0x05, 0x23, 0x07)));
+    let acts = [
+        (4, Asked::Populate),
+        (5, Asked::Write { lba: 3, byte: 0x66 }),
+    ];
+    let rod = Told::Rod { last: Some(0x44) };
+    let expired = Told::Refused(Sense::new(0x05, 0x23, 0x07));
+    for (moment, wanted) in [(14, rod), (15, expired)] {
+        assert!(rt; told_to(rt.alloc(), &acts, 1, moment, Asked::Redeem)? == wanted);
+    }
     Ok(())
-}
-
-/// A background write of four unmapped blocks.
-fn start(rt: &HostRuntime) -> Result<Act, Fail> {
-    let mut rod = BlockList::empty(rt.alloc(), 512);
-    rod.push(Piece {
-        count: 4,
-        fill: Fill::Hole,
-    })?;
-    Ok(Act::Start {
-        id: 1,
-        background: true,
-        ranges: all_blocks(rt)?,
-        rod: RodBlocks::new(rt.alloc(), rod)?,
-    })
-}
-
-/// A background write of four unmapped blocks, and so many Pumps.
-fn pumped(rt: &HostRuntime, config: &Config, pumps: u64) -> Result<Answer, Fail>
-    requires { 1 ≤ length config.now.units }
-{
-    let mut history = four_writes(rt, config)?;
-    ask(config, &mut history, 4, start(rt)?)?;
-    for _ in 0..pumps {
-        ask(config, &mut history, 5, Act::Pump)?;
-    }
-    told(rt, config, &history, 6, &Act::Report { id: 1 })
-}
-
-/// The report is of a background write of so many blocks that has ended, or not.
-fn is_report(answer: &Answer, wanted: u32, done: bool) -> bool {
-    match answer {
-        Answer::Report(report) => {
-            let ended = matches!(report.state, OpState::Done);
-            report.background && report.count == wanted && ended == done
-        }
-        _ => false,
-    }
 }
 
 /// The pump writes the piece of the operation.
 #[test]
 fn an_operation_is_pumped(rt: HostRuntime) -> Result<(), Fail> {
-    let config = one_unit(&rt)?;
-    let answer = pumped(&rt, &config, 0)?;
-    assert!(rt; is_report(&answer, 0, false));
-    let answer = pumped(&rt, &config, 2)?;
-    assert!(rt; is_report(&answer, 4, true));
+    let acts = [(4, Asked::Start), (5, Asked::Pump), (5, Asked::Pump)];
+    let begun = Told::Report {
+        background: true,
+        count: 0,
+        done: false,
+    };
+    let done = Told::Report {
+        background: true,
+        count: 4,
+        done: true,
+    };
+    assert!(rt; told_to(rt.alloc(), &acts[..1], 1, 6, Asked::Report)? == begun);
+    assert!(rt; told_to(rt.alloc(), &acts, 1, 6, Asked::Report)? == done);
     Ok(())
 }
 
-/// A PERSISTENT RESERVE OUT by the key A1h, or one that brings this key.
-fn out(action: u8, kind: u8, key: u64, action_key: u64) -> Act {
-    Act::PrOut {
-        action,
-        scope: 0,
-        kind,
-        key,
-        action_key,
-    }
-}
-
-/// Initiator 1 registers, and reserves the unit for itself; then initiator 2 asks.
-fn told_the_other(rt: &HostRuntime, config: &Config, act: &Act) -> Result<Answer, Fail>
-    requires { 1 ≤ length config.now.units }
-{
-    let mut history = four_writes(rt, config)?;
-    ask(config, &mut history, 4, out(0x00, 0, 0, 0xa1))?;
-    ask(config, &mut history, 5, out(0x01, 3, 0xa1, 0))?;
-    told_to(2, rt, config, &history, 6, act)
-}
+/// Initiator 1 registers the key A1h, and reserves the unit for itself.
+const RESERVED: [(u64, Asked); 2] = [
+    (
+        4,
+        Asked::PrOut {
+            action: 0x00,
+            kind: 0,
+            key: 0,
+            action_key: 0xa1,
+        },
+    ),
+    (
+        5,
+        Asked::PrOut {
+            action: 0x01,
+            kind: 3,
+            key: 0xa1,
+            action_key: 0,
+        },
+    ),
+];
 
 /// Others may not read, also where no block is; they are told the keys and the holder, and may register.
 #[test]
 fn a_reservation_is_looked_at_first(rt: HostRuntime) -> Result<(), Fail> {
-    let config = one_unit(&rt)?;
-    let answer = told_the_other(&rt, &config, &Act::Read { lba: 9, count: 4 })?;
-    assert!(rt; matches!(&answer, Answer::Conflict));
-    let answer = told_the_other(&rt, &config, &Act::PrKeys)?;
-    assert!(rt; matches!(&answer, Answer::Keys { generation: 1, keys } if keys.len() == 1));
-    let answer = told_the_other(&rt, &config, &Act::PrHolder)?;
+    let register = Asked::PrOut {
+        action: 0x00,
+        kind: 0,
+        key: 0,
+        action_key: 0xb2,
+    };
+    let keys = Told::Keys {
+        generation: 1,
+        count: 1,
+    };
     let holder = Holder { key: 0xa1, kind: 3 };
-    assert!(rt; matches!(&answer, Answer::Holder { holder: Some(told), .. } if *told == holder));
-    let answer = told_the_other(&rt, &config, &out(0x00, 0, 0, 0xb2))?;
-    assert!(rt; matches!(&answer, Answer::Done));
+    let rows = [
+        (Asked::Read { lba: 9, count: 4 }, Told::Conflict),
+        (Asked::PrKeys, keys),
+        (Asked::PrHolder, Told::Holder(holder)),
+        (register, Told::Done),
+    ];
+    for (asked, wanted) in rows {
+        assert!(rt; told_to(rt.alloc(), &RESERVED, 2, 6, asked)? == wanted);
+    }
     Ok(())
 }

@@ -178,24 +178,29 @@ fn beside_a_hold<R: Threads + Sync>(
     Ok(told)
 }
 
-/// A pass that holds a unit keeps others out of that unit alone, until it gives the turn back.
-#[test]
-fn a_held_unit_keeps_others_out(rt: HostRuntime) -> Result<(), Fail> {
-    let alloc = rt.alloc();
+/// What comes of reads of both units while a pass holds the first one, of one of the first behind that, and how many
+/// entries the merged history has.
+fn held<R: Threads + Sync>(rt: &R, alloc: Global) -> Result<(Told, Told, Told, usize), Fail> {
     let config = machine(alloc)?;
     let (world, mut root) = World::new(alloc, &config)?;
     let mut holder = world.pass(alloc, &mut root)?;
     let other = world.pass(alloc, &mut root)?;
-    let (held, done, other) = beside_a_hold(&rt, &world, &config, &mut holder, other)?;
+    let (first, second, other) = beside_a_hold(rt, &world, &config, &mut holder, other)?;
     let mut other = other;
     let later = read(&world, &config, 1, &mut other, 0);
     world.join(&mut root, holder);
     world.join(&mut root, other);
-    let Ok(closed) = world.close(alloc, root) else {
-        return Err("no memory for the merged history".into());
-    };
-    assert!(rt; (held, done, later) == (Told::Held, Told::Done, Told::Done));
-    assert!(rt; closed.merged.len() == 2);
+    match world.close(alloc, root) {
+        Ok(closed) => Ok((first, second, later, closed.merged.len())),
+        Err(_) => Err("no memory for the merged history".into()),
+    }
+}
+
+/// A pass that holds a unit keeps others out of that unit alone, until it gives the turn back.
+#[test]
+fn a_held_unit_keeps_others_out(rt: HostRuntime) -> Result<(), Fail> {
+    let found = held(&rt, rt.alloc())?;
+    assert_eq!(rt; found, (Told::Held, Told::Done, Told::Done, 2));
     Ok(())
 }
 
@@ -245,37 +250,55 @@ fn stores_of(
     Ok(stores)
 }
 
-/// Each copy that was open is ended: the ends are kept, and what was recorded is not.
-#[test]
-fn a_world_goes_on_with_histories(rt: HostRuntime) -> Result<(), Fail> {
-    let alloc = rt.alloc();
+/// The entries of a closed world, and of each unit how many older ones there are and how many in all.
+#[derive(Drop)]
+struct Resumed {
+    order: Vec<(u16, u64)>,
+    units: Vec<(u64, u64)>,
+}
+
+/// What a world has that goes on with the histories of two nexuses.
+fn go_on(alloc: Global, first: u32, second: u32) -> Result<Resumed, Fail> {
     let config = machine(alloc)?;
-    let stores = stores_of(alloc, &config, 7, 8)?;
+    let stores = stores_of(alloc, &config, first, second)?;
     let Ok((world, root)) = World::resume(alloc, &config, stores) else {
         return Err("the histories were refused".into());
     };
     let Ok(closed) = world.close(alloc, root) else {
         return Err("no memory for the merged history".into());
     };
-    let order = order_of(alloc, &closed.merged)?;
-    let wanted = [(0, 2), (1, 2)];
-    assert_eq!(rt; order.as_slice(), wanted.as_slice());
+    let mut units = Vec::new(alloc);
     for unit in &closed.units {
-        assert!(rt; unit.folded == 1 && unit.count.steps == 2);
+        units.push((unit.folded, unit.count.steps))?;
     }
+    let order = order_of(alloc, &closed.merged)?;
+    Ok(Resumed { order, units })
+}
+
+/// Each copy that was open is ended: the ends are kept, and what was recorded is not.
+#[test]
+fn a_world_goes_on_with_histories(rt: HostRuntime) -> Result<(), Fail> {
+    let found = go_on(rt.alloc(), 7, 8)?;
+    assert_eq!(rt; found.order.as_slice(), [(0, 2), (1, 2)].as_slice());
+    assert_eq!(rt; found.units.as_slice(), [(1, 2), (1, 2)].as_slice());
     Ok(())
+}
+
+/// Why a world does not go on with the histories of two nexuses, if it does not, and how many stores come back.
+fn refused(alloc: Global, first: u32, second: u32) -> Result<Option<(ResumeRefused, usize)>, Fail> {
+    let config = machine(alloc)?;
+    let stores = stores_of(alloc, &config, first, second)?;
+    match World::resume(alloc, &config, stores) {
+        Ok(_) => Ok(None),
+        Err((stores, refused)) => Ok(Some((refused, stores.len()))),
+    }
 }
 
 /// A history that is bad is told with its unit and its entry, and the stores come back.
 #[test]
 fn a_bad_history_is_told(rt: HostRuntime) -> Result<(), Fail> {
-    let alloc = rt.alloc();
-    let config = machine(alloc)?;
-    let stores = stores_of(alloc, &config, 7, 4_294_967_039)?;
-    let Err((stores, refused)) = World::resume(alloc, &config, stores) else {
-        return Err("the bad history was taken".into());
-    };
-    assert!(rt; refused == ResumeRefused::BadHistory { unit: 1, entry: 0 });
-    assert!(rt; stores.len() == 2);
+    let bad = ResumeRefused::BadHistory { unit: 1, entry: 0 };
+    let found = refused(rt.alloc(), 7, 4_294_967_039)?;
+    assert_eq!(rt; found, Some((bad, 2)));
     Ok(())
 }

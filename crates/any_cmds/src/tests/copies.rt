@@ -1,4 +1,4 @@
-use super::script::{Came, End, GOOD, Seen, plays, tells};
+use super::script::{Came, End, GOOD, Seen, cut, plays, tells};
 use cm_base::{Bytes, Payload, set_u16, set_u32, set_u64};
 use scsi_cdb::{Cdb, encode};
 use scsi_sense::Sense;
@@ -41,7 +41,11 @@ fn copy_list(alloc: Global, usage: u8) -> Result<Payload, Fail> {
     Ok(Payload::from_vec(list.into_vec())?)
 }
 
-const COPY: Cdb = Cdb::ExtendedCopy { length: 136 };
+/// A copy by a list of this LIST ID USAGE does these things in turn, of which that came, and then the last.
+fn copies(alloc: Global, usage: u8, script: &[(Seen, Came)], last: Seen) -> Result<bool, Fail> {
+    let copy = encode(&Cdb::ExtendedCopy { length: 136 });
+    plays(alloc, copy, copy_list(alloc, usage)?, script, last)
+}
 
 const OPEN: Seen = Seen::Open { unit: 1, id: 3 };
 
@@ -97,8 +101,7 @@ fn two_segments_are_copied(rt: HostRuntime) -> Result<(), Fail> {
         (PUT_BACK, Came::Done),
         (close, Came::Done),
     ];
-    let out = copy_list(rt.alloc(), 0)?;
-    assert!(rt; plays(rt.alloc(), encode(&COPY), out, &script, GOOD)?);
+    assert!(rt; copies(rt.alloc(), 0, &script, GOOD)?);
     Ok(())
 }
 
@@ -112,8 +115,7 @@ fn a_copy_may_have_no_record(rt: HostRuntime) -> Result<(), Fail> {
         (CAPTURE_BACK, Came::Blocks { count: 2 }),
         (PUT_BACK, Came::Done),
     ];
-    let out = copy_list(rt.alloc(), 3)?;
-    assert!(rt; plays(rt.alloc(), encode(&COPY), out, &script, GOOD)?);
+    assert!(rt; copies(rt.alloc(), 3, &script, GOOD)?);
     Ok(())
 }
 
@@ -138,8 +140,7 @@ fn a_refused_put_ends_the_copy(rt: HostRuntime) -> Result<(), Fail> {
         (SECOND_PUT, Came::Refused(over_quota)),
         (close, Came::Done),
     ];
-    let out = copy_list(rt.alloc(), 0)?;
-    assert!(rt; plays(rt.alloc(), encode(&COPY), out, &script, aborted)?);
+    assert!(rt; copies(rt.alloc(), 0, &script, aborted)?);
     Ok(())
 }
 
@@ -159,11 +160,9 @@ fn a_reservation_ends_the_copy(rt: HostRuntime) -> Result<(), Fail> {
         (SECOND_PUT, Came::Conflict),
         (close, Came::Done),
     ];
-    let out = copy_list(rt.alloc(), 0)?;
-    assert!(rt; plays(rt.alloc(), encode(&COPY), out, &script, Seen::Conflict)?);
+    assert!(rt; copies(rt.alloc(), 0, &script, Seen::Conflict)?);
     let unrecorded = [(CAPTURE, Came::Conflict)];
-    let out = copy_list(rt.alloc(), 3)?;
-    assert!(rt; plays(rt.alloc(), encode(&COPY), out, &unrecorded, Seen::Conflict)?);
+    assert!(rt; copies(rt.alloc(), 3, &unrecorded, Seen::Conflict)?);
     Ok(())
 }
 
@@ -183,8 +182,7 @@ fn a_barred_capture_ends_the_copy(rt: HostRuntime) -> Result<(), Fail> {
         (CAPTURE_BACK, Came::Conflict),
         (close, Came::Done),
     ];
-    let out = copy_list(rt.alloc(), 0)?;
-    assert!(rt; plays(rt.alloc(), encode(&COPY), out, &script, Seen::Conflict)?);
+    assert!(rt; copies(rt.alloc(), 0, &script, Seen::Conflict)?);
     Ok(())
 }
 
@@ -201,12 +199,16 @@ fn a_record_is_closed_once(rt: HostRuntime) -> Result<(), Fail> {
         (CAPTURE, Came::NoMemory),
         (close, Came::Full),
     ];
-    let out = copy_list(rt.alloc(), 0)?;
-    assert!(rt; plays(rt.alloc(), encode(&COPY), out, &script, Seen::Busy)?);
+    assert!(rt; copies(rt.alloc(), 0, &script, Seen::Busy)?);
     let unopened = [(OPEN, Came::Full)];
-    let out = copy_list(rt.alloc(), 0)?;
-    assert!(rt; plays(rt.alloc(), encode(&COPY), out, &unopened, Seen::Full)?);
+    assert!(rt; copies(rt.alloc(), 0, &unopened, Seen::Full)?);
     Ok(())
+}
+
+/// A copy by an empty list is GOOD.
+fn copies_nothing(alloc: Global) -> Result<bool, Fail> {
+    let copy = encode(&Cdb::ExtendedCopy { length: 0 });
+    plays(alloc, copy, Payload::new(), &[], GOOD)
 }
 
 /// A list of LIST ID USAGE 01b is refused, and an empty one asks for nothing.
@@ -217,22 +219,24 @@ fn lists_are_judged(rt: HostRuntime) -> Result<(), Fail> {
         asc: 0x26,
         ascq: 0x00,
     };
-    let out = copy_list(rt.alloc(), 1)?;
-    assert!(rt; plays(rt.alloc(), encode(&COPY), out, &[], refused)?);
-    let empty = encode(&Cdb::ExtendedCopy { length: 0 });
-    assert!(rt; plays(rt.alloc(), empty, Payload::new(), &[], GOOD)?);
+    assert!(rt; copies(rt.alloc(), 1, &[], refused)?);
+    assert!(rt; copies_nothing(rt.alloc())?);
     Ok(())
+}
+
+/// The record of two segments is told up to this allocation length.
+fn tells_status(alloc: Global, length: u32) -> Result<bool, Fail> {
+    let cdb = encode(&Cdb::CopyStatus1 { id: 3, length });
+    let recall = (Seen::Recall { unit: 1, id: 3 }, Came::Copied);
+    let whole = b"\0\0\0\x08\x01\0\x02\0\0\x0b\xbc\0";
+    tells(alloc, cdb, recall, cut(whole, length))
 }
 
 /// A status is cut at the allocation length.
 #[test]
 fn a_status_is_told(rt: HostRuntime) -> Result<(), Fail> {
-    let whole: &[u8; 12] = b"\0\0\0\x08\x01\0\x02\0\0\x0b\xbc\0";
     for length in [0, 3, 11, 12, 1024] {
-        let cdb = encode(&Cdb::CopyStatus1 { id: 3, length });
-        let recall = (Seen::Recall { unit: 1, id: 3 }, Came::Copied);
-        let cut = whole.len().min(length as usize);
-        assert!(rt; tells(rt.alloc(), cdb, recall, &whole[..cut])?, "{length}");
+        assert!(rt; tells_status(rt.alloc(), length)?, "{length}");
     }
     Ok(())
 }

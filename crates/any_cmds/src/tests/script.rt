@@ -4,13 +4,13 @@ use cm_base::{Config, Holder, KeyList, Payload, UnitConfig, UnitList};
 use cm_frame::{Reply, Request};
 use cm_history::{Act, Answer, CopyEnd, CopyState, OpReport, OpState};
 use cmd_program::{Outcome, Step};
-use lba_ranges::{BlockList, Fill, Piece};
+use lba_ranges::{BlockList, Fill, MapRun, Piece, Range, RangeList, StatusList};
 use scsi_sense::Sense;
 use std::alloc::Global;
 use std::test::Fail;
 
 /// How a closed record says that its copy ended.
-#[derive(Debug, Drop, Clone, Copy, PartialEq, Eq)]
+#[derive(Drop, Clone, Copy, PartialEq, Eq)]
 pub(super) enum End {
     Running,
     Done,
@@ -19,7 +19,7 @@ pub(super) enum End {
 }
 
 /// What a command does.
-#[derive(Debug, Drop, Clone, Copy, PartialEq, Eq)]
+#[derive(Drop, Clone, Copy, PartialEq, Eq)]
 pub(super) enum Seen {
     Populate {
         id: u32,
@@ -88,6 +88,28 @@ pub(super) enum Seen {
     PrHolder {
         unit: u16,
     },
+    Read {
+        unit: u16,
+        lba: u64,
+        count: u32,
+    },
+    /// So many blocks, of which the first has these bytes or others.
+    Write {
+        unit: u16,
+        lba: u64,
+        blocks: u64,
+        of_block: bool,
+    },
+    /// So many ranges, of which this is the first.
+    Unmap {
+        unit: u16,
+        ranges: usize,
+        first: Option<(u64, u32)>,
+    },
+    MapStatus {
+        unit: u16,
+        lba: u64,
+    },
     OtherAct,
     Good {
         bytes: usize,
@@ -117,6 +139,10 @@ pub(super) enum Came {
     Report,
     /// So many blocks, of which only that behind the first 1024 is mapped.
     Blocks { count: u32 },
+    /// Two blocks, of which only the first is mapped.
+    HalfMapped,
+    /// Two mapped blocks from LBA 7 on, and 91 unmapped ones behind them.
+    Runs,
     /// The copy of two segments, 769,024 bytes, is done.
     Copied,
     /// Generation 1, and the key 1234h.
@@ -132,7 +158,7 @@ pub(super) enum Came {
 }
 
 /// The bytes of a block.
-const BLOCK: [u8; 512] = [0x5a; 512];
+pub(super) const BLOCK: [u8; 512] = [0x5a; 512];
 
 /// Two units of 4096 blocks of 512 bytes.
 fn two_units(alloc: Global) -> Result<Config, Fail> {
@@ -168,6 +194,35 @@ fn blocks(alloc: Global, first: u32, count: u32) -> Result<BlockList, Fail> {
     Ok(list)
 }
 
+/// Two blocks of 512 bytes, of which the second is unmapped.
+fn half_mapped(alloc: Global) -> Result<BlockList, Fail> {
+    let mut list = BlockList::empty(alloc, 512);
+    list.push(Piece {
+        count: 1,
+        fill: Fill::Bytes(Payload::from_static(&BLOCK)),
+    })?;
+    list.push(Piece {
+        count: 1,
+        fill: Fill::Hole,
+    })?;
+    Ok(list)
+}
+
+/// Two mapped blocks from LBA 7 on, and 91 unmapped ones behind them.
+fn runs(alloc: Global) -> Result<StatusList, Fail> {
+    let mapped = MapRun {
+        lba: 7,
+        count: 2,
+        mapped: true,
+    };
+    let unmapped = MapRun {
+        lba: 9,
+        count: 91,
+        mapped: false,
+    };
+    Ok(StatusList::copy(alloc, &[mapped, unmapped])?)
+}
+
 fn outcome_of(alloc: Global, came: Came) -> Result<Outcome, Fail> {
     let answer = match came {
         Came::Done => Answer::Done,
@@ -182,6 +237,8 @@ fn outcome_of(alloc: Global, came: Came) -> Result<Outcome, Fail> {
             serial: Some(5),
         }),
         Came::Blocks { count } => Answer::Blocks(blocks(alloc, 1024, count)?),
+        Came::HalfMapped => Answer::Blocks(half_mapped(alloc)?),
+        Came::Runs => Answer::Status(runs(alloc)?),
         Came::Copied => Answer::Copy(CopyEnd {
             state: CopyState::Done,
             segments: 2,
@@ -219,7 +276,40 @@ fn end_of(state: CopyState) -> End {
     }
 }
 
-/// What a command with tokens asks for.
+/// The first of the ranges.
+fn first_of(ranges: &RangeList) -> Option<(u64, u32)> {
+    if ranges.len() == 0 {
+        return None;
+    }
+    let Range { lba, count } = ranges.at(0);
+    Some((lba, count))
+}
+
+/// What a command of a single act asks for.
+fn seen_plain_act(unit: u16, act: &Act) -> Seen {
+    match act {
+        Act::Read { lba, count } => Seen::Read {
+            unit,
+            lba: *lba,
+            count: *count,
+        },
+        Act::Write { lba, list } => Seen::Write {
+            unit,
+            lba: *lba,
+            blocks: list.blocks(),
+            of_block: list.held(0) == Some(BLOCK.as_slice()),
+        },
+        Act::Unmap { ranges } => Seen::Unmap {
+            unit,
+            ranges: ranges.len(),
+            first: first_of(ranges),
+        },
+        Act::MapStatus { lba } => Seen::MapStatus { unit, lba: *lba },
+        _ => Seen::OtherAct,
+    }
+}
+
+/// What a command with tokens asks for, and else what a command of a single act does.
 fn seen_token_act(unit: u16, act: &Act) -> Seen {
     match act {
         Act::Populate {
@@ -252,7 +342,7 @@ fn seen_token_act(unit: u16, act: &Act) -> Seen {
         },
         Act::Abort { id } => Seen::Abort { id: *id },
         Act::Report { id } => Seen::Report { id: *id },
-        _ => Seen::OtherAct,
+        other => seen_plain_act(unit, other),
     }
 }
 
@@ -324,21 +414,66 @@ fn seen_of(step: &Step) -> Seen {
     }
 }
 
-/// The steps of a command of unit 1, of whose acts that came, and its step behind them.
+/// The steps of a command, of whose acts that came, and its step behind them.
 fn played(
     alloc: Global,
-    cdb: [u8; 16],
-    out: Payload,
+    config: &Config,
+    request: Request,
     script: &[(Seen, Came)],
 ) -> Result<Vec<Step>, Fail> {
-    let config = two_units(alloc)?;
-    let request = Request { unit: 1, cdb, out };
     let mut outcomes = Vec::new(alloc);
     for row in script {
-        let (_, came) = *row;
-        outcomes.push(outcome_of(alloc, came)?)?;
+        outcomes.push(outcome_of(alloc, row.1)?)?;
     }
-    steps(alloc, &config, request, outcomes)
+    steps(alloc, config, request, outcomes)
+}
+
+/// The steps are those of the script, and then the last.
+fn are_played(steps: &[Step], script: &[(Seen, Came)], last: Seen) -> bool {
+    for (place, step) in steps.iter().enumerate() {
+        let wanted = match script.get(place) {
+            Some(row) => row.0,
+            None => last,
+        };
+        if seen_of(step) != wanted {
+            return false;
+        }
+    }
+    true
+}
+
+/// The step is GOOD with these bytes.
+fn is_good(step: &Step, bytes: &[u8]) -> bool {
+    match step {
+        Step::Done(Reply::Good(data)) => data.as_slice() == bytes,
+        _ => false,
+    }
+}
+
+/// A command does these things in turn, of which that came, and then the last.
+pub(super) fn does(
+    alloc: Global,
+    config: &Config,
+    request: Request,
+    script: &[(Seen, Came)],
+    last: Seen,
+) -> Result<bool, Fail> {
+    let steps = played(alloc, config, request, script)?;
+    Ok(are_played(steps.as_slice(), script, last))
+}
+
+/// A command does these things in turn, of which that came, and is then GOOD with these bytes.
+pub(super) fn answers(
+    alloc: Global,
+    config: &Config,
+    request: Request,
+    script: &[(Seen, Came)],
+    bytes: &[u8],
+) -> Result<bool, Fail> {
+    let steps = played(alloc, config, request, script)?;
+    let last = Seen::Good { bytes: bytes.len() };
+    let is_told = matches!(steps.last(), Some(step) if is_good(step, bytes));
+    Ok(is_told && are_played(steps.as_slice(), script, last))
 }
 
 /// A command of unit 1 does these things in turn, of which that came, and then the last.
@@ -349,17 +484,8 @@ pub(super) fn plays(
     script: &[(Seen, Came)],
     last: Seen,
 ) -> Result<bool, Fail> {
-    let steps = played(alloc, cdb, out, script)?;
-    for (place, step) in steps.iter().enumerate() {
-        let wanted = match script.get(place) {
-            Some(row) => row.0,
-            None => last,
-        };
-        if seen_of(step) != wanted {
-            return Ok(false);
-        }
-    }
-    Ok(true)
+    let config = two_units(alloc)?;
+    does(alloc, &config, Request { unit: 1, cdb, out }, script, last)
 }
 
 /// A command of unit 1 asks this, of which that came, and then it is GOOD with these bytes.
@@ -369,11 +495,18 @@ pub(super) fn tells(
     asked: (Seen, Came),
     bytes: &[u8],
 ) -> Result<bool, Fail> {
-    let steps = played(alloc, cdb, Payload::new(), &[asked])?;
-    Ok(match steps.as_slice() {
-        [first, Step::Done(Reply::Good(data))] => {
-            seen_of(first) == asked.0 && data.as_slice() == bytes
-        }
-        _ => false,
-    })
+    let config = two_units(alloc)?;
+    let out = Payload::new();
+    answers(
+        alloc,
+        &config,
+        Request { unit: 1, cdb, out },
+        &[asked],
+        bytes,
+    )
+}
+
+/// The bytes, cut at the allocation length.
+pub(super) fn cut(bytes: &[u8], length: u32) -> &[u8] {
+    &bytes[..bytes.len().min(length as usize)]
 }

@@ -1,21 +1,15 @@
-// What is asked of a unit in the tests, and what it is answered in short.
-ghost use Rattle.std.specs.Prelude.{◌≡◌, ◌<◌, ◌≤◌, ◌^◌, length, IfOk, true};
-ghost use Rattle.cm_history.specs.declared.act.Act.{Act};
+// What a unit answers in the tests, in short.
+ghost use Rattle.std.specs.Prelude.{◌≡◌, ℕ, length, true};
 ghost use Rattle.cm_history.specs.declared.act.Actor.{Actor};
 ghost use Rattle.cm_history.specs.Legal.{may_ask};
 
-use cm_base::{Config, Payload, UnitConfig, UnitList};
-use cm_history::{
-    Act, ActRefused, Actor, Answer, CopyEnd, CopyState, OpState, RodBlocks, TokenText,
-    within_limits,
-};
-use lba_ranges::{BlockList, Range, RangeList};
-use recorder::MemoryRecorder;
-use std::alloc::Global;
-use std::test::Fail;
+use cm_base::Config;
+use cm_history::{Act, ActRefused, Actor, Answer, CopyEnd, CopyState, OpState, within_limits};
+use lba_ranges::BlockList;
+use recorder::{MemoryRecorder, NoRecorder};
 use unit_core::{FoldEnd, Unit};
 
-/// What an act was answered, in short.
+/// What an act was answered, or what is seen of the unit, in short.
 #[derive(Clone, Copy, PartialEq)]
 pub(crate) enum Told {
     PastLimits,
@@ -40,6 +34,12 @@ pub(crate) enum Told {
     Holder(u32, Option<(u64, u8)>),
     Idle,
     Other,
+    /// How a fold ended, how many entries are kept, and how many were dropped.
+    Folded(FoldEnd, u64, u64),
+    Count(u64),
+    Runs(bool),
+    /// The number of the nexus, whether it is a copy, and its identifier.
+    Unended(Option<(u32, bool, u32)>),
 }
 
 /// The byte that a block begins with, and 0 where it is unmapped.
@@ -90,34 +90,8 @@ fn in_short(told: Result<Answer, ActRefused>) -> Told {
     }
 }
 
-/// A machine of one unit of 4096 blocks of 512 bytes.
-pub(crate) fn machine(alloc: Global, entries: u32, quota: u64, payload: u32) -> Result<Config, Fail>
-    requires entries { (1 ≤ entries) × (entries ≤ 1024) }
-    requires quota { quota ≤ 4096 }
-    requires payload { (1 ≤ payload) × (payload ≤ 4_194_304) }
-    ensures { IfOk result (λ config. length config.units ≡ 1) }
-{
-    let mut units = UnitList::empty(alloc);
-    units.push(UnitConfig {
-        blocks: 4096,
-        block_length: 512,
-        entries,
-        quota,
-        payload,
-        group: 0,
-    })?;
-    Ok(Config::new([0; 32], units))
-}
-
-/// A machine of one unit with ample room.
-pub(crate) fn ample(alloc: Global) -> Result<Config, Fail>
-    ensures { IfOk result (λ config. length config.units ≡ 1) }
-{
-    machine(alloc, 1024, 4096, 4_194_304)
-}
-
 /// An act of a nexus at a moment.
-pub(crate) fn ask_as(config: &Config, unit: &mut Unit, nexus: u32, moment: u64, act: Act) -> Told
+pub(crate) fn ask(config: &Config, unit: &mut Unit, nexus: u32, moment: u64, act: Act) -> Told
     requires config { unit.old.config ≡ config.now }
     requires unit { unit.old.unit ≡ 0 }
     requires one { length config.now.units ≡ 1 }
@@ -131,18 +105,6 @@ pub(crate) fn ask_as(config: &Config, unit: &mut Unit, nexus: u32, moment: u64, 
     in_short(unit.act(Actor::Nexus(nexus), 0, 0, moment, act))
 }
 
-/// An act of nexus 1 at a moment.
-pub(crate) fn ask(config: &Config, unit: &mut Unit, moment: u64, act: Act) -> Told
-    requires config { unit.old.config ≡ config.now }
-    requires unit { unit.old.unit ≡ 0 }
-    requires one { length config.now.units ≡ 1 }
-    requires asked { may_ask 0 (Actor.Nexus 1) act ≡ true }
-    ensures config { unit.new.config ≡ unit.old.config }
-    ensures unit { unit.new.unit ≡ unit.old.unit }
-{
-    ask_as(config, unit, 1, moment, act)
-}
-
 /// The pump's act.
 pub(crate) fn pump(unit: &mut Unit) -> Told
     requires unit { unit.old.unit ≡ 0 }
@@ -150,158 +112,6 @@ pub(crate) fn pump(unit: &mut Unit) -> Told
     ensures unit { unit.new.unit ≡ unit.old.unit }
 {
     in_short(unit.act(Actor::Pump(0), 0, 0, 0, Act::Pump))
-}
-
-/// Blocks of one byte.
-pub(crate) fn blocks(alloc: Global, byte: u8, count: u32) -> Result<BlockList, Fail>
-    requires { count ≤ 2048 }
-{
-    let bytes = vec![in alloc; byte; count as usize * 512]?;
-    Ok(BlockList::from_payload(alloc, 512, count, Payload::from_vec(bytes)?)?)
-}
-
-/// A row of blocks.
-pub(crate) fn row(alloc: Global, lba: u64, count: u32) -> Result<RangeList, Fail> {
-    let mut ranges = RangeList::empty(alloc);
-    ranges.push(Range { lba, count })?;
-    Ok(ranges)
-}
-
-/// Writes blocks of one byte.
-pub(crate) fn write(
-    alloc: Global,
-    config: &Config,
-    unit: &mut Unit,
-    byte: u8,
-    lba: u64,
-    count: u32,
-) -> Result<Told, Fail>
-    requires config { unit.old.config ≡ config.now }
-    requires unit { unit.old.unit ≡ 0 }
-    requires one { length config.now.units ≡ 1 }
-    requires few { count ≤ 2048 }
-    ensures config { unit.new.config ≡ unit.old.config }
-    ensures unit { unit.new.unit ≡ unit.old.unit }
-{
-    let list = blocks(alloc, byte, count)?;
-    Ok(ask(config, unit, 0, Act::Write { lba, list }))
-}
-
-/// Reads two blocks.
-pub(crate) fn read(config: &Config, unit: &mut Unit, lba: u64) -> Told
-    requires config { unit.old.config ≡ config.now }
-    requires unit { unit.old.unit ≡ 0 }
-    requires one { length config.now.units ≡ 1 }
-    ensures config { unit.new.config ≡ unit.old.config }
-    ensures unit { unit.new.unit ≡ unit.old.unit }
-{
-    ask(config, unit, 0, Act::Read { lba, count: 2 })
-}
-
-/// Freezes one block as a token, by the identifier of the block's number.
-pub(crate) fn populate(
-    alloc: Global,
-    config: &Config,
-    unit: &mut Unit,
-    moment: u64,
-    timeout: u32,
-    block: u32,
-) -> Result<Told, Fail>
-    requires config { unit.old.config ≡ config.now }
-    requires unit { unit.old.unit ≡ 0 }
-    requires one { length config.now.units ≡ 1 }
-    ensures config { unit.new.config ≡ unit.old.config }
-    ensures unit { unit.new.unit ≡ unit.old.unit }
-{
-    let ranges = row(alloc, u64::from(block), 1)?;
-    let act = Act::Populate {
-        id: block,
-        timeout,
-        ranges,
-    };
-    Ok(ask(config, unit, moment, act))
-}
-
-/// Tokens of the first blocks, each made a second after the one before, from 100 on.
-pub(crate) fn fill(alloc: Global, config: &Config, unit: &mut Unit, count: u32) -> Result<(), Fail>
-    requires config { unit.old.config ≡ config.now }
-    requires unit { unit.old.unit ≡ 0 }
-    requires one { length config.now.units ≡ 1 }
-    ensures config { unit.new.config ≡ unit.old.config }
-    ensures unit { unit.new.unit ≡ unit.old.unit }
-{
-    for block in 0..count {
-        populate(alloc, config, unit, 100 + u64::from(block), 300, block)?;
-    }
-    Ok(())
-}
-
-/// Redeems a token of one block.
-pub(crate) fn redeem(
-    alloc: Global,
-    config: &Config,
-    unit: &mut Unit,
-    moment: u64,
-    serial: u64,
-) -> Result<Told, Fail>
-    requires config { unit.old.config ≡ config.now }
-    requires unit { unit.old.unit ≡ 0 }
-    requires one { length config.now.units ≡ 1 }
-    requires serial { serial < 2 ^ 48 }
-    ensures config { unit.new.config ≡ unit.old.config }
-    ensures unit { unit.new.unit ≡ unit.old.unit }
-{
-    let text = TokenText::new(alloc, &rod_token::text(config, 0, serial, 1))?;
-    let act = Act::Redeem { text, target: 0 };
-    Ok(ask(config, unit, moment, act))
-}
-
-/// Begins to write so many blocks of 33h to the first blocks, by the identifier 2.
-pub(crate) fn start(
-    alloc: Global,
-    config: &Config,
-    unit: &mut Unit,
-    background: bool,
-    count: u32,
-) -> Result<Told, Fail>
-    requires config { unit.old.config ≡ config.now }
-    requires unit { unit.old.unit ≡ 0 }
-    requires one { length config.now.units ≡ 1 }
-    requires few { count ≤ 2048 }
-    ensures config { unit.new.config ≡ unit.old.config }
-    ensures unit { unit.new.unit ≡ unit.old.unit }
-{
-    let ranges = row(alloc, 0, count)?;
-    let rod = RodBlocks::new(alloc, blocks(alloc, 0x33, count)?)?;
-    let act = Act::Start {
-        id: 2,
-        background,
-        ranges,
-        rod,
-    };
-    Ok(ask(config, unit, 0, act))
-}
-
-/// Writes the next piece of the operation 2.
-pub(crate) fn advance(config: &Config, unit: &mut Unit) -> Told
-    requires config { unit.old.config ≡ config.now }
-    requires unit { unit.old.unit ≡ 0 }
-    requires one { length config.now.units ≡ 1 }
-    ensures config { unit.new.config ≡ unit.old.config }
-    ensures unit { unit.new.unit ≡ unit.old.unit }
-{
-    ask(config, unit, 0, Act::Advance { id: 2 })
-}
-
-/// How far the operation has come.
-pub(crate) fn report(config: &Config, unit: &mut Unit, id: u32) -> Told
-    requires config { unit.old.config ≡ config.now }
-    requires unit { unit.old.unit ≡ 0 }
-    requires one { length config.now.units ≡ 1 }
-    ensures config { unit.new.config ≡ unit.old.config }
-    ensures unit { unit.new.unit ≡ unit.old.unit }
-{
-    ask(config, unit, 0, Act::Report { id })
 }
 
 /// Ends the operation 2, where it runs.
@@ -348,11 +158,25 @@ pub(crate) fn close_copy(unit: &mut Unit) -> Told
     answered(unit.close_copy(actor, 0, 0, 0, 3, result))
 }
 
-/// Records the kept entries: how that ended, how many are kept, and how many were dropped.
-pub(crate) fn fold(unit: &mut Unit, recorder: &mut MemoryRecorder) -> (FoldEnd, u64, u64)
+/// Records the kept entries.
+pub(crate) fn fold(unit: &mut Unit, recorder: &mut MemoryRecorder) -> Told
     ensures config { unit.new.config ≡ unit.old.config }
     ensures unit { unit.new.unit ≡ unit.old.unit }
 {
     let end = unit.fold(recorder);
-    (end, unit.kept(), unit.folded())
+    Told::Folded(end, unit.kept(), unit.folded())
+}
+
+/// Records them where there is no recorder.
+pub(crate) fn fold_nowhere(unit: &mut Unit) -> Told
+    ensures config { unit.new.config ≡ unit.old.config }
+    ensures unit { unit.new.unit ≡ unit.old.unit }
+{
+    let end = unit.fold(&mut NoRecorder);
+    Told::Folded(end, unit.kept(), unit.folded())
+}
+
+/// The operation of an initiator that has not ended.
+pub(crate) fn unended(unit: &Unit) -> Told {
+    Told::Unended(unit.unended().map(|key| (key.actor, key.copy, key.id)))
 }

@@ -1,0 +1,10 @@
+use Rattle.std.proofs.Common.{◌≡◌, false}
+use Rattle.gate_tests.proofs.tests.are_answered.Given as goal
+
+abbrev pub invariant-loop-step : goal.invariant-loop-step
+invariant-loop-step l = record {
+  gate : l.seat.gate ≡ l.initial.seat.gate;
+  idle : l.seat.holds ≡ false;
+  first : l.seat.first ≡ l.initial.seat.first;
+  out : l.seat.out ≡ l.initial.seat.out;
+}
