@@ -4,8 +4,6 @@
 mod lists;
 mod ranges;
 mod reading;
-#[cfg(test)]
-mod tests;
 mod writing;
 
 pub use lists::{PopulateList, WriteList};

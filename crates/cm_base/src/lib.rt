@@ -50,8 +50,3 @@ pub use word::Word;
 
 /// Bytes that are shared and never change: cloning and slicing copy none of them.
 pub use bytes::Bytes as Payload;
-
-#[cfg(test)]
-mod link_tests;
-#[cfg(test)]
-mod tests;

@@ -23,8 +23,3 @@ pub use laws::{none_begins_law, one_spelling_law, read_back_law, stays_judged_la
 pub use memory::Memory;
 pub use reply::{read_reply, reply_head, write_reply};
 pub use request::{DATA_LIMIT, read_request, write_request};
-
-#[cfg(test)]
-mod framing_tests;
-#[cfg(test)]
-mod tests;

@@ -12,6 +12,3 @@ pub use job::{Job, Work, WriteJob};
 pub use key::Key;
 pub use piece::NextPiece;
 pub use table::JobTable;
-
-#[cfg(test)]
-mod tests;

@@ -9,8 +9,6 @@ mod job;
 mod laws;
 mod planning;
 mod reading;
-#[cfg(test)]
-mod tests;
 mod writing;
 
 pub use cursor::ExtentCursor;

@@ -18,6 +18,3 @@ pub use log::Log;
 pub use memory::{Call, MemoryDisk};
 pub use opening::OpenFault;
 pub use writing::{write_all_at, write_synced};
-
-#[cfg(test)]
-mod tests;

@@ -3,8 +3,6 @@
 
 mod map;
 mod runs;
-#[cfg(test)]
-mod tests;
 mod unit;
 mod walk;
 

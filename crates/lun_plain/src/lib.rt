@@ -2,8 +2,6 @@
 #![tactic(auto)]
 
 mod map;
-#[cfg(test)]
-mod tests;
 mod unit;
 
 pub use unit::PlainUnit;

@@ -6,8 +6,6 @@ mod pinned;
 mod plan;
 mod segment;
 mod segment_map;
-#[cfg(test)]
-mod tests;
 mod unit;
 
 pub use unit::{Pin, VersionUnit};

@@ -8,6 +8,3 @@ mod walks;
 
 pub use kept::{Kept, TokenState};
 pub use store::{Populated, RodStore};
-
-#[cfg(test)]
-mod tests;

@@ -4,8 +4,6 @@
 mod descriptors;
 mod list;
 mod reading;
-#[cfg(test)]
-mod tests;
 mod writing;
 
 pub use list::{CopyList, Cscd, CscdList, Segment, SegmentList};

@@ -1,0 +1,11 @@
+mod buffers;
+mod commands;
+mod frames;
+mod framing;
+mod inquiries;
+mod jobs;
+mod links;
+mod parameters;
+mod segments;
+mod statuses;
+mod tokens;

@@ -1,0 +1,77 @@
+// The data of INQUIRY, READ CAPACITY, REPORT LUNS and RECEIVE COPY OPERATING PARAMETERS.
+ghost use Rattle.cm_base.specs.Configuration.{IsUnit};
+
+use cm_base::{Config, OutOfMemory, Sequence, UnitConfig};
+use scsi_inquiry::{copy_parameters, read_capacity10, read_capacity16, report_luns, standard, vpd};
+use std::alloc::Global;
+
+/// The largest unit.
+fn largest() -> UnitConfig
+    ensures { IsUnit result }
+{
+    UnitConfig {
+        blocks: 4_294_967_296,
+        block_length: 4096,
+        entries: 1,
+        quota: 0,
+        payload: 1,
+        group: 0,
+    }
+}
+
+/// Each page of INQUIRY by SPC-4 and SBC-3.
+#[test]
+fn pages_of_the_standards(rt: HostRuntime) -> Result<(), OutOfMemory> {
+    let alloc = rt.alloc();
+    assert_eq!(rt;
+        standard().as_slice(),
+        b"\0\0\x06\x02\x1f\x08\0\0COPYMGR ROD TOKEN UNIT  0001".as_slice()
+    );
+    let pages: [(u8, &[u8]); 5] = [
+        (0x00, b"\0\x00\0\x05\x00\x83\x8f\xb0\xb2"),
+        (0x83, b"\0\x83\0\x0c\x01\x03\0\x08\x30\0\0\0\0\0\x01\x02"),
+        (
+            0x8f,
+            b"\0\x8f\0\x24\0\0\0\x20\0\0\0\0\0\0\0\x40\0\0\x0e\x10\0\0\x01\x2c\0\0\0\0\0\x10\0\0\0\0\0\0\0\x10\0\0",
+        ),
+        (
+            0xb0,
+            b"\0\xb0\0\x3c\0\0\0\0\0\0\x08\0\0\0\0\0\0\0\0\0\xff\xff\xff\xff\0\0\0\x40\0\0\0\0\0\0\0\0\0\0\0\0\0\0\0\0\0\0\0\0\0\0\0\0\0\0\0\0\0\0\0\0\0\0\0\0",
+        ),
+        (0xb2, b"\0\xb2\0\x04\0\x84\x02\0"),
+    ];
+    for (page, wanted) in pages {
+        match vpd(alloc, 0x0102, page)? {
+            Some(bytes) => assert_eq!(rt; bytes.as_slice(), wanted),
+            None => assert!(rt; false),
+        }
+    }
+    assert!(rt; vpd(alloc, 0, 0x80)?.is_none());
+    Ok(())
+}
+
+/// The data of a machine of one unit.
+#[test]
+fn data_of_one_unit(rt: HostRuntime) -> Result<(), OutOfMemory> {
+    let alloc = rt.alloc();
+    let config = Config::new([0; 32], Sequence::from_vec(vec![in alloc; largest()]?));
+    assert_eq!(rt; read_capacity10(&config, 0), *b"\xff\xff\xff\xff\0\0\x10\0");
+    let capacity = read_capacity16(&config, 0);
+    assert_eq!(rt;
+        capacity[..16],
+        b"\0\0\0\0\xff\xff\xff\xff\0\0\x10\0\0\0\xc0\0"[..]
+    );
+    assert_eq!(rt;
+        report_luns(alloc, &config)?.as_slice(),
+        b"\0\0\0\x08\0\0\0\0\0\0\0\0\0\0\0\0".as_slice()
+    );
+    Ok(())
+}
+
+/// RECEIVE COPY OPERATING PARAMETERS by SPC-4.
+#[test]
+fn copy_parameters_of_the_standard(rt: HostRuntime) {
+    let wanted =
+        b"\0\0\0\x2a\x01\0\0\0\0\x10\0\x40\0\0\x09\0\x0f\xff\xf0\0\0\0\0\0\0\0\0\0\0\0\0\0\0\0\0\x40\x40\x09\0\0\0\0\0\x02\x02\xe4";
+    assert_eq!(rt; copy_parameters().as_slice(), wanted.as_slice());
+}

@@ -1,0 +1,243 @@
+// Jobs of a host copier, and their plans.
+use cm_base::{Bytes, Parsed};
+use copy_plan::{CutList, ExtentCursor, ExtentList, Job, JobFault, plan, read_job, write_job};
+use lba_ranges::Range;
+use std::alloc::Global;
+use std::test::Fail;
+
+/// So many extents of so many blocks each, with a block between any two.
+fn spaced(alloc: Global, extents: u32, count: u32) -> Result<ExtentList, Fail> {
+    let mut list = ExtentList::empty(alloc);
+    for index in 0..extents {
+        let lba = u64::from(index) * (u64::from(count) + 1);
+        list.push(Range { lba, count })?;
+    }
+    Ok(list)
+}
+
+/// The extents of some pairs of a first block and a number of blocks.
+fn list_of(alloc: Global, extents: &[(u64, u32)]) -> Result<ExtentList, Fail> {
+    let mut list = ExtentList::empty(alloc);
+    for &(lba, count) in extents {
+        list.push(Range { lba, count })?;
+    }
+    Ok(list)
+}
+
+/// The job that copies some extents to the same blocks of another unit.
+fn job_of(alloc: Global, extents: ExtentList) -> Result<Job, Fail> {
+    let to = ExtentList::copy(alloc, extents.as_slice())?;
+    match Job::new(alloc, 0, 1, 7, extents, to) {
+        Ok(job) => Ok(job),
+        Err(_) => Err(Fail::from("no job")),
+    }
+}
+
+/// The ends of the parts of such a copy.
+fn ends_of(alloc: Global, extents: ExtentList) -> Result<CutList, Fail> {
+    let job = job_of(alloc, extents)?;
+    Ok(plan(alloc, &job)?)
+}
+
+#[test]
+fn plans_have_the_fewest_parts(rt: HostRuntime) -> Result<(), Fail> {
+    let alloc = rt.alloc();
+    for (extents, count, parts) in [
+        (65, 1, 2),
+        (1, 1_048_577, 2),
+        (64, 16_384, 1),
+        (0, 1, 0),
+        (65_536, 1, 1_024),
+        (1, u32::MAX, 4_096),
+    ] {
+        let ends = ends_of(alloc, spaced(alloc, extents, count)?)?;
+        assert!(rt; ends.len() == parts);
+    }
+    Ok(())
+}
+
+#[test]
+fn parts_end_where_64_extents_or_a_token_end(rt: HostRuntime) -> Result<(), Fail> {
+    let alloc = rt.alloc();
+    let mut extents = spaced(alloc, 64, 1)?;
+    extents.push(Range {
+        lba: 1_000,
+        count: 2_000_000,
+    })?;
+    extents.push(Range {
+        lba: 500,
+        count: 100,
+    })?;
+    let ends = ends_of(alloc, extents)?;
+    assert!(rt; ends.as_slice() == [64, 1_048_640, 2_000_164].as_slice());
+    Ok(())
+}
+
+/// The first block, the ranges and the blocks of the next run, and the place behind it.
+fn next_run(
+    alloc: Global,
+    cursor: &mut ExtentCursor,
+    most: u64,
+) -> Result<(u64, usize, u64, u64), Fail> {
+    let ranges = cursor.next_ranges(alloc, most)?;
+    let first = if ranges.len() > 0 {
+        ranges.at(0).lba
+    } else {
+        0
+    };
+    Ok((first, ranges.len(), ranges.total(), cursor.place()))
+}
+
+#[test]
+fn runs_have_64_ranges_or_as_many_blocks_as_asked(rt: HostRuntime) -> Result<(), Fail> {
+    let alloc = rt.alloc();
+    let job = job_of(alloc, spaced(alloc, 130, 3)?)?;
+    let mut cursor = ExtentCursor::new(job.from());
+    assert!(rt; next_run(alloc, &mut cursor, 1_000)? == (0, 64, 192, 192));
+    assert!(rt; next_run(alloc, &mut cursor, 2)? == (256, 1, 2, 194));
+    assert!(rt; next_run(alloc, &mut cursor, 0)? == (0, 0, 0, 194));
+    assert!(rt; next_run(alloc, &mut cursor, 1_000)? == (258, 64, 190, 384));
+    assert!(rt; cursor.pass(5) == 5 && cursor.pass(5) == 1 && cursor.pass(5) == 0);
+    Ok(())
+}
+
+/// How a job is read: its bytes, or the place of its fault.
+#[derive(Debug, Clone, Copy, PartialEq, Eq)]
+enum Ending {
+    Whole(usize),
+    Short,
+    Bad(u64),
+}
+
+fn ending_of(alloc: Global, bytes: &[u8]) -> Result<Ending, Fail> {
+    Ok(match read_job(alloc, bytes)? {
+        Parsed::Whole { used, .. } => Ending::Whole(used),
+        Parsed::Short => Ending::Short,
+        Parsed::Bad { place } => Ending::Bad(place),
+    })
+}
+
+/// The bytes of a job whose numbers of extents are told as they are.
+fn spelled(
+    alloc: Global,
+    polls: u32,
+    from: &[(u64, u32)],
+    to: &[(u64, u32)],
+) -> Result<Bytes, Fail> {
+    let mut bytes = Bytes::empty(alloc);
+    bytes.extend(&[0, 2, 0, 3])?;
+    bytes.extend(&polls.to_be_bytes())?;
+    bytes.extend(&(from.len() as u64).to_be_bytes()[4..])?;
+    bytes.extend(&(to.len() as u64).to_be_bytes()[4..])?;
+    for &(lba, count) in from.iter().chain(to) {
+        bytes.extend(&lba.to_be_bytes())?;
+        bytes.extend(&count.to_be_bytes())?;
+    }
+    Ok(bytes)
+}
+
+/// How a job of these extents is read.
+fn read(alloc: Global, from: &[(u64, u32)], to: &[(u64, u32)]) -> Result<Ending, Fail> {
+    ending_of(alloc, spelled(alloc, 5, from, to)?.as_slice())
+}
+
+#[test]
+fn a_front_is_judged_when_it_is_whole(rt: HostRuntime) -> Result<(), Fail> {
+    let alloc = rt.alloc();
+    let front = [0, 0, 0, 1, 0, 0, 0, 1, 0, 0, 0, 0, 0, 0, 0, 0];
+    assert!(rt; ending_of(alloc, &front)? == Ending::Whole(16));
+    assert!(rt; ending_of(alloc, &front[..15])? == Ending::Short);
+    let idle = [0, 0, 0, 1, 0, 0, 0, 0, 0, 1, 0, 1, 0, 1, 0, 1];
+    assert!(rt; ending_of(alloc, &idle)? == Ending::Bad(4));
+    assert!(rt; ending_of(alloc, &idle[..15])? == Ending::Short);
+    let sources = [0, 0, 0, 1, 0, 0, 0, 1, 0, 1, 0, 1, 0, 1, 0, 1];
+    assert!(rt; ending_of(alloc, &sources)? == Ending::Bad(8));
+    let targets = [0, 0, 0, 1, 0, 0, 0, 1, 0, 1, 0, 0, 0, 1, 0, 1];
+    assert!(rt; ending_of(alloc, &targets)? == Ending::Bad(12));
+    let many = [0, 0, 0, 1, 0, 0, 0, 1, 0, 1, 0, 0, 0, 1, 0, 0];
+    assert!(rt; ending_of(alloc, &many)? == Ending::Short);
+    Ok(())
+}
+
+#[test]
+fn extents_are_judged_when_all_are_there(rt: HostRuntime) -> Result<(), Fail> {
+    let alloc = rt.alloc();
+    assert!(rt; read(alloc, &[(0, 8), (100, 8)], &[(50, 16)])? == Ending::Whole(52));
+    assert!(rt; read(alloc, &[(0, 8), (100, 0)], &[(50, 8)])? == Ending::Bad(28));
+    assert!(rt; read(alloc, &[(0, 8)], &[(50, 7), (u64::MAX, 1)])? == Ending::Whole(52));
+    assert!(rt; read(alloc, &[(0, 9)], &[(50, 7), (u64::MAX, 2)])? == Ending::Bad(40));
+    assert!(rt; read(alloc, &[(8, 8), (20, 2), (0, 9)], &[(50, 19)])? == Ending::Bad(0));
+    assert!(rt; read(alloc, &[(0, 19)], &[(50, 9), (58, 10)])? == Ending::Bad(0));
+    assert!(rt; read(alloc, &[(0, 8)], &[(50, 9)])? == Ending::Bad(0));
+    let mut bytes = spelled(alloc, 5, &[(0, 8), (100, 0)], &[(50, 8)])?;
+    let last = bytes.pop();
+    assert!(rt; last == Some(8) && ending_of(alloc, bytes.as_slice())? == Ending::Short);
+    Ok(())
+}
+
+#[test]
+fn a_job_has_at_most_as_many_blocks_as_a_unit(rt: HostRuntime) -> Result<(), Fail> {
+    let alloc = rt.alloc();
+    let half = 1 << 31;
+    let most = [(0, half), (1 << 40, half)];
+    assert!(rt; read(alloc, &most, &most)? == Ending::Whole(64));
+    let more = [(0, half), (1 << 40, half + 1)];
+    assert!(rt; read(alloc, &more, &more)? == Ending::Bad(0));
+    Ok(())
+}
+
+#[test]
+fn a_job_is_read_and_written(rt: HostRuntime) -> Result<(), Fail> {
+    let alloc = rt.alloc();
+    let bytes = spelled(alloc, 9, &[(0, 8), (100, 8)], &[(50, 16)])?;
+    let Parsed::Whole { value, .. } = read_job(alloc, bytes.as_slice())? else {
+        return Err(Fail::from("no job"));
+    };
+    assert!(rt; value.source() == 2 && value.target() == 3 && value.polls() == 9);
+    assert!(rt; value.from().len() == 2 && value.to().len() == 1 && value.blocks() == 16);
+    assert!(rt; write_job(alloc, &value)?.as_slice() == bytes.as_slice());
+    Ok(())
+}
+
+/// Why a job of these extents is none.
+fn fault_of(
+    alloc: Global,
+    polls: u32,
+    from: &[(u64, u32)],
+    to: &[(u64, u32)],
+) -> Result<Option<JobFault>, Fail> {
+    let from = list_of(alloc, from)?;
+    Ok(Job::new(alloc, 0, 1, polls, from, list_of(alloc, to)?).err())
+}
+
+#[test]
+fn a_job_is_refused_for_its_first_fault(rt: HostRuntime) -> Result<(), Fail> {
+    let alloc = rt.alloc();
+    assert!(rt; fault_of(alloc, 0, &[(0, 0)], &[])? == Some(JobFault::NoPolls));
+    let bad = Some(JobFault::BadExtent { index: 2 });
+    assert!(rt; fault_of(alloc, 1, &[(0, 9), (0, 9)], &[(u64::MAX, 2)])? == bad);
+    assert!(rt; fault_of(alloc, 1, &[(0, 9), (8, 9)], &[])? == Some(JobFault::SharedBlock));
+    assert!(rt; fault_of(alloc, 1, &[(0, 9)], &[(0, 8)])? == Some(JobFault::BadTotals));
+    assert!(rt; fault_of(alloc, 1, &[(0, 9)], &[(0, 9)])?.is_none());
+    Ok(())
+}
+
+#[test]
+fn a_job_has_at_most_65536_extents_of_each_kind(rt: HostRuntime) -> Result<(), Fail> {
+    let alloc = rt.alloc();
+    let many = spaced(alloc, 65_537, 1)?;
+    let fault = Job::new(alloc, 0, 1, 1, many, ExtentList::empty(alloc)).err();
+    assert!(rt; fault == Some(JobFault::ManySources));
+    let many = spaced(alloc, 65_537, 1)?;
+    let fault = Job::new(alloc, 0, 1, 1, ExtentList::empty(alloc), many).err();
+    assert!(rt; fault == Some(JobFault::ManyTargets));
+    Ok(())
+}
+
+#[test]
+fn a_fault_has_a_text(rt: HostRuntime) -> Result<(), Fail> {
+    let fault = JobFault::BadExtent { index: 3 };
+    let text = format!(in rt.alloc(); "{fault}; {}", JobFault::SharedBlock)?;
+    assert!(rt; text.as_str() == "extent 3 is empty or too far; two extents share a block");
+    Ok(())
+}

@@ -1,7 +1,0 @@
-use Rattle.std.proofs.Common.{Some}
-use Rattle.cm_history.specs.declared.act.Entry.{Entry}
-use Rattle.recorder.specs.Told.{FitsBehind}
-use Rattle.recorder.proofs.tests.sinking.record_some.Given as goal
-
-abbrev pub invariant-loop-place : goal.invariant-loop-place
-invariant-loop-place l = (e : Entry) → FitsBehind (Some l.recorder.sink.sink.taken) l.recorder.done e

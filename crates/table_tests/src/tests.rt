@@ -1,0 +1,7 @@
+mod extents;
+mod model;
+mod operations;
+mod plain_blocks;
+mod ranges;
+mod tokens;
+mod versions;

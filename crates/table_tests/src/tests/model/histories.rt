@@ -1,0 +1,106 @@
+// Histories, and the laws that hold of them.
+ghost use Rattle.std.specs.Prelude.{◌≡◌, ◌≤◌, length, IfOk};
+ghost use Rattle.cm_history.specs.Legal.{IsLegal};
+
+use super::*;
+use cm_history::{
+    Actor, Entry, History, count_law, fold_law, kind_law, locality_law, refused_law,
+    reservation_law, reserve, standing_law, token_law, write_law,
+};
+
+/// A Read that initiator 1 asks of unit 0, and nothing else.
+fn one_read(rt: &HostRuntime, config: &Config) -> Result<History, Fail>
+    requires { length config.now.units ≡ 1 }
+    ensures one { IfOk result (λ history. length history.entries ≡ 1) }
+    ensures legal { IfOk result (λ history. IsLegal config.now history.entries) }
+{
+    let _config = config;
+    let mut history = History::empty(rt.alloc());
+    history.reserve(1)?;
+    history.append(Entry {
+        stamp: 0,
+        unit: 0,
+        actor: Actor::Nexus(1),
+        seq: 0,
+        moment: 0,
+        act: Act::Read { lba: 0, count: 1 },
+    });
+    Ok(history)
+}
+
+/// The laws of each unit hold of the history.
+fn laws_of_a_unit(config: &Config, history: &History, unit: u16) {
+    locality_law(config, history, unit);
+    kind_law(config, history, unit);
+    refused_law(config, history, unit);
+    reservation_law(config, history, unit);
+    standing_law(config, unit);
+}
+
+/// The laws of tokens and of writes hold of the first entry.
+fn laws_of_the_first_entry(config: &Config, history: &History)
+    requires some { 1 ≤ length history.now.entries }
+    requires legal { IsLegal config.now history.now.entries }
+{
+    token_law(config, history, 0);
+    count_law(config, history, 0, 1);
+    write_law(config, history, 0);
+}
+
+/// Both are answered alike, as they are one history.
+fn laws_of_one_history(config: &Config, history: &History)
+    requires { IsLegal config.now history.now.entries }
+{
+    fold_law(config, history, history, 0, Actor::Nexus(1), 0, &Act::Pump);
+}
+
+/// The laws hold of histories that there are.
+#[test]
+fn laws_can_be_called(rt: HostRuntime) -> Result<(), Fail> {
+    let config = one_unit(&rt)?;
+    let history = one_read(&rt, &config)?;
+    laws_of_a_unit(&config, &history, 0);
+    laws_of_the_first_entry(&config, &history);
+    laws_of_one_history(&config, &history);
+    assert_eq!(rt; history.len(), 1);
+    Ok(())
+}
+
+/// A history of two Reads, whose second one has number 1.
+fn two_reads(rt: &HostRuntime) -> Result<History, Fail>
+    ensures { IfOk result (λ history. length history.entries ≡ 2) }
+{
+    let config = one_unit(rt)?;
+    let mut history = one_read(rt, &config)?;
+    let mut next = history.at(0).copy(rt.alloc())?;
+    next.seq = 1;
+    history.push(next)?;
+    Ok(history)
+}
+
+/// The entry is there, and has this number.
+fn has_number(entry: Option<&Entry>, number: u64) -> bool {
+    matches!(entry, Some(entry) if entry.seq == number)
+}
+
+#[test]
+fn a_history_grows_at_its_end(rt: HostRuntime) -> Result<(), Fail> {
+    let mut history = two_reads(&rt)?;
+    assert_eq!(rt; history.len(), 2);
+    let last = history.pop();
+    assert!(rt; has_number(last.as_ref(), 1));
+    assert!(rt; history.len() == 1);
+    assert!(rt; history.at(0).seq == 0 && history.spare() == 0);
+    Ok(())
+}
+
+/// The other entries stay, and so does the room behind them.
+#[test]
+fn the_first_entries_are_dropped(rt: HostRuntime) -> Result<(), Fail> {
+    let mut history = two_reads(&rt)?;
+    history.reserve(2)?;
+    history.drop_first(1);
+    assert_eq!(rt; history.len(), 1);
+    assert!(rt; history.at(0).seq == 1 && history.spare() == 2);
+    Ok(())
+}
