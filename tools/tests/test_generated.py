@@ -1,7 +1,5 @@
 """The generated trace: its bytes, what a replay of it counts, and the words that ask for it."""
 
-import pathlib
-import re
 import subprocess
 import unittest
 
@@ -27,10 +25,9 @@ def wanted(rounds):
 
 
 def row():
-    """The trace of 20 rounds that the tests of the program have, from its parts."""
-    source = pathlib.Path(ROW).read_text(encoding="utf-8")
-    parts = re.findall(r"const \w+_ROUNDS: .*? = \[(.*?)\];", source, re.S)
-    return b"".join(support.tool("row").bytes_of(part, {}) for part in parts)
+    """The trace of 20 rounds that the tests of the program have."""
+    tables = support.tool("row")
+    return tables.bytes_of(tables.constants(ROW.read_text(encoding="utf-8"))["TRACE"], {})
 
 
 class Generated(unittest.TestCase):

@@ -48,8 +48,7 @@ def worked():
     """The header of the worked sessions, and of each its name, its requests and its replies."""
     source = TABLE.read_text(encoding="utf-8")
     header = bytes.fromhex(ROWS.constants(source)["TWO_UNITS"])
-    row = r'name: "(.*?)",\s*requests: &\[(.*?)\],\s*replies: &\[(.*?)\],'
-    found = re.findall(row, source, re.S)
+    found = re.findall(rf"name: {ROWS.TEXT},\s*requests: {ROWS.TEXT},\s*replies: {ROWS.TEXT},", source)
     return header, [(name, ROWS.bytes_of(requests, {}), ROWS.bytes_of(replies, {})) for name, requests, replies in found]
 
 

@@ -1,10 +1,10 @@
 // Worked traces and their replies, checked.
-use crate::rows::first_path::{HEADER, ROWS, RUN};
-use crate::rows::{Row, copies, evictions, operations, reservations, tokens, usual_copy};
+use crate::rows::{
+    Row, copies, evictions, first_path, named, operations, reservations, tokens, usual_copy,
+};
 use crate::status::Status;
-use crate::tests::{bytes_of, generated_replies, only, words_of};
-use crate::top::top;
-use cm_base::{Bytes, CallList, MemorySink, MemorySource};
+use crate::tests::{Failing, bytes_of, generated_replies, ran};
+use cm_base::{Bytes, MemorySink};
 use generator::generate;
 use std::alloc::Global;
 use std::test::Fail;
@@ -18,19 +18,15 @@ fn input_of(alloc: Global, length: u64, trace: &[u8], records: &[u8]) -> Result<
     Ok(input)
 }
 
-/// How a check of an input ends, and what it writes; of its pulls those listed fail.
-fn checked(alloc: Global, input: Bytes, pulls: CallList) -> Result<(Status, MemorySink), Fail> {
-    let words = words_of(alloc, &["check"])?;
-    let mut source = MemorySource::new(input, 4096, pulls);
-    let mut output = MemorySink::new(alloc, 4096, CallList::empty(alloc));
-    let status = top(alloc, &words, &mut source, &mut output);
-    Ok((status, output))
+/// How a check of an input ends, and what it writes.
+fn checked(alloc: Global, input: Bytes, failing: Failing) -> Result<(Status, MemorySink), Fail> {
+    ran(alloc, &["check"], input, 4096, failing)
 }
 
 /// How a check of a trace of a told length and of records ends; a Yes is written exactly where it is done.
 fn ends(alloc: Global, length: u64, trace: &[u8], records: &[u8]) -> Result<Status, Fail> {
     let input = input_of(alloc, length, trace, records)?;
-    let (status, output) = checked(alloc, input, CallList::empty(alloc))?;
+    let (status, output) = checked(alloc, input, Failing::nothing())?;
     let told = output.as_slice() == b"yes\n".as_slice();
     if told != (status == Status::Done) {
         return Err(Fail::new("what was written is not what the status says"));
@@ -61,11 +57,17 @@ fn is_right(alloc: Global, row: &Row) -> Result<bool, Fail> {
     Ok(status == behind_length(row.status))
 }
 
-fn are_right(alloc: Global, rows: &[Row]) -> Result<(), Fail> {
+fn check_row(alloc: Global, row: &Row) -> Result<(), Fail> {
+    if is_right(alloc, row)? {
+        Ok(())
+    } else {
+        Err(Fail::new(row.name))
+    }
+}
+
+fn check_rows(alloc: Global, rows: &[Row]) -> Result<(), Fail> {
     for row in rows {
-        if !is_right(alloc, row)? {
-            return Err(Fail::from(row.name));
-        }
+        check_row(alloc, row)?;
     }
     Ok(())
 }
@@ -73,37 +75,44 @@ fn are_right(alloc: Global, rows: &[Row]) -> Result<(), Fail> {
 /// All but the last, whose runs of 4,294,967,296 blocks the plain model walks block by block.
 #[test]
 fn worked_replies_are_right(rt: HostRuntime) -> Result<(), Fail> {
-    are_right(rt.alloc(), &ROWS[..23])
+    match first_path::rows().split_last() {
+        Some((_, rows)) => check_rows(rt.alloc(), rows),
+        None => Err(Fail::new("no rows")),
+    }
 }
 
 #[test]
 fn worked_replies_of_tokens_are_right(rt: HostRuntime) -> Result<(), Fail> {
-    are_right(rt.alloc(), &tokens::ROWS)
+    check_rows(rt.alloc(), tokens::rows())
 }
 
 #[test]
 fn worked_replies_of_copies_are_right(rt: HostRuntime) -> Result<(), Fail> {
-    are_right(rt.alloc(), &copies::ROWS)
+    check_rows(rt.alloc(), copies::rows())
 }
 
 #[test]
 fn worked_replies_of_operations_are_right(rt: HostRuntime) -> Result<(), Fail> {
-    are_right(rt.alloc(), &operations::ROWS)
+    check_rows(rt.alloc(), operations::rows())
 }
 
 #[test]
 fn worked_replies_of_reservations_are_right(rt: HostRuntime) -> Result<(), Fail> {
-    are_right(rt.alloc(), &reservations::ROWS)
+    check_rows(rt.alloc(), reservations::rows())
 }
 
 #[test]
 fn worked_replies_of_many_tokens_are_right(rt: HostRuntime) -> Result<(), Fail> {
-    are_right(rt.alloc(), &evictions::ROWS)
+    check_rows(rt.alloc(), evictions::rows())
 }
 
 #[test]
 fn worked_replies_of_the_usual_copy_are_right(rt: HostRuntime) -> Result<(), Fail> {
-    are_right(rt.alloc(), &usual_copy::ROWS)
+    check_rows(rt.alloc(), usual_copy::rows())
+}
+
+fn write_then_read() -> Result<&'static Row, Fail> {
+    named(first_path::rows(), "write then read")
 }
 
 /// The records of a row with another byte at a place.
@@ -133,8 +142,9 @@ fn ends_with_byte(alloc: Global, row: &Row, place: usize, byte: u8) -> Result<St
 /// A byte of each field of a reply, and of its data: the initiator, the status, the lengths of sense and of data.
 #[test]
 fn each_changed_byte_differs(rt: HostRuntime) -> Result<(), Fail> {
+    let row = write_then_read()?;
     for place in [0, 3, 4, 5, 6, 9, 13, 14, 15, 19, 20, 1555] {
-        let status = ends_with_byte(rt.alloc(), &ROWS[3], place, 0x08)?;
+        let status = ends_with_byte(rt.alloc(), row, place, 0x08)?;
         assert!(rt;
             status == Status::Differs(place as u64),
             "{place}: {status}"
@@ -146,7 +156,11 @@ fn each_changed_byte_differs(rt: HostRuntime) -> Result<(), Fail> {
 /// A byte of a sense.
 #[test]
 fn a_changed_sense_differs(rt: HostRuntime) -> Result<(), Fail> {
-    let status = ends_with_byte(rt.alloc(), &ROWS[5], 12, 0x06)?;
+    let row = named(
+        first_path::rows(),
+        "refused reads, unknown code, unknown unit",
+    )?;
+    let status = ends_with_byte(rt.alloc(), row, 12, 0x06)?;
     assert!(rt; status == Status::Differs(12));
     Ok(())
 }
@@ -161,7 +175,7 @@ fn ends_by_length(alloc: Global, row: &Row, length: usize) -> Result<Status, Fai
 /// Records that are cut, and longer ones.
 #[test]
 fn records_of_another_length_differ(rt: HostRuntime) -> Result<(), Fail> {
-    let row = &ROWS[3];
+    let row = write_then_read()?;
     for (length, end) in [
         (1556, Status::Done),
         (1557, Status::Differs(1556)),
@@ -173,26 +187,24 @@ fn records_of_another_length_differ(rt: HostRuntime) -> Result<(), Fail> {
     Ok(())
 }
 
-/// How many bytes the replies of a row have.
-fn length_of_replies(alloc: Global, row: &Row) -> Result<usize, Fail> {
-    let replies = bytes_of(alloc, row.replies)?;
-    Ok(replies.len())
+/// Where a check of a row ends whose records have another last byte, told from that byte.
+fn last_differs(alloc: Global, row: &Row, byte: u8) -> Result<bool, Fail> {
+    let last = bytes_of(alloc, row.replies)?.len().saturating_sub(1);
+    let status = ends_with_byte(alloc, row, last, byte)?;
+    Ok(status == Status::Differs(last as u64))
 }
 
 /// The token's block as it was overwritten later is not what its READ gave.
 #[test]
 fn the_overwritten_block_differs(rt: HostRuntime) -> Result<(), Fail> {
-    let alloc = rt.alloc();
-    let row = &operations::ROWS[0];
-    let last = length_of_replies(alloc, row)?.saturating_sub(1);
-    let status = ends_with_byte(alloc, row, last, 0x44)?;
-    assert!(rt; status == Status::Differs(last as u64));
+    let row = named(operations::rows(), "token write with an overwrite between")?;
+    assert!(rt; last_differs(rt.alloc(), row, 0x44)?);
     Ok(())
 }
 
 /// How a check ends of a header and a Run, told to be so long, without records.
 fn ends_by_told_length(alloc: Global, length: u64) -> Result<Status, Fail> {
-    let trace = bytes_of(alloc, &[HEADER, RUN])?;
+    let trace = bytes_of(alloc, "HEADER RUN")?;
     ends(alloc, length, trace.as_slice(), &[])
 }
 
@@ -211,14 +223,17 @@ fn lengths_are_judged(rt: HostRuntime) -> Result<(), Fail> {
     Ok(())
 }
 
+/// How a check of seven bytes ends.
+fn ends_short(alloc: Global) -> Result<Status, Fail> {
+    let input = Bytes::copy(alloc, &[0; 7])?;
+    let (status, _) = checked(alloc, input, Failing::nothing())?;
+    Ok(status)
+}
+
 /// An input that ends inside its length.
 #[test]
 fn a_length_is_cut(rt: HostRuntime) -> Result<(), Fail> {
-    let alloc = rt.alloc();
-    let mut short = Bytes::empty(alloc);
-    short.extend(&[0; 7])?;
-    let (status, _) = checked(alloc, short, CallList::empty(alloc))?;
-    assert!(rt; status == Status::Torn(0));
+    assert!(rt; ends_short(rt.alloc())? == Status::Torn(0));
     Ok(())
 }
 
@@ -226,32 +241,35 @@ fn a_length_is_cut(rt: HostRuntime) -> Result<(), Fail> {
 fn ends_at_pull(alloc: Global, row: &Row, pull: u64) -> Result<bool, Fail> {
     let trace = bytes_of(alloc, row.trace)?;
     let input = input_of(alloc, trace.len() as u64, trace.as_slice(), &[])?;
-    let (status, output) = checked(alloc, input, only(alloc, pull)?)?;
+    let (status, output) = checked(alloc, input, Failing::pull(pull))?;
     Ok(status == Status::ReadFault && output.as_slice().is_empty())
 }
 
 /// A pull that fails, at the length and behind it.
 #[test]
 fn failed_pulls_end_a_check(rt: HostRuntime) -> Result<(), Fail> {
+    let row = write_then_read()?;
     for pull in [1, 2] {
-        assert!(rt; ends_at_pull(rt.alloc(), &ROWS[3], pull)?, "{pull}");
+        assert!(rt; ends_at_pull(rt.alloc(), row, pull)?, "{pull}");
     }
     Ok(())
+}
+
+/// How a check of a generated trace of 20 rounds and the replies to it ends.
+fn ends_generated(alloc: Global) -> Result<Status, Fail> {
+    let trace = generate(alloc, 20)?;
+    let replies = generated_replies(alloc)?;
+    ends(
+        alloc,
+        trace.len() as u64,
+        trace.as_slice(),
+        replies.as_slice(),
+    )
 }
 
 /// A generated trace of 20 rounds, and the replies to it.
 #[test]
 fn generated_replies_are_right(rt: HostRuntime) -> Result<(), Fail> {
-    let alloc = rt.alloc();
-    let trace = generate(alloc, 20)?;
-    let replies = generated_replies(alloc)?;
-    assert!(rt;
-        ends(
-            alloc,
-            trace.len() as u64,
-            trace.as_slice(),
-            replies.as_slice()
-        )? == Status::Done
-    );
+    assert!(rt; ends_generated(rt.alloc())? == Status::Done);
     Ok(())
 }

@@ -3,47 +3,29 @@ ghost use Rattle.std.specs.Prelude.{◌<◌};
 
 use crate::chained::Chained;
 use crate::hosting::{are_hosting, work_over};
-use crate::rows::host_copies::{COPIES, HostCopy, JOB};
+use crate::rows::host_copies::{HostCopy, copies};
 use crate::status::Status;
-use crate::tests::{bytes_of, only, words_of};
-use crate::top::top;
-use cm_base::{Bytes, CallList, InputBuffer, MemorySink, MemorySource};
+use crate::tests::{Failing, add_text, bytes_of, ran, source_of, words_of};
+use cm_base::{Bytes, InputBuffer, MemorySource};
 use std::alloc::Global;
 use std::io::{Read, Write};
 use std::net::{Ipv4Addr, SocketAddr, TcpListener, TcpStream};
 use std::test::Fail;
 
-#[test]
-fn words_ask_for_hosting(rt: HostRuntime) -> Result<(), Fail> {
-    for (line, wanted) in [
-        (["copy", "127.0.0.1:3260"], true),
-        (["copy", ""], true),
-        (["Copy", "127.0.0.1:3260"], false),
-        (["gen", "1"], false),
-    ] {
-        let words = words_of(rt.alloc(), &line)?;
-        assert!(rt; are_hosting(&words) == wanted);
-    }
-    let words = words_of(rt.alloc(), &["copy"])?;
-    assert!(rt; !are_hosting(&words));
-    Ok(())
+/// Whether these words ask for hosting.
+fn ask(alloc: Global, line: &[&str]) -> Result<bool, Fail> {
+    let words = words_of(alloc, line)?;
+    Ok(are_hosting(&words))
 }
 
-/// How a copy of this input ends by pulls and pushes of so many bytes, of which those listed fail, and what it writes.
-fn copied(
-    alloc: Global,
-    input: Bytes,
-    step: usize,
-    pulls: CallList,
-    pushes: CallList,
-) -> Result<(Status, MemorySink), Fail>
-    requires { 0 < step }
-{
-    let words = words_of(alloc, &["copy"])?;
-    let mut source = MemorySource::new(input, step, pulls);
-    let mut sink = MemorySink::new(alloc, step, pushes);
-    let status = top(alloc, &words, &mut source, &mut sink);
-    Ok((status, sink))
+#[test]
+fn words_ask_for_hosting(rt: HostRuntime) -> Result<(), Fail> {
+    assert!(rt; ask(rt.alloc(), &["copy", "127.0.0.1:3260"])?);
+    assert!(rt; ask(rt.alloc(), &["copy", ""])?);
+    assert!(rt; !ask(rt.alloc(), &["Copy", "127.0.0.1:3260"])?);
+    assert!(rt; !ask(rt.alloc(), &["gen", "1"])?);
+    assert!(rt; !ask(rt.alloc(), &["copy"])?);
+    Ok(())
 }
 
 /// The job and its replies give its requests and its status by pulls and pushes of so many bytes.
@@ -51,63 +33,68 @@ fn is_as_worked(alloc: Global, row: &HostCopy, step: usize) -> Result<bool, Fail
     requires { 0 < step }
 {
     let input = bytes_of(alloc, row.input)?;
-    let none = CallList::empty(alloc);
-    let (status, sink) = copied(alloc, input, step, none, CallList::empty(alloc))?;
+    let (status, sink) = ran(alloc, &["copy"], input, step, Failing::nothing())?;
     let requests = bytes_of(alloc, row.output)?;
     Ok(status == row.status && sink.as_slice() == requests.as_slice())
 }
 
-#[test]
-fn worked_copies(rt: HostRuntime) -> Result<(), Fail> {
-    for row in &COPIES {
-        for step in [1, 7, 4096] {
-            assert!(rt;
-                is_as_worked(rt.alloc(), row, step)?,
-                "{} by {step}",
-                row.name
-            );
-        }
+fn check_copy(alloc: Global, row: &HostCopy, step: usize) -> Result<(), Fail>
+    requires { 0 < step }
+{
+    if is_as_worked(alloc, row, step)? {
+        Ok(())
+    } else {
+        Err(Fail::new(format_args!("{} by {step}", row.name)))
+    }
+}
+
+fn check_copies(alloc: Global, rows: &[HostCopy], step: usize) -> Result<(), Fail>
+    requires { 0 < step }
+{
+    for row in rows {
+        check_copy(alloc, row, step)?;
     }
     Ok(())
 }
 
-/// How a copy ends at a pull or a push that fails, by pulls and pushes of 100 bytes; what it wrote is a beginning of the
-/// requests.
-fn ends_at(
-    alloc: Global,
-    row: &HostCopy,
-    pulls: CallList,
-    pushes: CallList,
-) -> Result<Status, Fail> {
-    let input = bytes_of(alloc, row.input)?;
-    let (status, sink) = copied(alloc, input, 100, pulls, pushes)?;
-    let requests = bytes_of(alloc, row.output)?;
-    if !requests.as_slice().starts_with(sink.as_slice()) {
-        return Err(Fail::from("what was written begins no requests"));
+#[test]
+fn worked_copies(rt: HostRuntime) -> Result<(), Fail> {
+    for step in [1, 7, 4096] {
+        check_copies(rt.alloc(), copies(), step)?;
     }
-    Ok(status)
+    Ok(())
+}
+
+/// The job of one part.
+fn one_part() -> Result<&'static HostCopy, Fail> {
+    match copies().first() {
+        Some(row) => Ok(row),
+        None => Err(Fail::new("no copies")),
+    }
+}
+
+/// How a copy of one part ends by pulls and pushes of 100 bytes; what it wrote is a beginning of the requests.
+fn ends_at(alloc: Global, failing: Failing) -> Result<Status, Fail> {
+    let row = one_part()?;
+    let input = bytes_of(alloc, row.input)?;
+    let (status, sink) = ran(alloc, &["copy"], input, 100, failing)?;
+    let requests = bytes_of(alloc, row.output)?;
+    if requests.as_slice().starts_with(sink.as_slice()) {
+        Ok(status)
+    } else {
+        Err(Fail::new("what was written begins no requests"))
+    }
 }
 
 /// Each of the pulls fails once, the first of which is that of the job, and each of the pushes.
 #[test]
 fn failed_calls_end_a_copy(rt: HostRuntime) -> Result<(), Fail> {
-    let alloc = rt.alloc();
     for call in 1..8 {
-        let status = ends_at(
-            alloc,
-            &COPIES[0],
-            only(alloc, call)?,
-            CallList::empty(alloc),
-        )?;
+        let status = ends_at(rt.alloc(), Failing::pull(call))?;
         assert!(rt; status == Status::ReadFault, "{call}: {status}");
     }
     for call in 1..10 {
-        let status = ends_at(
-            alloc,
-            &COPIES[0],
-            CallList::empty(alloc),
-            only(alloc, call)?,
-        )?;
+        let status = ends_at(rt.alloc(), Failing::push(call))?;
         assert!(rt; status == Status::WriteFault, "{call}: {status}");
     }
     Ok(())
@@ -115,9 +102,9 @@ fn failed_calls_end_a_copy(rt: HostRuntime) -> Result<(), Fail> {
 
 /// How a copy ends with these bytes behind its job.
 fn ends_behind_job(alloc: Global, behind: &str) -> Result<Status, Fail> {
-    let input = bytes_of(alloc, &[JOB, behind])?;
-    let none = CallList::empty(alloc);
-    let (status, _) = copied(alloc, input, 4096, none, CallList::empty(alloc))?;
+    let mut input = bytes_of(alloc, "JOB")?;
+    add_text(alloc, &mut input, behind)?;
+    let (status, _) = ran(alloc, &["copy"], input, 4096, Failing::nothing())?;
     Ok(status)
 }
 
@@ -136,18 +123,21 @@ fn replies_end_a_copy(rt: HostRuntime) -> Result<(), Fail> {
     Ok(())
 }
 
-/// A source of these bytes by pulls of two, of which those listed fail.
-fn source_of(alloc: Global, bytes: &[u8], failing: CallList) -> Result<MemorySource, Fail> {
-    Ok(MemorySource::new(Bytes::copy(alloc, bytes)?, 2, failing))
+/// A source of these bytes by pulls of two, of which one fails.
+fn twos(alloc: Global, bytes: &[u8], pull: u64) -> Result<MemorySource, Fail> {
+    let bytes = Bytes::copy(alloc, bytes)?;
+    source_of(alloc, bytes, 2, Failing::pull(pull))
 }
 
-/// The second source follows the first, and a pull of either may fail.
-#[test]
-fn sources_are_chained(rt: HostRuntime) -> Result<(), Fail> {
-    let alloc = rt.alloc();
-    let first = source_of(alloc, b"one", only(alloc, 1)?)?;
-    let second = source_of(alloc, b"two", only(alloc, 2)?)?;
-    let mut both = Chained::new(first, second);
+/// Two sources in one, of each of which one pull fails.
+fn chained(alloc: Global) -> Result<Chained<MemorySource, MemorySource>, Fail> {
+    let first = twos(alloc, b"one", 1)?;
+    Ok(Chained::new(first, twos(alloc, b"two", 2)?))
+}
+
+/// How many of ten pulls fail; the others bring the bytes of both sources.
+fn failed_fills(alloc: Global) -> Result<u32, Fail> {
+    let mut both = chained(alloc)?;
     let mut bytes = InputBuffer::new(alloc);
     let mut failed = 0u32;
     for _ in 0..10 {
@@ -155,28 +145,67 @@ fn sources_are_chained(rt: HostRuntime) -> Result<(), Fail> {
             failed = failed.saturating_add(1);
         }
     }
-    assert!(rt; failed == 2);
-    assert!(rt; bytes.as_slice() == b"onetwo".as_slice());
+    if bytes.as_slice() == b"onetwo".as_slice() {
+        Ok(failed)
+    } else {
+        Err(Fail::new("other bytes"))
+    }
+}
+
+/// The second source follows the first, and a pull of either may fail.
+#[test]
+fn sources_are_chained(rt: HostRuntime) -> Result<(), Fail> {
+    assert!(rt; failed_fills(rt.alloc())? == 2);
     Ok(())
+}
+
+/// The two ends of a connection.
+fn connected(rt: &HostRuntime) -> Result<(TcpStream, TcpStream), Fail> {
+    let listener = TcpListener::bind(rt, SocketAddr::from((Ipv4Addr::LOCALHOST, 0)))?;
+    let client = TcpStream::connect(rt, listener.local_addr()?)?;
+    let (server, _) = listener.accept()?;
+    Ok((client, server))
+}
+
+/// How a copy of one part ends over a connection.
+fn works_over(alloc: Global, connection: TcpStream) -> Result<Status, Fail> {
+    let words = words_of(alloc, &["copy"])?;
+    let job = source_of(alloc, bytes_of(alloc, "JOB")?, 4096, Failing::nothing())?;
+    Ok(work_over(alloc, &words, job, connection))
+}
+
+/// Sends the bytes of a text.
+fn send(alloc: Global, connection: &mut TcpStream, text: &str) -> Result<(), Fail> {
+    let bytes = bytes_of(alloc, text)?;
+    connection.write_all(bytes.as_slice())?;
+    Ok(())
+}
+
+/// Whether the bytes of a text come, and then the end.
+fn receives(alloc: Global, connection: &mut TcpStream, text: &str) -> Result<bool, Fail> {
+    let mut received = Vec::new(alloc);
+    connection.read_to_end(&mut received)?;
+    let wanted = bytes_of(alloc, text)?;
+    Ok(received.as_slice() == wanted.as_slice())
+}
+
+/// How a copy of one part ends over a socket; its requests come.
+fn copied_over_socket(rt: &HostRuntime) -> Result<Status, Fail> {
+    let row = one_part()?;
+    let replies = row.input.trim_start_matches("JOB");
+    let (client, mut server) = connected(rt)?;
+    send(rt.alloc(), &mut server, replies)?;
+    let status = works_over(rt.alloc(), client)?;
+    if receives(rt.alloc(), &mut server, row.output)? {
+        Ok(status)
+    } else {
+        Err(Fail::new("other requests"))
+    }
 }
 
 /// The replies are there before they are asked for; the requests come, and then the end.
 #[test]
 fn a_copy_over_a_socket(rt: HostRuntime) -> Result<(), Fail> {
-    let alloc = rt.alloc();
-    let row = &COPIES[0];
-    let listener = TcpListener::bind(&rt, SocketAddr::from((Ipv4Addr::LOCALHOST, 0)))?;
-    let client = TcpStream::connect(&rt, listener.local_addr()?)?;
-    let (mut server, _) = listener.accept()?;
-    let replies = bytes_of(alloc, row.input.get(1..).unwrap_or(&[]))?;
-    server.write_all(replies.as_slice())?;
-    let job = bytes_of(alloc, &[JOB])?;
-    let job = MemorySource::new(job, 4096, CallList::empty(alloc));
-    let words = words_of(alloc, &["copy"])?;
-    assert!(rt; work_over(alloc, &words, job, client) == Status::Done);
-    let mut requests = Vec::new(alloc);
-    server.read_to_end(&mut requests)?;
-    let wanted = bytes_of(alloc, row.output)?;
-    assert!(rt; requests.as_slice() == wanted.as_slice());
+    assert!(rt; copied_over_socket(&rt)? == Status::Done);
     Ok(())
 }

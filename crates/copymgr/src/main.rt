@@ -18,6 +18,8 @@ mod order;
 mod random;
 mod ready;
 #[cfg(test)]
+mod ready_tests;
+#[cfg(test)]
 mod rows;
 mod serving;
 #[cfg(test)]

@@ -8,9 +8,8 @@ ghost use Rattle.cm_history.specs.Limits.{within_limits};
 ghost use Rattle.plain_model.specs.Holds.{AreWithin};
 
 use crate::status::Status;
-use crate::tests::words_of;
-use crate::top::top;
-use cm_base::{Bytes, CallList, Config, MemorySink, MemorySource, Payload, UnitConfig, UnitList};
+use crate::tests::{Failing, ran};
+use cm_base::{Bytes, Config, Payload, UnitConfig, UnitList};
 use cm_frame::{Request, TraceItem, write_header, write_item};
 use cm_history::{Act, Actor, Answer, Entry, History, within_limits};
 use lba_ranges::BlockList;
@@ -331,10 +330,7 @@ impl Trace {
 
 /// Whether a trace is played to its end, and gives these replies.
 fn is_played(alloc: Global, trace: Bytes, replies: &[u8]) -> Result<bool, Fail> {
-    let words = words_of(alloc, &["replay"])?;
-    let mut input = MemorySource::new(trace, 100, CallList::empty(alloc));
-    let mut output = MemorySink::new(alloc, 100, CallList::empty(alloc));
-    let status = top(alloc, &words, &mut input, &mut output);
+    let (status, output) = ran(alloc, &["replay"], trace, 100, Failing::nothing())?;
     Ok(status == Status::Done && output.as_slice() == replies)
 }
 

@@ -1,28 +1,26 @@
 // What the word `serve` reads and writes.
 use super::serving::{are_serving, picks_port, read_all};
 use super::unit_files::{UnitFile, unit_files};
-use crate::tests::only;
-use cm_base::{Bytes, CallList, MemorySource, Sink, Word, WriteFailed, push_all};
+use crate::tests::{Failing, source_of, words_of};
+use cm_base::{Bytes, Sink, WriteFailed, push_all};
+use std::alloc::Global;
 use std::fs;
 use std::test::Fail;
 
+/// Whether these words ask for serving.
+fn ask(alloc: Global, line: &[&str]) -> Result<bool, Fail> {
+    let words = words_of(alloc, line)?;
+    Ok(are_serving(&words))
+}
+
 #[test]
 fn words_ask_for_serving(rt: HostRuntime) -> Result<(), Fail> {
-    let alloc = rt.alloc();
-    for (line, wanted) in [
-        ("serve", false),
-        ("serve A", false),
-        ("serve A 1", true),
-        ("serve A x F", true),
-        ("serve A 1 F G", false),
-        ("gen 1 2", false),
-    ] {
-        let mut words = Vec::new(alloc);
-        for word in line.split(' ') {
-            words.push(Word::from_text(alloc, word)?)?;
-        }
-        assert!(rt; are_serving(&words) == wanted, "{line}");
-    }
+    assert!(rt; !ask(rt.alloc(), &["serve"])?);
+    assert!(rt; !ask(rt.alloc(), &["serve", "A"])?);
+    assert!(rt; ask(rt.alloc(), &["serve", "A", "1"])?);
+    assert!(rt; ask(rt.alloc(), &["serve", "A", "x", "F"])?);
+    assert!(rt; !ask(rt.alloc(), &["serve", "A", "1", "F", "G"])?);
+    assert!(rt; !ask(rt.alloc(), &["gen", "1", "2"])?);
     Ok(())
 }
 
@@ -37,27 +35,48 @@ fn ports_are_picked(rt: HostRuntime) -> Result<(), Fail> {
     Ok(())
 }
 
+/// Reads a text by pulls of two bytes.
+fn read_of(alloc: Global, failing: Failing, room: &mut [u8]) -> Result<Option<usize>, Fail> {
+    let bytes = Bytes::copy(alloc, b"header")?;
+    let mut input = source_of(alloc, bytes, 2, failing)?;
+    Ok(read_all(&mut input, room))
+}
+
 /// What is read ends with the input or with the room, and a pull that fails ends it.
 #[test]
 fn a_configuration_is_read(rt: HostRuntime) -> Result<(), Fail> {
     let alloc = rt.alloc();
-    let input = |failing: CallList| {
-        Ok::<_, Fail>(MemorySource::new(Bytes::copy(alloc, b"header")?, 2, failing))
-    };
     let mut room = [0; 8];
-    assert_eq!(rt;
-        read_all(&mut input(CallList::empty(alloc))?, &mut room),
-        Some(6)
-    );
+    assert!(rt; read_of(alloc, Failing::nothing(), &mut room)? == Some(6));
     assert_eq!(rt; &room, b"header\0\0");
     let mut room = [0; 5];
-    assert_eq!(rt;
-        read_all(&mut input(CallList::empty(alloc))?, &mut room),
-        Some(5)
-    );
+    assert!(rt; read_of(alloc, Failing::nothing(), &mut room)? == Some(5));
     assert_eq!(rt; &room, b"heade");
-    assert_eq!(rt; read_all(&mut input(only(alloc, 2)?)?, &mut room), None);
+    assert!(rt; read_of(alloc, Failing::pull(2), &mut room)?.is_none());
     Ok(())
+}
+
+/// Whether the file of the test holds this text.
+fn holds(rt: &HostRuntime, text: &str) -> Result<bool, Fail> {
+    let held = fs::read_to_string(rt, "unit-file")?;
+    Ok(held.as_str() == text)
+}
+
+/// Pushes two texts, and says whether the file held this text until then.
+fn held_before_pushes(rt: &HostRuntime, alloc: Global, text: &str) -> Result<bool, Fail> {
+    let path = String::from_str(alloc, "unit-file")?;
+    let mut file = UnitFile::new(rt, path);
+    let held = holds(rt, text)?;
+    push_all(&mut file, b"one ")?;
+    push_all(&mut file, b"two")?;
+    Ok(held)
+}
+
+/// Whether a push fails without a folder.
+fn needs_folder(rt: &HostRuntime, alloc: Global) -> Result<bool, Fail> {
+    let path = String::from_str(alloc, "missing/unit-file")?;
+    let mut file = UnitFile::new(rt, path);
+    Ok(file.push(b"one") == Err(WriteFailed))
 }
 
 /// The file of a unit is made at the first push, and empty then.
@@ -65,17 +84,9 @@ fn a_configuration_is_read(rt: HostRuntime) -> Result<(), Fail> {
 fn a_unit_file_is_made(rt: HostRuntime) -> Result<(), Fail> {
     let alloc = rt.alloc();
     fs::write(&rt, "unit-file", "older and longer")?;
-    let path = String::from_str(alloc, "unit-file")?;
-    let mut file = UnitFile::new(&rt, path);
-    assert_eq!(rt;
-        fs::read_to_string(&rt, "unit-file")?.as_str(),
-        "older and longer"
-    );
-    push_all(&mut file, b"one ")?;
-    push_all(&mut file, b"two")?;
-    assert_eq!(rt; fs::read_to_string(&rt, "unit-file")?.as_str(), "one two");
-    let path = String::from_str(alloc, "missing/unit-file")?;
-    assert_eq!(rt; UnitFile::new(&rt, path).push(b"one"), Err(WriteFailed));
+    assert!(rt; held_before_pushes(&rt, alloc, "older and longer")?);
+    assert!(rt; holds(&rt, "one two")?);
+    assert!(rt; needs_folder(&rt, alloc)?);
     assert_eq!(rt; unit_files(&rt, alloc, "folder")?.len(), 16);
     Ok(())
 }

@@ -1,10 +1,9 @@
 // One connection over units in one thread.
 ghost use Rattle.std.specs.Prelude.{◌<◌};
 
-use crate::rows::first_path::HEADER;
-use crate::rows::sessions::{SESSIONS, TWO_UNITS, WorkedSession};
-use crate::tests::{bytes_of, only};
-use cm_base::{Bytes, CallList, Config, MemoryLink, MemorySink, MemorySource, SetClock};
+use crate::rows::sessions::{TWO_UNITS, WorkedSession, sessions};
+use crate::tests::{Failing, bytes_of, sink_of, source_of};
+use cm_base::{Bytes, Config, MemoryLink, SetClock};
 use cm_frame::{Parsed, read_header};
 use session::{SessionEnd, SessionFault, session};
 use std::alloc::Global;
@@ -12,14 +11,10 @@ use std::test::Fail;
 use unit_runs::UnitRuns;
 
 /// WRITE (16) of two blocks, and READ (16) of three.
-const REQUESTS: [&str; 4] = [
-    "0000040000008a000000000000000000000000020000",
-    "11*512",
-    "22*512",
-    "00000000000088000000000000000000000000030000",
-];
+const REQUESTS: &str = "0000040000008a000000000000000000000000020000 11*512 22*512 \
+    00000000000088000000000000000000000000030000";
 
-const REPLIES: [&str; 5] = ["000000000000", "000000000600", "11*512", "22*512", "00*512"];
+const REPLIES: &str = "000000000000 000000000600 11*512 22*512 00*512";
 
 /// Bytes of the first request, and of both.
 const FIRST: usize = 1046;
@@ -36,40 +31,55 @@ const LONG_READ: &str = "00000000000088000000000000000000000000140000";
 
 /// The configuration that a header spells.
 fn config_of(alloc: Global, header: &str) -> Result<Config, Fail> {
-    let bytes = bytes_of(alloc, &[header])?;
+    let bytes = bytes_of(alloc, header)?;
     match read_header(alloc, bytes.as_slice())? {
         Parsed::Whole { value, .. } => Ok(value),
         Parsed::Short | Parsed::Bad { .. } => Err(Fail::from("no header")),
     }
 }
 
-/// Serves a connection of these two sides.
-fn served(
-    alloc: Global,
-    header: &str,
-    source: MemorySource,
-    sink: MemorySink,
-) -> Result<(SessionEnd, MemoryLink), Fail> {
-    let config = config_of(alloc, header)?;
-    let own = config.copy(alloc)?;
-    let mut units = UnitRuns::new(alloc, own, 0)?;
-    let mut link = MemoryLink::new(source, sink);
-    let end = session(alloc, &config, &mut link, &mut units, &SetClock::new(0));
-    Ok((end, link))
+/// Serves a connection over the units of a configuration.
+fn serve_units(alloc: Global, config: &Config, link: &mut MemoryLink) -> Result<SessionEnd, Fail> {
+    let mut units = UnitRuns::new(alloc, config.copy(alloc)?, 0)?;
+    Ok(session(alloc, config, link, &mut units, &SetClock::new(0)))
 }
 
-/// Serves a connection by pulls and pushes of so many bytes, none of which fails.
-fn served_whole(
+/// Serves a connection over the units that a header spells.
+fn serve(alloc: Global, header: &str, link: &mut MemoryLink) -> Result<SessionEnd, Fail> {
+    let config = config_of(alloc, header)?;
+    serve_units(alloc, &config, link)
+}
+
+/// How many bytes a pull of a connection gives, and how many a push takes.
+#[derive(Clone, Copy)]
+struct Steps {
+    pull: usize,
+    push: usize,
+}
+
+/// A connection that brings these bytes.
+fn link_of(alloc: Global, bytes: Bytes, steps: Steps, failing: Failing) -> Result<MemoryLink, Fail>
+    requires pulls { 0 < steps.pull }
+    requires pushes { 0 < steps.push }
+{
+    let source = source_of(alloc, bytes, steps.pull, failing)?;
+    Ok(MemoryLink::new(source, sink_of(alloc, steps.push, failing)?))
+}
+
+/// A connection that brings the bytes of a text.
+fn link_of_text(
     alloc: Global,
-    header: &str,
-    input: Bytes,
+    text: &str,
     step: usize,
-) -> Result<(SessionEnd, MemoryLink), Fail>
+    failing: Failing,
+) -> Result<MemoryLink, Fail>
     requires { 0 < step }
 {
-    let source = MemorySource::new(input, step, CallList::empty(alloc));
-    let sink = MemorySink::new(alloc, step, CallList::empty(alloc));
-    served(alloc, header, source, sink)
+    let steps = Steps {
+        pull: step,
+        push: step,
+    };
+    link_of(alloc, bytes_of(alloc, text)?, steps, failing)
 }
 
 /// The two requests and their replies.
@@ -90,58 +100,58 @@ struct Wanted {
 impl Worked {
     fn new(alloc: Global) -> Result<Worked, Fail> {
         Ok(Worked {
-            requests: bytes_of(alloc, &REQUESTS)?,
-            replies: bytes_of(alloc, &REPLIES)?,
+            requests: bytes_of(alloc, REQUESTS)?,
+            replies: bytes_of(alloc, REPLIES)?,
         })
     }
 
-    /// So many bytes of the requests, by pulls of so many, of which those listed fail.
-    fn source(
-        &self,
-        alloc: Global,
-        given: usize,
-        step: usize,
-        failing: CallList,
-    ) -> Result<MemorySource, Fail>
-        requires { 0 < step }
-    {
-        let given = self.requests.as_slice().get(..given).unwrap_or(&[]);
-        let input = Bytes::copy(alloc, given)?;
-        Ok(MemorySource::new(input, step, failing))
-    }
-
-    /// A connection of these two sides is served as wanted.
+    /// A connection that brings so many bytes of the requests is served as wanted.
     fn is_served(
         &self,
         alloc: Global,
-        source: MemorySource,
-        sink: MemorySink,
+        given: usize,
+        steps: Steps,
+        failing: Failing,
         wanted: Wanted,
-    ) -> Result<bool, Fail> {
-        let (end, link) = served(alloc, HEADER, source, sink)?;
+    ) -> Result<bool, Fail>
+        requires pulls { 0 < steps.pull }
+        requires pushes { 0 < steps.push }
+    {
+        let given = self.requests.as_slice().get(..given).unwrap_or(&[]);
+        let mut link = link_of(alloc, Bytes::copy(alloc, given)?, steps, failing)?;
+        let end = serve(alloc, "HEADER", &mut link)?;
         let all_taken = self.replies.as_slice().get(..wanted.taken) == Some(link.taken());
         Ok(end.frames == wanted.frames && end.fault == wanted.fault && all_taken)
     }
+}
 
-    /// A connection without faults that gives so many bytes is served as wanted.
-    fn is_served_whole(
-        &self,
-        alloc: Global,
-        given: usize,
-        step: usize,
-        wanted: Wanted,
-    ) -> Result<bool, Fail>
-        requires { 0 < step }
-    {
-        let source = self.source(alloc, given, step, CallList::empty(alloc))?;
-        let sink = MemorySink::new(alloc, step, CallList::empty(alloc));
-        self.is_served(alloc, source, sink, wanted)
-    }
+/// A connection that gives so many bytes of the requests, by pulls and pushes of so many, is served as wanted.
+fn is_served(
+    alloc: Global,
+    given: usize,
+    step: usize,
+    failing: Failing,
+    wanted: Wanted,
+) -> Result<bool, Fail>
+    requires { 0 < step }
+{
+    let steps = Steps {
+        pull: step,
+        push: step,
+    };
+    let worked = Worked::new(alloc)?;
+    worked.is_served(alloc, given, steps, failing, wanted)
+}
+
+/// A connection of which no call fails.
+fn is_served_whole(alloc: Global, given: usize, step: usize, wanted: Wanted) -> Result<bool, Fail>
+    requires { 0 < step }
+{
+    is_served(alloc, given, step, Failing::nothing(), wanted)
 }
 
 #[test]
 fn one_session_over_two_requests(rt: HostRuntime) -> Result<(), Fail> {
-    let worked = Worked::new(rt.alloc())?;
     let wanted = Wanted {
         frames: 2,
         fault: None,
@@ -149,7 +159,7 @@ fn one_session_over_two_requests(rt: HostRuntime) -> Result<(), Fail> {
     };
     for step in [1, 7, 4096] {
         assert!(rt;
-            worked.is_served_whole(rt.alloc(), BOTH, step, wanted)?,
+            is_served_whole(rt.alloc(), BOTH, step, wanted)?,
             "by {step}"
         );
     }
@@ -158,7 +168,6 @@ fn one_session_over_two_requests(rt: HostRuntime) -> Result<(), Fail> {
 
 #[test]
 fn a_session_ends_between_two_requests(rt: HostRuntime) -> Result<(), Fail> {
-    let worked = Worked::new(rt.alloc())?;
     let wanted = Wanted {
         frames: 1,
         fault: None,
@@ -166,7 +175,7 @@ fn a_session_ends_between_two_requests(rt: HostRuntime) -> Result<(), Fail> {
     };
     for step in [1, 7, 4096] {
         assert!(rt;
-            worked.is_served_whole(rt.alloc(), FIRST, step, wanted)?,
+            is_served_whole(rt.alloc(), FIRST, step, wanted)?,
             "by {step}"
         );
     }
@@ -175,7 +184,6 @@ fn a_session_ends_between_two_requests(rt: HostRuntime) -> Result<(), Fail> {
 
 #[test]
 fn a_session_is_cut_inside_the_second_request(rt: HostRuntime) -> Result<(), Fail> {
-    let worked = Worked::new(rt.alloc())?;
     let wanted = Wanted {
         frames: 1,
         fault: Some(SessionFault::Torn),
@@ -183,23 +191,29 @@ fn a_session_is_cut_inside_the_second_request(rt: HostRuntime) -> Result<(), Fai
     };
     for given in FIRST + 1..BOTH {
         assert!(rt;
-            worked.is_served_whole(rt.alloc(), given, 7, wanted)?,
+            is_served_whole(rt.alloc(), given, 7, wanted)?,
             "after {given}"
         );
     }
     Ok(())
 }
 
+/// The two requests are served as wanted where behind them stands the length of a third one's data.
+fn is_served_before_length(alloc: Global, length: u32, wanted: Wanted) -> Result<bool, Fail> {
+    let mut worked = Worked::new(alloc)?;
+    worked.requests.extend(&length.to_be_bytes())?;
+    let steps = Steps { pull: 7, push: 7 };
+    worked.is_served(alloc, BOTH + 4, steps, Failing::nothing(), wanted)
+}
+
 #[test]
 fn a_session_meets_too_much_data(rt: HostRuntime) -> Result<(), Fail> {
-    let alloc = rt.alloc();
-    let mut input = bytes_of(alloc, &REQUESTS)?;
-    input.extend(&8_388_609u32.to_be_bytes())?;
-    let replies = bytes_of(alloc, &REPLIES)?;
-    let (end, link) = served_whole(alloc, HEADER, input, 7)?;
-    assert_eq!(rt; end.frames, 2);
-    assert_eq!(rt; end.fault, Some(SessionFault::BadFrame));
-    assert_eq!(rt; link.taken(), replies.as_slice());
+    let wanted = Wanted {
+        frames: 2,
+        fault: Some(SessionFault::BadFrame),
+        taken: 1548,
+    };
+    assert!(rt; is_served_before_length(rt.alloc(), 8_388_609, wanted)?);
     Ok(())
 }
 
@@ -222,13 +236,15 @@ fn after_pulls(pulled: usize) -> Wanted {
 fn is_served_at_each_pull(alloc: Global, step: usize, pulls: usize) -> Result<bool, Fail>
     requires { 0 < step }
 {
+    let steps = Steps {
+        pull: step,
+        push: 4096,
+    };
     let worked = Worked::new(alloc)?;
     for before in 0..pulls {
         let wanted = after_pulls(step.saturating_mul(before).min(BOTH));
-        let failing = only(alloc, before as u64 + 1)?;
-        let source = worked.source(alloc, BOTH, step, failing)?;
-        let sink = MemorySink::new(alloc, 4096, CallList::empty(alloc));
-        if !worked.is_served(alloc, source, sink, wanted)? {
+        let failing = Failing::pull(before as u64 + 1);
+        if !worked.is_served(alloc, BOTH, steps, failing, wanted)? {
             return Ok(false);
         }
     }
@@ -263,6 +279,10 @@ fn is_served_at_each_push(
 ) -> Result<bool, Fail>
     requires { 0 < step }
 {
+    let steps = Steps {
+        pull: 4096,
+        push: step,
+    };
     let worked = Worked::new(alloc)?;
     for before in 0..first.saturating_add(second) {
         let taken = if before < first {
@@ -270,9 +290,8 @@ fn is_served_at_each_push(
         } else {
             step.saturating_mul(before - first).saturating_add(6)
         };
-        let source = worked.source(alloc, BOTH, 4096, CallList::empty(alloc))?;
-        let sink = MemorySink::new(alloc, step, only(alloc, before as u64 + 1)?);
-        if !worked.is_served(alloc, source, sink, after_pushes(taken))? {
+        let failing = Failing::push(before as u64 + 1);
+        if !worked.is_served(alloc, BOTH, steps, failing, after_pushes(taken))? {
             return Ok(false);
         }
     }
@@ -292,18 +311,20 @@ fn each_push_of_a_session_fails(rt: HostRuntime) -> Result<(), Fail> {
 /// asked for.
 #[test]
 fn a_session_pulls_and_pushes_no_more(rt: HostRuntime) -> Result<(), Fail> {
-    let alloc = rt.alloc();
     let wanted = Wanted {
         frames: 2,
         fault: None,
         taken: 1548,
     };
-    let worked = Worked::new(alloc)?;
     for (step, pull, push) in [(1, 1070, 1549), (7, 155, 223), (4096, 3, 3)] {
-        let failing = only(alloc, pull)?;
-        let source = worked.source(alloc, BOTH, step, failing)?;
-        let sink = MemorySink::new(alloc, step, only(alloc, push)?);
-        assert!(rt; worked.is_served(alloc, source, sink, wanted)?, "by {step}");
+        let failing = Failing {
+            pull: Some(pull),
+            push: Some(push),
+        };
+        assert!(rt;
+            is_served(rt.alloc(), BOTH, step, failing, wanted)?,
+            "by {step}"
+        );
     }
     Ok(())
 }
@@ -312,48 +333,67 @@ fn a_session_pulls_and_pushes_no_more(rt: HostRuntime) -> Result<(), Fail> {
 fn is_as_worked(alloc: Global, worked: &WorkedSession, step: usize) -> Result<bool, Fail>
     requires { 0 < step }
 {
+    let mut link = link_of_text(alloc, worked.requests, step, Failing::nothing())?;
+    let end = serve(alloc, TWO_UNITS, &mut link)?;
     let replies = bytes_of(alloc, worked.replies)?;
-    let input = bytes_of(alloc, worked.requests)?;
-    let (end, link) = served_whole(alloc, TWO_UNITS, input, step)?;
     Ok(end.fault.is_none() && link.taken() == replies.as_slice())
+}
+
+fn check_session(alloc: Global, worked: &WorkedSession, step: usize) -> Result<(), Fail>
+    requires { 0 < step }
+{
+    if is_as_worked(alloc, worked, step)? {
+        Ok(())
+    } else {
+        Err(Fail::new(format_args!("{} by {step}", worked.name)))
+    }
+}
+
+fn check_sessions(alloc: Global, sessions: &[WorkedSession], step: usize) -> Result<(), Fail>
+    requires { 0 < step }
+{
+    for worked in sessions {
+        check_session(alloc, worked, step)?;
+    }
+    Ok(())
 }
 
 /// Sessions of every command.
 #[test]
 fn worked_sessions(rt: HostRuntime) -> Result<(), Fail> {
-    for worked in &SESSIONS {
-        for step in [1, 7, 4096] {
-            assert!(rt;
-                is_as_worked(rt.alloc(), worked, step)?,
-                "{} by {step}",
-                worked.name
-            );
-        }
+    for step in [1, 7, 4096] {
+        check_sessions(rt.alloc(), sessions(), step)?;
     }
     Ok(())
+}
+
+/// A long reply is the whole of what is taken, and the session ends behind it.
+fn is_long_reply(alloc: Global) -> Result<bool, Fail> {
+    let mut link = link_of_text(alloc, LONG_READ, 100_000, Failing::nothing())?;
+    let end = serve(alloc, LONG_BLOCKS, &mut link)?;
+    let reply = bytes_of(alloc, "000000014000 00*81920")?;
+    Ok(end.frames == 1 && end.fault.is_none() && link.taken() == reply.as_slice())
 }
 
 /// A long reply is pushed from where its data stands, behind its head.
 #[test]
 fn a_session_replies_with_long_data(rt: HostRuntime) -> Result<(), Fail> {
-    let alloc = rt.alloc();
-    let reply = bytes_of(alloc, &["000000014000", "00*81920"])?;
-    let input = bytes_of(alloc, &[LONG_READ])?;
-    let (end, link) = served_whole(alloc, LONG_BLOCKS, input, 100_000)?;
-    assert!(rt; end.frames == 1 && end.fault.is_none());
-    assert!(rt; link.taken() == reply.as_slice());
+    assert!(rt; is_long_reply(rt.alloc())?);
     Ok(())
+}
+
+/// How the session ends whose second push fails, and how many bytes are taken.
+fn ends_at_data(alloc: Global) -> Result<(SessionEnd, usize), Fail> {
+    let mut link = link_of_text(alloc, LONG_READ, 100_000, Failing::push(2))?;
+    let end = serve(alloc, LONG_BLOCKS, &mut link)?;
+    Ok((end, link.taken().len()))
 }
 
 /// The push of long data, behind that of the head, may fail.
 #[test]
 fn a_push_of_long_data_fails(rt: HostRuntime) -> Result<(), Fail> {
-    let alloc = rt.alloc();
-    let input = bytes_of(alloc, &[LONG_READ])?;
-    let source = MemorySource::new(input, 100_000, CallList::empty(alloc));
-    let sink = MemorySink::new(alloc, 100_000, only(alloc, 2)?);
-    let (end, link) = served(alloc, LONG_BLOCKS, source, sink)?;
+    let (end, taken) = ends_at_data(rt.alloc())?;
     assert!(rt; end.frames == 0 && end.fault == Some(SessionFault::WriteFault));
-    assert_eq!(rt; link.taken().len(), 6);
+    assert_eq!(rt; taken, 6);
     Ok(())
 }

@@ -1,22 +1,16 @@
 ghost use Rattle.std.specs.Prelude.{◌<◌};
 
-use crate::ready::{Empty, ReadyMemory, make_ready};
-use crate::rows::first_path::{HEADER, ROWS, RUN};
-use crate::rows::words::{GENERATED, OTHER};
 use crate::rows::{
-    Row, copies, evictions, generated, long_data, operations, reservations, tokens, usual_copy,
+    Row, copies, evictions, first_path, generated, hex_text, long_data, named, operations,
+    reservations, tokens, usual_copy, words,
 };
 use crate::status::Status;
-use crate::top::{top, top_with};
+use crate::top::top;
 use cm_base::{Bytes, CallList, MemorySink, MemorySource, Word};
-use cm_frame::Memory;
 use generator::generate;
-use rtrb::RingBuffer;
 use std::alloc::Global;
-use std::sync::Wait;
 use std::test::Fail;
-use std::thread::{self, Parker, Threads};
-use trace_replay::replay;
+use trace_replay::{Summary, replay};
 
 /// Adds the bytes of hex text.
 fn add(alloc: Global, bytes: &mut Bytes, text: &str) -> Result<(), Fail> {
@@ -34,15 +28,26 @@ fn add_times(alloc: Global, bytes: &mut Bytes, text: &str, count: u32) -> Result
     Ok(())
 }
 
-/// The bytes of pieces of hex text.
-pub(crate) fn bytes_of(alloc: Global, pieces: &[&str]) -> Result<Bytes, Fail> {
-    let mut bytes = Bytes::empty(alloc);
-    for piece in pieces {
-        match piece.split_once('*') {
-            Some((byte, count)) => add_times(alloc, &mut bytes, byte, count.parse()?)?,
-            None => add(alloc, &mut bytes, piece)?,
-        }
+/// Adds the bytes of a word.
+fn add_word(alloc: Global, bytes: &mut Bytes, word: &str) -> Result<(), Fail> {
+    match word.split_once('*') {
+        Some((byte, count)) => add_times(alloc, bytes, byte, count.parse()?),
+        None => add(alloc, bytes, hex_text(word)),
     }
+}
+
+/// Adds the bytes of a text, as rows have it.
+pub(crate) fn add_text(alloc: Global, bytes: &mut Bytes, text: &str) -> Result<(), Fail> {
+    for word in text.split_whitespace() {
+        add_word(alloc, bytes, word)?;
+    }
+    Ok(())
+}
+
+/// The bytes of a text, as rows have it.
+pub(crate) fn bytes_of(alloc: Global, text: &str) -> Result<Bytes, Fail> {
+    let mut bytes = Bytes::empty(alloc);
+    add_text(alloc, &mut bytes, text)?;
     Ok(bytes)
 }
 
@@ -56,121 +61,159 @@ pub(crate) fn words_of(alloc: Global, line: &[&str]) -> Result<Vec<Word>, Fail> 
     Ok(words)
 }
 
-/// Plays a trace by pulls and pushes of so many bytes, of which those listed fail.
-fn played(
+/// The calls that fail, counted from 1.
+#[derive(Clone, Copy)]
+pub(crate) struct Failing {
+    pub pull: Option<u64>,
+    pub push: Option<u64>,
+}
+
+impl Failing {
+    pub fn nothing() -> Failing {
+        Failing {
+            pull: None,
+            push: None,
+        }
+    }
+
+    pub fn pull(call: u64) -> Failing {
+        Failing {
+            pull: Some(call),
+            push: None,
+        }
+    }
+
+    pub fn push(call: u64) -> Failing {
+        Failing {
+            pull: None,
+            push: Some(call),
+        }
+    }
+}
+
+/// The list of one call, or of none.
+fn calls_of(alloc: Global, call: Option<u64>) -> Result<CallList, Fail> {
+    let mut calls = CallList::empty(alloc);
+    if let Some(call) = call {
+        calls.push(call)?;
+    }
+    Ok(calls)
+}
+
+/// A source of these bytes by pulls of so many, of which one may fail.
+pub(crate) fn source_of(
     alloc: Global,
-    row: &Row,
+    bytes: Bytes,
     step: usize,
-    pulls: CallList,
-    pushes: CallList,
+    failing: Failing,
+) -> Result<MemorySource, Fail>
+    requires { 0 < step }
+{
+    let failing = calls_of(alloc, failing.pull)?;
+    Ok(MemorySource::new(bytes, step, failing))
+}
+
+/// A sink by pushes of so many bytes, of which one may fail.
+pub(crate) fn sink_of(alloc: Global, step: usize, failing: Failing) -> Result<MemorySink, Fail>
+    requires { 0 < step }
+{
+    let failing = calls_of(alloc, failing.push)?;
+    Ok(MemorySink::new(alloc, step, failing))
+}
+
+/// How the program ends by its words over an input, and what it writes, by pulls and pushes of so many bytes.
+pub(crate) fn ran(
+    alloc: Global,
+    line: &[&str],
+    input: Bytes,
+    step: usize,
+    failing: Failing,
 ) -> Result<(Status, MemorySink), Fail>
     requires { 0 < step }
 {
-    let words = words_of(alloc, &["replay"])?;
-    let trace = bytes_of(alloc, row.trace)?;
-    let mut input = MemorySource::new(trace, step, pulls);
-    let mut output = MemorySink::new(alloc, step, pushes);
+    let words = words_of(alloc, line)?;
+    let mut input = source_of(alloc, input, step, failing)?;
+    let mut output = sink_of(alloc, step, failing)?;
     let status = top(alloc, &words, &mut input, &mut output);
     Ok((status, output))
-}
-
-/// The list of one number.
-pub(crate) fn only(alloc: Global, call: u64) -> Result<CallList, Fail> {
-    let mut calls = CallList::empty(alloc);
-    calls.push(call)?;
-    Ok(calls)
 }
 
 /// The trace gives its replies and its status by pulls and pushes of so many bytes.
 fn is_as_worked(alloc: Global, row: &Row, step: usize) -> Result<bool, Fail>
     requires { 0 < step }
 {
-    let none = CallList::empty(alloc);
-    let (status, output) = played(alloc, row, step, none, CallList::empty(alloc))?;
+    let trace = bytes_of(alloc, row.trace)?;
+    let (status, output) = ran(alloc, &["replay"], trace, step, Failing::nothing())?;
     let replies = bytes_of(alloc, row.replies)?;
     Ok(status == row.status && output.as_slice() == replies.as_slice())
 }
 
+fn check_row(alloc: Global, row: &Row, step: usize) -> Result<(), Fail>
+    requires { 0 < step }
+{
+    if is_as_worked(alloc, row, step)? {
+        Ok(())
+    } else {
+        Err(Fail::new(format_args!("{} by {step}", row.name)))
+    }
+}
+
+fn check_rows(alloc: Global, rows: &[Row], step: usize) -> Result<(), Fail>
+    requires { 0 < step }
+{
+    for row in rows {
+        check_row(alloc, row, step)?;
+    }
+    Ok(())
+}
+
 #[test]
 fn worked_traces(rt: HostRuntime) -> Result<(), Fail> {
-    for row in &ROWS {
-        for step in [1, 7, 4096] {
-            assert!(rt;
-                is_as_worked(rt.alloc(), row, step)?,
-                "{} by {step}",
-                row.name
-            );
-        }
+    for step in [1, 7, 4096] {
+        check_rows(rt.alloc(), first_path::rows(), step)?;
     }
     Ok(())
 }
 
 #[test]
 fn worked_traces_of_long_data(rt: HostRuntime) -> Result<(), Fail> {
-    for row in &long_data::ROWS {
-        for step in [1, 4096, 50_000] {
-            assert!(rt;
-                is_as_worked(rt.alloc(), row, step)?,
-                "{} by {step}",
-                row.name
-            );
-        }
+    for step in [1, 4096, 50_000] {
+        check_rows(rt.alloc(), long_data::rows(), step)?;
     }
     Ok(())
 }
 
 #[test]
 fn worked_traces_of_tokens(rt: HostRuntime) -> Result<(), Fail> {
-    for row in &tokens::ROWS {
-        for step in [1, 7, 4096] {
-            assert!(rt;
-                is_as_worked(rt.alloc(), row, step)?,
-                "{} by {step}",
-                row.name
-            );
-        }
+    for step in [1, 7, 4096] {
+        check_rows(rt.alloc(), tokens::rows(), step)?;
     }
     Ok(())
 }
 
 #[test]
 fn worked_traces_of_copies(rt: HostRuntime) -> Result<(), Fail> {
-    for row in &copies::ROWS {
-        assert!(rt; is_as_worked(rt.alloc(), row, 4096)?, "{}", row.name);
-    }
-    Ok(())
+    check_rows(rt.alloc(), copies::rows(), 4096)
 }
 
 #[test]
 fn worked_traces_of_operations(rt: HostRuntime) -> Result<(), Fail> {
-    for row in &operations::ROWS {
-        assert!(rt; is_as_worked(rt.alloc(), row, 65_536)?, "{}", row.name);
-    }
-    Ok(())
+    check_rows(rt.alloc(), operations::rows(), 65_536)
 }
 
 #[test]
 fn worked_traces_of_reservations(rt: HostRuntime) -> Result<(), Fail> {
-    for row in &reservations::ROWS {
-        assert!(rt; is_as_worked(rt.alloc(), row, 65_536)?, "{}", row.name);
-    }
-    Ok(())
+    check_rows(rt.alloc(), reservations::rows(), 65_536)
 }
 
 #[test]
 fn worked_trace_of_many_tokens(rt: HostRuntime) -> Result<(), Fail> {
-    for row in &evictions::ROWS {
-        assert!(rt; is_as_worked(rt.alloc(), row, 512)?, "{}", row.name);
-    }
-    Ok(())
+    check_rows(rt.alloc(), evictions::rows(), 512)
 }
 
 #[test]
 fn worked_usual_copy(rt: HostRuntime) -> Result<(), Fail> {
-    for row in &usual_copy::ROWS {
-        assert!(rt; is_as_worked(rt.alloc(), row, 512)?, "{}", row.name);
-    }
-    Ok(())
+    check_rows(rt.alloc(), usual_copy::rows(), 512)
 }
 
 /// A POPULATE TOKEN of one block with a list identifier, and its Run.
@@ -182,25 +225,31 @@ fn populate(alloc: Global, trace: &mut Bytes, id: u32) -> Result<(), Fail> {
     )?;
     trace.extend(&id.to_be_bytes())?;
     add(alloc, trace, "000000200000001e02000000012c0080000000000010")?;
-    add(alloc, trace, "00000000000000000000000100000000")?;
-    add(alloc, trace, RUN)
+    add_text(alloc, trace, "00000000000000000000000100000000 RUN")
 }
 
 /// A RECEIVE ROD TOKEN INFORMATION of a list identifier, and its Run.
 fn information(alloc: Global, trace: &mut Bytes, id: u32) -> Result<(), Fail> {
     add(alloc, trace, "010000000100000000000000000000000000008407")?;
     trace.extend(&id.to_be_bytes())?;
-    add(alloc, trace, "00000000000004000000")?;
-    add(alloc, trace, RUN)
+    add_text(alloc, trace, "00000000000004000000 RUN")
 }
 
 /// Plays bytes, and says whether these are the replies.
 fn replies_are(alloc: Global, trace: Bytes, replies: &Bytes) -> Result<bool, Fail> {
-    let words = words_of(alloc, &["replay"])?;
-    let mut input = MemorySource::new(trace, 4096, CallList::empty(alloc));
-    let mut output = MemorySink::new(alloc, 4096, CallList::empty(alloc));
-    let status = top(alloc, &words, &mut input, &mut output);
+    let (status, output) = ran(alloc, &["replay"], trace, 4096, Failing::nothing())?;
     Ok(status == Status::Done && output.as_slice() == replies.as_slice())
+}
+
+/// 257 populates, and what is told of the first and of the second.
+fn populates(alloc: Global) -> Result<Bytes, Fail> {
+    let mut trace = bytes_of(alloc, "HEADER")?;
+    for id in 0..257 {
+        populate(alloc, &mut trace, id)?;
+    }
+    information(alloc, &mut trace, 0)?;
+    information(alloc, &mut trace, 1)?;
+    Ok(trace)
 }
 
 /// 257 GOOD replies, and then those of two reports, of which the first finds no record.
@@ -209,104 +258,98 @@ fn dropped_replies(alloc: Global) -> Result<Bytes, Fail> {
     for _ in 0..257 {
         add(alloc, &mut replies, "00000001000000000000")?;
     }
-    let last = bytes_of(alloc, &operations::DROPPED)?;
-    replies.extend(last.as_slice())?;
+    add_text(alloc, &mut replies, operations::DROPPED)?;
     Ok(replies)
+}
+
+fn is_first_dropped(alloc: Global) -> Result<bool, Fail> {
+    let replies = dropped_replies(alloc)?;
+    replies_are(alloc, populates(alloc)?, &replies)
 }
 
 /// Of 257 populates the record of the first is gone, and that of the second is there.
 #[test]
 fn the_257th_record_drops_the_first(rt: HostRuntime) -> Result<(), Fail> {
-    let alloc = rt.alloc();
-    let mut trace = bytes_of(alloc, &[HEADER])?;
-    for id in 0..257 {
-        populate(alloc, &mut trace, id)?;
-    }
-    information(alloc, &mut trace, 0)?;
-    information(alloc, &mut trace, 1)?;
-    let replies = dropped_replies(alloc)?;
-    assert!(rt; replies_are(alloc, trace, &replies)?);
+    assert!(rt; is_first_dropped(rt.alloc())?);
     Ok(())
 }
 
-fn first_rounds(alloc: Global) -> Result<Bytes, Fail> {
-    bytes_of(alloc, &generated::FIRST_ROUNDS)
-}
-
-fn middle_rounds(alloc: Global) -> Result<Bytes, Fail> {
-    bytes_of(alloc, &generated::MIDDLE_ROUNDS)
-}
-
-fn last_rounds(alloc: Global) -> Result<Bytes, Fail> {
-    bytes_of(alloc, &generated::LAST_ROUNDS)
-}
-
 pub(crate) fn generated_replies(alloc: Global) -> Result<Bytes, Fail> {
-    bytes_of(alloc, &generated::REPLIES)
+    bytes_of(alloc, generated::replies())
 }
 
-/// The trace of 20 rounds, put together of its parts.
-fn worked_rounds(alloc: Global) -> Result<Bytes, Fail> {
-    let mut trace = first_rounds(alloc)?;
-    let middle = middle_rounds(alloc)?;
-    trace.extend(middle.as_slice())?;
-    let last = last_rounds(alloc)?;
-    trace.extend(last.as_slice())?;
-    Ok(trace)
-}
-
-/// The generated trace of 20 rounds is this one.
-fn is_generated(alloc: Global, trace: &[u8]) -> Result<bool, Fail> {
+/// The generated trace of 20 rounds is the worked one.
+fn is_generated(alloc: Global) -> Result<bool, Fail> {
+    let worked = bytes_of(alloc, generated::trace())?;
     let generated = generate(alloc, 20)?;
-    Ok(generated.as_slice() == trace)
+    Ok(generated.as_slice() == worked.as_slice())
+}
+
+/// The worked trace of 20 rounds has the worked replies.
+fn is_replied(alloc: Global) -> Result<bool, Fail> {
+    let trace = bytes_of(alloc, generated::trace())?;
+    let replies = generated_replies(alloc)?;
+    replies_are(alloc, trace, &replies)
 }
 
 /// The generated trace of 20 rounds, and the replies to it.
 #[test]
 fn worked_generated_trace(rt: HostRuntime) -> Result<(), Fail> {
-    let alloc = rt.alloc();
-    let trace = worked_rounds(alloc)?;
-    assert!(rt; is_generated(alloc, trace.as_slice())?);
-    let replies = generated_replies(alloc)?;
-    assert!(rt; replies_are(alloc, trace, &replies)?);
+    assert!(rt; is_generated(rt.alloc())?);
+    assert!(rt; is_replied(rt.alloc())?);
     Ok(())
+}
+
+/// Replays a row, and tells what is counted.
+fn replayed(alloc: Global, row: &Row, output: &mut MemorySink) -> Result<Summary, Fail> {
+    let trace = bytes_of(alloc, row.trace)?;
+    let mut input = source_of(alloc, trace, 4096, Failing::nothing())?;
+    Ok(replay(alloc, &mut input, output)?)
+}
+
+/// What a replay of a row counts, with the replies that were worked out.
+fn counted(alloc: Global, row: &Row) -> Result<Summary, Fail> {
+    let mut output = sink_of(alloc, 4096, Failing::nothing())?;
+    let sum = replayed(alloc, row, &mut output)?;
+    let replies = bytes_of(alloc, row.replies)?;
+    if output.as_slice() == replies.as_slice() {
+        Ok(sum)
+    } else {
+        Err(Fail::new("other replies"))
+    }
 }
 
 /// What a replay counts in a trace with one reply GOOD and one CHECK CONDITION.
 #[test]
 fn a_replay_counts(rt: HostRuntime) -> Result<(), Fail> {
-    let alloc = rt.alloc();
-    let row = &ROWS[4];
-    let mut input = MemorySource::new(bytes_of(alloc, row.trace)?, 4096, CallList::empty(alloc));
-    let mut output = MemorySink::new(alloc, 4096, CallList::empty(alloc));
-    match replay(alloc, &mut input, &mut output) {
-        Ok(sum) => {
-            let items = [sum.records, sum.steps, sum.bytes];
-            let replies = [sum.replies, sum.good, sum.check, sum.busy, sum.full];
-            assert!(rt; items == [4, 2, 550] && replies == [2, 1, 1, 0, 0]);
-        }
-        Err(fault) => assert!(rt; false, "{fault}"),
-    }
-    let replies = bytes_of(alloc, row.replies)?;
-    assert!(rt; output.as_slice() == replies.as_slice());
+    let row = named(first_path::rows(), "read at the end, and past it")?;
+    let sum = counted(rt.alloc(), row)?;
+    assert!(rt; [sum.records, sum.steps, sum.bytes] == [4, 2, 550]);
+    assert!(rt; [sum.replies, sum.good, sum.check, sum.busy, sum.full] == [2, 1, 1, 0, 0]);
     Ok(())
 }
 
-/// Each pull of 'write then read' fails once: what was taken are the replies to what was pulled.
+/// How 'write then read' ends by pulls and pushes of 100 bytes, and how many bytes of its replies were taken.
+fn ends_at(alloc: Global, failing: Failing) -> Result<(Status, usize), Fail> {
+    let row = named(first_path::rows(), "write then read")?;
+    let trace = bytes_of(alloc, row.trace)?;
+    let (status, output) = ran(alloc, &["replay"], trace, 100, failing)?;
+    let replies = bytes_of(alloc, row.replies)?;
+    if replies.as_slice().starts_with(output.as_slice()) {
+        Ok((status, output.as_slice().len()))
+    } else {
+        Err(Fail::new("what was taken is no beginning of the replies"))
+    }
+}
+
+/// Each pull fails once: what was taken are the replies to what was pulled.
 #[test]
 fn failing_pulls(rt: HostRuntime) -> Result<(), Fail> {
-    let alloc = rt.alloc();
-    let row = &ROWS[3];
-    let replies = bytes_of(alloc, row.replies)?;
     for call in 1..14u64 {
-        let failing = only(alloc, call)?;
-        let (status, output) = played(alloc, row, 100, failing, CallList::empty(alloc))?;
+        let (status, taken) = ends_at(rt.alloc(), Failing::pull(call))?;
+        let wanted = if call < 13 { 0 } else { 1556 };
         assert!(rt; status == Status::ReadFault, "{call}: {status}");
-        let taken = match call {
-            ..=12 => 0,
-            _ => replies.len(),
-        };
-        assert!(rt; output.as_slice() == &replies.as_slice()[..taken], "{call}");
+        assert!(rt; taken == wanted, "{call}: {taken}");
     }
     Ok(())
 }
@@ -314,124 +357,38 @@ fn failing_pulls(rt: HostRuntime) -> Result<(), Fail> {
 /// Each push fails once: what was taken is a beginning of the replies.
 #[test]
 fn failing_pushes(rt: HostRuntime) -> Result<(), Fail> {
-    let alloc = rt.alloc();
-    let row = &ROWS[3];
-    let replies = bytes_of(alloc, row.replies)?;
     for call in 1..17u64 {
-        let failing = only(alloc, call)?;
-        let (status, output) = played(alloc, row, 100, CallList::empty(alloc), failing)?;
+        let (status, taken) = ends_at(rt.alloc(), Failing::push(call))?;
         assert!(rt; status == Status::WriteFault, "{call}: {status}");
-        assert!(rt; replies.as_slice().starts_with(output.as_slice()), "{call}");
-        assert!(rt; output.as_slice().len() < replies.len(), "{call}");
+        assert!(rt; taken < 1556, "{call}: {taken}");
     }
     Ok(())
 }
 
-/// Memory that is ready is taken, and as much is ordered again; where what is ready is of another
-/// length, new memory comes.
-#[test]
-fn ready_memory_is_given(rt: HostRuntime) -> Result<(), Fail> {
-    let alloc = rt.alloc();
-    let (orders, mut ordered) = RingBuffer::new(alloc, 2)?;
-    let (mut made, ready) = RingBuffer::with_protocol::<Global, Empty>(alloc, 2)?;
-    let parker = Parker::new();
-    let mut memory = ReadyMemory::new(alloc, orders, ready, &parker);
-    assert!(rt; made.push(Vec::with_capacity(alloc, 100)?).is_ok());
-    for bytes in [100, 200] {
-        let room = memory.room(bytes)?;
-        assert!(rt; room.is_empty() && room.capacity() >= bytes);
-        assert!(rt; made.slots() == 2 && ordered.pop() == Ok(bytes));
-    }
-    Ok(())
-}
-
-/// What is ordered is made ready by another thread, which ends when no one orders any more.
-#[test]
-fn memory_is_made_ready(rt: HostRuntime) -> Result<(), Fail> {
-    let alloc = rt.alloc();
-    let (mut orders, mut ordered) = RingBuffer::new(alloc, 2)?;
-    let (mut made, mut ready) = RingBuffer::with_protocol::<Global, Empty>(alloc, 2)?;
-    assert!(rt; orders.push(100_000).is_ok());
-    let parker = Parker::new();
-    let maker = &parker;
-    thread::join(
-        &rt,
-        move || {
-            drop(orders);
-            maker.unpark();
-        },
-        || make_ready(&rt, alloc, &mut ordered, &mut made, maker),
-    );
-    match ready.pop() {
-        Ok(room) => assert!(rt; room.is_empty() && room.capacity() >= 100_000),
-        Err(_) => assert!(rt; false, "nothing was made ready"),
-    }
-    Ok(())
-}
-
-/// Plays a trace over memory that is made ready, and then ends its orders.
-fn plays(
+/// Whether the program ends so by its words, over a trace that it could read, and writes this text by pushes of 7 bytes.
+fn says(
     alloc: Global,
-    mut memory: ReadyMemory<'_>,
-    words: Vec<Word>,
-    mut input: MemorySource,
-) -> (Status, MemorySink) {
-    let mut output = MemorySink::new(alloc, 50_000, CallList::empty(alloc));
-    let status = top_with(alloc, &mut memory, &words, &mut input, &mut output);
-    memory.close();
-    (status, output)
-}
-
-/// Whether a trace gives its replies and its status while another thread makes memory ready.
-fn is_played_ready<R: Threads + Wait + Sync>(
-    rt: &R,
-    alloc: Global,
-    row: &Row,
+    line: &[&str],
+    failing: Failing,
+    end: Status,
+    text: &str,
 ) -> Result<bool, Fail> {
-    let (orders, mut ordered) = RingBuffer::new(alloc, 2)?;
-    let (mut made, ready) = RingBuffer::with_protocol::<Global, Empty>(alloc, 2)?;
-    let parker = Parker::new();
-    let maker = &parker;
-    let memory = ReadyMemory::new(alloc, orders, ready, maker);
-    let words = words_of(alloc, &["replay"])?;
+    let row = named(first_path::rows(), "write then read")?;
     let trace = bytes_of(alloc, row.trace)?;
-    let input = MemorySource::new(trace, 50_000, CallList::empty(alloc));
-    let ((status, output), ()) = thread::join(
-        rt,
-        move || plays(alloc, memory, words, input),
-        || make_ready(rt, alloc, &mut ordered, &mut made, maker),
-    );
-    let replies = bytes_of(alloc, row.replies)?;
-    Ok(status == row.status && output.as_slice() == replies.as_slice())
+    let (status, output) = ran(alloc, line, trace, 7, failing)?;
+    Ok(status == end && output.as_slice() == text.as_bytes())
 }
 
-#[test]
-fn worked_traces_over_ready_memory(rt: HostRuntime) -> Result<(), Fail> {
-    for row in &long_data::ROWS {
-        assert!(rt; is_played_ready(&rt, rt.alloc(), row)?, "{}", row.name);
-    }
-    Ok(())
-}
-
-/// What the program does by its words, over a trace that it could read and an output that fails at the listed
-/// pushes.
-fn said(alloc: Global, line: &[&str], pushes: CallList) -> Result<(Status, MemorySink), Fail> {
-    let words = words_of(alloc, line)?;
-    let trace = bytes_of(alloc, ROWS[3].trace)?;
-    let mut input = MemorySource::new(trace, 4096, CallList::empty(alloc));
-    let mut output = MemorySink::new(alloc, 7, pushes);
-    let status = top(alloc, &words, &mut input, &mut output);
-    Ok((status, output))
+fn says_rounds(alloc: Global, rounds: &str, lines: &str) -> Result<bool, Fail> {
+    let line = ["gen", rounds];
+    says(alloc, &line, Failing::nothing(), Status::Done, lines)
 }
 
 /// Generated traces are played, and what they did is told.
 #[test]
 fn generated_rounds(rt: HostRuntime) -> Result<(), Fail> {
-    let alloc = rt.alloc();
-    for (rounds, lines) in GENERATED {
-        let (status, output) = said(alloc, &["gen", rounds], CallList::empty(alloc))?;
-        assert!(rt; status == Status::Done, "{rounds}: {status}");
-        assert!(rt; output.as_slice() == lines.as_bytes(), "{rounds}");
+    for (rounds, lines) in words::generated() {
+        assert!(rt; says_rounds(rt.alloc(), rounds, lines)?, "{rounds}");
     }
     Ok(())
 }
@@ -439,21 +396,21 @@ fn generated_rounds(rt: HostRuntime) -> Result<(), Fail> {
 /// The third push of what is told fails: what was taken is a beginning of it.
 #[test]
 fn generated_rounds_that_are_not_told(rt: HostRuntime) -> Result<(), Fail> {
-    let alloc = rt.alloc();
-    let (status, output) = said(alloc, &["gen", "1"], only(alloc, 3)?)?;
-    assert!(rt; status == Status::WriteFault);
-    assert!(rt; output.as_slice() == b"records 12\nrep".as_slice());
+    let line = ["gen", "1"];
+    let end = Status::WriteFault;
+    assert!(rt; says(rt.alloc(), &line, Failing::push(3), end, "records 12\nrep")?);
     Ok(())
+}
+
+fn is_usage(alloc: Global, line: &[&str]) -> Result<bool, Fail> {
+    says(alloc, line, Failing::nothing(), Status::Usage, "")
 }
 
 /// Other words are Usage, and nothing is taken.
 #[test]
 fn other_words(rt: HostRuntime) -> Result<(), Fail> {
-    let alloc = rt.alloc();
-    for line in OTHER {
-        let (status, output) = said(alloc, line, CallList::empty(alloc))?;
-        assert!(rt; status == Status::Usage, "{}", line.len());
-        assert!(rt; output.as_slice().is_empty());
+    for line in words::other() {
+        assert!(rt; is_usage(rt.alloc(), line)?, "{}", line.len());
     }
     Ok(())
 }

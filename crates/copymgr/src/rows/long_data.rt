@@ -1,46 +1,31 @@
-// Worked traces of a data-out that does not fit in one pull.
+// Worked traces of a data-out that does not fit in one pull: a WRITE(16) of 129 blocks at 0, to one unit of 200 blocks
+// of 512 bytes, and a READ(16) of as many.
 
 use super::Row;
 use crate::status::Status;
 
-/// One unit of 200 blocks of 512 bytes.
-const HEADER: &str =
-    "434d545241434531000102030405060708090a0b0c0d0e0f101112131415161718191a1b1c1d1e1f0001\
-00000000000000c8000002000000100000000000000000c81000000000000000";
+pub fn rows() -> &'static [Row] {
+    &ROWS
+}
 
-/// A Begin of a WRITE(16) of 129 blocks at 0, without its 66,048 bytes of data-out.
-const WRITE_BEGINS: &str = "010000000100000000000000000001020000008a000000000000000000000000810000";
-
-/// A Begin of a READ(16) of 129 blocks at 0.
-const READ_BEGINS: &str = "0100000001000000000000000000000000000088000000000000000000000000810000";
-
-/// A Run of initiator 1.
-const RUN: &str = "02000000010000000000000000";
-
-pub const ROWS: [Row; 2] = [
+static ROWS: [Row; 2] = [
     Row {
         name: "long write then read",
-        trace: &[
-            HEADER,
-            WRITE_BEGINS,
-            "11*66047",
-            "22",
-            RUN,
-            READ_BEGINS,
-            RUN,
-        ],
-        replies: &[
-            "00000001000000000000",
-            "00000001000000010200",
-            "11*66047",
-            "22",
-        ],
+        trace: "\
+            434d545241434531000102030405060708090a0b0c0d0e0f101112131415161718191a1b1c1d1e1f0001 \
+            00000000000000c8000002000000100000000000000000c81000000000000000 \
+            010000000100000000000000000001020000008a000000000000000000000000810000 11*66047 22 RUN \
+            0100000001000000000000000000000000000088000000000000000000000000810000 RUN",
+        replies: "00000001000000000000 00000001000000010200 11*66047 22",
         status: Status::Done,
     },
     Row {
         name: "cut before the last byte of a long write",
-        trace: &[HEADER, WRITE_BEGINS, "11*66047"],
-        replies: &[],
+        trace: "\
+            434d545241434531000102030405060708090a0b0c0d0e0f101112131415161718191a1b1c1d1e1f0001 \
+            00000000000000c8000002000000100000000000000000c81000000000000000 \
+            010000000100000000000000000001020000008a000000000000000000000000810000 11*66047",
+        replies: "",
         status: Status::Torn(74),
     },
 ];

@@ -14,11 +14,49 @@ pub mod usual_copy;
 pub mod words;
 
 use crate::status::Status;
+use std::test::Fail;
 
-/// One trace. Its bytes are pieces of hex text; `11*512` is the byte 11h 512 times.
+/// One trace. Its bytes are words of hex text; `11*512` is the byte 11h 512 times, and the name of a constant stands
+/// for its text.
 pub struct Row {
     pub name: &'static str,
-    pub trace: &'static [&'static str],
-    pub replies: &'static [&'static str],
+    pub trace: &'static str,
+    pub replies: &'static str,
     pub status: Status,
+}
+
+/// One unit of 100 blocks of 512 bytes; the secret is the bytes 00h to 1Fh.
+const HEADER: &str =
+    "434d545241434531000102030405060708090a0b0c0d0e0f101112131415161718191a1b1c1d1e1f0001\
+0000000000000064000002000010000000000000000000641000000000000000";
+
+/// Three units of 1,048,576 blocks of 512 bytes, of which the last is of another group.
+const THREE_UNITS: &str =
+    "434d545241434531000102030405060708090a0b0c0d0e0f101112131415161718191a1b1c1d1e1f0003\
+0000000000100000000002000010000000000000001000001000000000000000\
+0000000000100000000002000010000000000000001000001000000000000000\
+0000000000100000000002000010000000000000001000001000000001000000";
+
+/// A Run of initiator 1.
+const RUN: &str = "02000000010000000000000000";
+
+/// The hex text that a word of a trace stands for.
+pub fn hex_text(word: &str) -> &str {
+    match word {
+        "HEADER" => HEADER,
+        "JOB" => host_copies::JOB,
+        "RUN" => RUN,
+        "THREE_UNITS" => THREE_UNITS,
+        _ => word,
+    }
+}
+
+/// The row of a name.
+pub fn named(rows: &'static [Row], name: &str) -> Result<&'static Row, Fail> {
+    for row in rows {
+        if row.name == name {
+            return Ok(row);
+        }
+    }
+    Err(Fail::new("no row has this name"))
 }

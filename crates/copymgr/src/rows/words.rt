@@ -1,7 +1,15 @@
 // Words, and what the program says to them.
 
+pub fn generated() -> &'static [(&'static str, &'static str)] {
+    &GENERATED
+}
+
+pub fn other() -> &'static [&'static [&'static str]] {
+    &OTHER
+}
+
 /// Numbers of rounds, each with what is counted in the generated trace of so many.
-pub const GENERATED: [(&str, &str); 3] = [
+static GENERATED: [(&str, &str); 3] = [
     (
         "1",
         "records 12\nreplies 5\ngood 5\ncheck 0\nbusy 0\nfull 0\nsteps 7\nbytes 4182\n",
@@ -17,7 +25,7 @@ pub const GENERATED: [(&str, &str); 3] = [
 ];
 
 /// Words that the program doesn't know.
-pub const OTHER: [&[&str]; 28] = [
+static OTHER: [&[&str]; 28] = [
     &[],
     &[""],
     &["Replay"],
