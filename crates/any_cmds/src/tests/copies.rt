@@ -1,4 +1,6 @@
-use super::script::{Came, End, GOOD, Seen, cut, plays, tells};
+use super::outcomes::Came;
+use super::script::{cut, plays, tells};
+use super::seen::{End, GOOD, Seen};
 use cm_base::{Bytes, Payload, set_u16, set_u32, set_u64};
 use scsi_cdb::{Cdb, encode};
 use scsi_sense::Sense;

@@ -1,4 +1,6 @@
-use super::script::{BLOCK, Came, GOOD, Seen, answers, cut, does, plays};
+use super::outcomes::{BLOCK, Came};
+use super::script::{answers, cut, does, plays};
+use super::seen::{GOOD, Seen};
 use cm_base::{Config, Payload, UnitConfig, UnitList};
 use cm_frame::Request;
 use scsi_cdb::{Cdb, encode};

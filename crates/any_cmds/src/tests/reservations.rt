@@ -1,6 +1,8 @@
 ghost use Rattle.std.specs.Prelude.{◌<◌};
 
-use super::script::{Came, GOOD, Seen, cut, plays, tells};
+use super::outcomes::Came;
+use super::script::{cut, plays, tells};
+use super::seen::{GOOD, Seen};
 use cm_base::Payload;
 use pr_keys::{OutList, write_out_list};
 use scsi_cdb::{Cdb, encode};

@@ -1,4 +1,6 @@
-use super::script::{Came, GOOD, Seen, cut, plays, tells};
+use super::outcomes::Came;
+use super::script::{cut, plays, tells};
+use super::seen::{GOOD, Seen};
 use cm_base::{Payload, set_u16, set_u32, set_u64};
 use cm_history::OpState;
 use scsi_cdb::{Cdb, encode};

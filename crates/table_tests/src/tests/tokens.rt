@@ -232,21 +232,21 @@ fn tell(store: &mut RodStore<u64>, config: &Config, step: Step) -> Result<Told, 
             let text = named(config, serial, 1)?;
             Ok(peek(store, config, moment, &text, 0))
         }
-        other => Ok(tell_at_once(store, other)),
+        other => tell_at_once(store, other),
     }
 }
 
-/// The same where no memory is wanted.
-fn tell_at_once(store: &mut RodStore<u64>, step: Step) -> Told
+/// The same of the steps that want no memory.
+fn tell_at_once(store: &mut RodStore<u64>, step: Step) -> Result<Told, Fail>
     ensures unit { store.new.unit ≡ store.old.unit }
 {
     match step {
-        Step::Delete { serial } => Told::Value(delete(store, serial)),
-        Step::Expire { moment } => Told::Value(expire(store, moment)),
-        Step::Settle { moment } => Told::Count(settle(store, moment)),
-        Step::Live => Told::Count(u64::from(store.live())),
-        Step::NextSerial => Told::Count(store.next_serial()),
-        _ => Told::Done,
+        Step::Delete { serial } => Ok(Told::Value(delete(store, serial))),
+        Step::Expire { moment } => Ok(Told::Value(expire(store, moment))),
+        Step::Settle { moment } => Ok(Told::Count(settle(store, moment))),
+        Step::Live => Ok(Told::Count(u64::from(store.live()))),
+        Step::NextSerial => Ok(Told::Count(store.next_serial())),
+        _ => Err(Fail::new("no unit has the target")),
     }
 }
 

@@ -51,18 +51,18 @@ pub(crate) enum Step {
 }
 
 /// What the unit has, where a step asks for that.
-fn seen(unit: &Unit, recorder: &MemoryRecorder, step: Step) -> Told {
+fn seen(unit: &Unit, recorder: &MemoryRecorder, step: Step) -> Result<Told, Fail> {
     match step {
-        Step::Live => Told::Count(u64::from(unit.live())),
-        Step::Kept => Told::Count(unit.kept()),
-        Step::Dropped => Told::Count(unit.folded()),
-        Step::Recorded => Told::Count(recorder.entries().len() as u64),
-        Step::Mapped => Told::Count(unit.mapped()),
-        Step::Stored => Told::Count(unit.stored()),
-        Step::Runs(copy, id) => Told::Runs(unit.runs(Actor::Nexus(1), copy, id)),
-        Step::Unended => unended(unit),
-        Step::LastStamp => Told::Count(unit.last_stamp()),
-        _ => Told::Other,
+        Step::Live => Ok(Told::Count(u64::from(unit.live()))),
+        Step::Kept => Ok(Told::Count(unit.kept())),
+        Step::Dropped => Ok(Told::Count(unit.folded())),
+        Step::Recorded => Ok(Told::Count(recorder.entries().len() as u64)),
+        Step::Mapped => Ok(Told::Count(unit.mapped())),
+        Step::Stored => Ok(Told::Count(unit.stored())),
+        Step::Runs(copy, id) => Ok(Told::Runs(unit.runs(Actor::Nexus(1), copy, id))),
+        Step::Unended => Ok(unended(unit)),
+        Step::LastStamp => Ok(Told::Count(unit.last_stamp())),
+        _ => Err(Fail::new("the step asks for nothing that a unit has")),
     }
 }
 
@@ -161,7 +161,7 @@ fn told(
         Step::Close => Ok(close_copy(unit)),
         Step::Fold => Ok(fold(unit, recorder)),
         Step::FoldNowhere => Ok(fold_nowhere(unit)),
-        _ => Ok(seen(unit, recorder, step)),
+        _ => seen(unit, recorder, step),
     }
 }
 
