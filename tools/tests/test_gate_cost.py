@@ -4,6 +4,7 @@ import contextlib
 import io
 import os
 import pathlib
+import signal
 import sys
 import tempfile
 import unittest
@@ -26,15 +27,19 @@ exit 3
 CRATES = "low: bytes\n# of all\nhigh: low bytes\n"
 
 
+# a gate that checks a crate, interrupts the tool, and has no end
+ENDLESS = RT.split("python3 -c \"$work\" build --crate-name low --test")[0] + f"kill -$SIGNAL {os.getpid()}\nsleep 600\n"
+
+
 class GateCost(unittest.TestCase):
-    def cost(self, *names):
+    def cost(self, *names, gate=RT):
         """The table, what was said, the exit status, and the words of the gate."""
         tool = support.tool("gate-cost")
         with tempfile.TemporaryDirectory() as name, contextlib.ExitStack() as stack:
             top = pathlib.Path(name)
             for path in ("bin", "crates/low/must-fail", "crates/high", "edit"):
                 (top / path).mkdir(parents=True)
-            (top / "bin/rt").write_text(RT)
+            (top / "bin/rt").write_text(gate)
             (top / "bin/rt").chmod(0o755)
             (top / "crates.txt").write_text(CRATES)
             (top / "crates/low/must-fail/wrong.edit").write_text("")
@@ -62,6 +67,13 @@ class GateCost(unittest.TestCase):
 
     def test_what_earlier_runs_passed_may_be_kept(self):
         self.assertEqual(self.cost("--kept")[3], ["ci"])
+
+    def test_at_an_interrupt_what_was_seen_is_told(self):
+        for number in (signal.SIGINT, signal.SIGTERM):
+            with unittest.mock.patch.dict(os.environ, {"SIGNAL": str(number.value)}):
+                table, _, status, ran = self.cost("low", gate=ENDLESS)
+            self.assertEqual((status, ran), (130, ["ci", "low", "--anew"]))
+            self.assertEqual(table[2], "| low | 1 | 0 | 0 | 1 |")
 
     def test_a_crate_that_is_none_is_refused(self):
         _, said, status, ran = self.cost("none")
