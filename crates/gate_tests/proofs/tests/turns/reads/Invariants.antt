@@ -1,5 +1,5 @@
 use Rattle.std.proofs.Common.{◌≡◌, false}
-use Rattle.gate_tests.proofs.tests.reads.Given as goal
+use Rattle.gate_tests.proofs.tests.turns.reads.Given as goal
 
 abbrev pub invariant-loop-seq : goal.invariant-loop-seq
 invariant-loop-seq l = record {

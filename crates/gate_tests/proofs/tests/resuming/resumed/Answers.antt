@@ -12,7 +12,7 @@ use Rattle.unit_gate.specs.declared.resuming.ResumeRefused.{ResumeRefused}
 use Rattle.unit_gate.specs.Opening.{IsGiven, opening_entries}
 use Rattle.unit_gate.specs.Recorded.{HasRecorded}
 use Rattle.unit_gate.proofs.PublicLaws.{opening-recorded}
-use Rattle.gate_tests.proofs.tests.resumed.Goals as goal
+use Rattle.gate_tests.proofs.tests.resuming.resumed.Goals as goal
 
 given-one : (config : Configuration) (number : ℕ) (act : Act) (h : List Entry) → length config.units ≡ 1 → within_limits config 0 act ≡ true → may_ask 0 (Actor.Nexus number) act ≡ true
     → h ≡ record { stamp = 1; unit = 0; actor = Actor.Nexus number; seq = 0; moment = 0; act = act } ∷ [] → IsGiven config 0 h

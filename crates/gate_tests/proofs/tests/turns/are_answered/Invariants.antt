@@ -1,5 +1,5 @@
 use Rattle.std.proofs.Common.{◌≡◌, false}
-use Rattle.gate_tests.proofs.tests.are_answered.Given as goal
+use Rattle.gate_tests.proofs.tests.turns.are_answered.Given as goal
 
 abbrev pub invariant-loop-step : goal.invariant-loop-step
 invariant-loop-step l = record {
