@@ -63,6 +63,6 @@ IsGreedy from first [] = Unit {0}
 IsGreedy from first (end ∷ ends) = IsLongestRun from first part_limit (end - first) × IsGreedy from end ends
 
 -- where a cursor over blocks stands: before the block at `place`
-pub record Standing : Type 0 where
+pub record Cursor : Type 0 where
   pub extents : List Range
   pub place : ℕ

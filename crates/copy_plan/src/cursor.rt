@@ -21,9 +21,9 @@ pub struct ExtentCursor<'a> {
 }
 
 impl<'a> Model for ExtentCursor<'a> {
-    ghost use Rattle.copy_plan.specs.Plans.{Standing};
+    ghost use Rattle.copy_plan.specs.Plans.{Cursor};
 
-    ghost Value = { Standing };
+    ghost Value = { Cursor };
 
     ghost use Rattle.copy_plan.specs.inner.Cursors.{IsCursor};
 

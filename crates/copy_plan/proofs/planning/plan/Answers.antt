@@ -1,6 +1,6 @@
 use Rattle.std.proofs.Common.{◌≡◌, ◌+◌, ◌-◌, [], ◌∷◌, ◌++◌, ℕ, length, arith, length-append, ap, ◌∙◌}
 use Rattle.lba_ranges.specs.Denoted.{total}
-use Rattle.copy_plan.specs.Plans.{Standing, part_limit, IsLongestRun}
+use Rattle.copy_plan.specs.Plans.{Cursor, part_limit, IsLongestRun}
 use Rattle.copy_plan.proofs.Cuts.{ahead-more, cut-push, greedy-push, run-part, run-none}
 use Rattle.copy_plan.proofs.planning.plan.Goals as goal
 
@@ -15,8 +15,8 @@ loop-cursor-preserved c =
     let there = run.there in
     let some = part.some in
     let length_is : place + n - place ≡ n = omega arith in
-    let stands : c.pass.new.self.place ≡ place + n = ap (λ (s : Standing). s.place) c.pass.ensures.passed in
-    let list : c.pass.new.self.extents ≡ from = ap (λ (s : Standing). s.extents) c.pass.ensures.passed ∙ c.loop-cursor.invariant.extents in
+    let stands : c.pass.new.self.place ≡ place + n = ap (λ (s : Cursor). s.place) c.pass.ensures.passed in
+    let list : c.pass.new.self.extents ≡ from = ap (λ (s : Cursor). s.extents) c.pass.ensures.passed ∙ c.loop-cursor.invariant.extents in
     let pushed : c.push.new.self ≡ ends ++ (place + n) ∷ [] = c.in_ok-push.ensures.ok ∙ ap (λ (e : ℕ). ends ++ e ∷ []) (c.place.ensures.place ∙ stands) in
     let more : length (ends ++ (place + n) ∷ []) ≡ length ends + 1 = length-append ends ((place + n) ∷ []) in
     rw (stands, pushed) (record {

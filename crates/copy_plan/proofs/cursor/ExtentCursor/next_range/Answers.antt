@@ -2,7 +2,7 @@ use Rattle.std.proofs.Common.{◌≡◌, ◌+◌, ◌<◌, ◌≤◌, [], ◌∷
 use Rattle.std.proofs.lemmas.Option.{slice_get-get_or, slice_get_past}
 use Rattle.lba_ranges.specs.declared.ranges.Range.{Range}
 use Rattle.lba_ranges.specs.Denoted.{total}
-use Rattle.copy_plan.specs.Plans.{Standing, ranges_between}
+use Rattle.copy_plan.specs.Plans.{Cursor, ranges_between}
 use Rattle.copy_plan.proofs.Overlaps.{no_range}
 use Rattle.copy_plan.proofs.Between.{between-empty}
 use Rattle.copy_plan.proofs.Cursors.{at-inside, at-next, at-blocks, at-end, at-within}
@@ -40,7 +40,7 @@ pub returns-then-self-clause-none : goal.returns-then-self-clause-none
 returns-then-self-clause-none c =
     let extents = c.self.inside.extents.now in
     let past = slice_get_past extents c.self.inside.index (omega arith) in
-    subst (λ (s : Standing). ranges_between s.extents s.place (s.place + c.args.most) ≡ []) c.self.view_is
+    subst (λ (s : Cursor). ranges_between s.extents s.place (s.place + c.args.most) ≡ []) c.self.view_is
     (at-end extents c.self.inside.index c.self.inside.passed c.self.inside.place c.args.most c.self.invariant past)
 
 pub returns-then-count-eq0-clause-none : goal.returns-then-count-eq0-clause-none
@@ -58,7 +58,7 @@ returns-then-count-left-clause-next c =
     let there = slice_get-get_or extents c.self.inside.index no_range within in
     let inside = c.self.invariant.inside _ there in
     let next = at-blocks extents c.self.inside.index c.self.inside.passed c.self.inside.place c.args.most c.min-count.result _ c.self.invariant there (omega arith) (omega arith) in
-    rw c.from-2.ensures (subst (λ (s : Standing). ranges_between s.extents s.place (s.place + c.args.most) ≡ part_from (get_or extents c.self.inside.index no_range) c.self.inside.passed c.min-count.result ∷ ranges_between s.extents (s.place + c.min-count.result) (s.place + c.args.most)) c.self.view_is next)
+    rw c.from-2.ensures (subst (λ (s : Cursor). ranges_between s.extents s.place (s.place + c.args.most) ≡ part_from (get_or extents c.self.inside.index no_range) c.self.inside.passed c.min-count.result ∷ ranges_between s.extents (s.place + c.min-count.result) (s.place + c.args.most)) c.self.view_is next)
 
 pub returns-else-count-left-clause-next : goal.returns-else-count-left-clause-next
 returns-else-count-left-clause-next c =
@@ -67,8 +67,8 @@ returns-else-count-left-clause-next c =
     let there = slice_get-get_or extents c.self.inside.index no_range within in
     let inside = c.self.invariant.inside _ there in
     let next = at-blocks extents c.self.inside.index c.self.inside.passed c.self.inside.place c.args.most c.min-count.result _ c.self.invariant there (omega arith) (omega arith) in
-    rw c.from-2.ensures (subst (λ (s : Standing). ranges_between s.extents s.place (s.place + c.args.most) ≡ part_from (get_or extents c.self.inside.index no_range) c.self.inside.passed c.min-count.result ∷ ranges_between s.extents (s.place + c.min-count.result) (s.place + c.args.most)) c.self.view_is next)
+    rw c.from-2.ensures (subst (λ (s : Cursor). ranges_between s.extents s.place (s.place + c.args.most) ≡ part_from (get_or extents c.self.inside.index no_range) c.self.inside.passed c.min-count.result ∷ ranges_between s.extents (s.place + c.min-count.result) (s.place + c.args.most)) c.self.view_is next)
 
 pub returns-then-count-eq0-clause-there : goal.returns-then-count-eq0-clause-there
 returns-then-count-eq0-clause-there c =
-    subst (λ (s : Standing). s.place ≤ total s.extents) c.self.view_is (at-within _ _ _ _ c.self.invariant)
+    subst (λ (s : Cursor). s.place ≤ total s.extents) c.self.view_is (at-within _ _ _ _ c.self.invariant)

@@ -1,7 +1,7 @@
 use Rattle.std.proofs.Common.{◌≡◌, List, [], ◌∷◌, suc, ◌+◌, ◌-◌, ◌≤◌, ◌++◌, length, take, arith, sym, ap, ◌∙◌, append-nil, append_assoc, length-append}
 use Rattle.lba_ranges.specs.declared.ranges.Range.{Range}
 use Rattle.lba_ranges.specs.Denoted.{total, blocks_of}
-use Rattle.copy_plan.specs.Plans.{Standing, ranges_between, longest_run}
+use Rattle.copy_plan.specs.Plans.{Cursor, ranges_between, longest_run}
 use Rattle.std.proofs.lemmas.List.Sums.{sum_by_push}
 use Rattle.copy_plan.proofs.Runs.{take-next, take-none, run-longest, run-between, blocks-between}
 use Rattle.copy_plan.proofs.cursor.ExtentCursor.next_ranges.Goals as goal
@@ -45,13 +45,13 @@ done c =
           let none : 64 - c.loop.counter ≡ 0 = omega arith in
           let run : c.loop.room.items ++ [] ≡ longest_run c.args.self.now.extents c.args.self.now.place c.args.most = rw none at c.loop.invariant.run in
           let there = c.loop.invariant.there (omega arith) in
-          (w.ranges-is ∙ sym (append-nil c.loop.room.items) ∙ run, ap (λ (s : Standing). s.place) w.self-is ∙ c.loop.invariant.passed ∙ ap (λ rs. c.args.self.now.place + total rs) (sym w.ranges-is), there)
+          (w.ranges-is ∙ sym (append-nil c.loop.room.items) ∙ run, ap (λ (s : Cursor). s.place) w.self-is ∙ c.loop.invariant.passed ∙ ap (λ rs. c.args.self.now.place + total rs) (sym w.ranges-is), there)
       | then-loop-test+in-None w ↦
           let nothing = take-none (64 - c.loop.counter) _ w.in-None.ensures.none in
           let run : c.loop.room.items ++ [] ≡ longest_run c.args.self.now.extents c.args.self.now.place c.args.most = rw nothing at c.loop.invariant.run in
           let far : c.loop.self.place ≤ total c.args.self.now.extents = rw c.loop.invariant.list at w.in-None.ensures.there in
           let stands : c.loop-test.self ≡ c.loop.self = w.self-is ∙ w.in-None.ensures.same in
-          (w.ranges-is ∙ sym (append-nil c.loop.room.items) ∙ run, ap (λ (s : Standing). s.place) stands ∙ c.loop.invariant.passed ∙ ap (λ rs. c.args.self.now.place + total rs) (sym w.ranges-is), omega arith)
+          (w.ranges-is ∙ sym (append-nil c.loop.room.items) ∙ run, ap (λ (s : Cursor). s.place) stands ∙ c.loop.invariant.passed ∙ ap (λ rs. c.args.self.now.place + total rs) (sym w.ranges-is), omega arith)
     ]
 
 pub returns-clause-run : goal.returns-clause-run
