@@ -18,7 +18,7 @@ pub mod Makers
 pub mod Owned
 pub mod Runs
 pub mod Folding
-pub mod Wording
+pub mod Words
 pub mod Sent
 pub mod Counting
 pub mod WorldServed

@@ -12,7 +12,7 @@ pub mod NotDone
 pub mod Staying
 pub mod Keeping
 pub mod Opening
-pub mod GoingOn
+pub mod Resumed
 pub mod Made
 pub mod Entering
 pub mod Leaving

@@ -28,7 +28,7 @@ use Rattle.odx_host.specs.Ruled.{AreAsked, after}
 use Rattle.odx_host.specs.Copies.{Copies, Placed, IsOwn, is_start, written_of}
 use Rattle.odx_host.proofs.Ran.{RanIn, never-refused}
 use Rattle.odx_host.proofs.Programs.{MayName, write-program, not-there}
-use Rattle.odx_host.proofs.Telling.{length-text}
+use Rattle.odx_host.proofs.Reports.{length-text}
 use Rattle.odx_host.proofs.Redeeming.{at-whole, take-whole, text-names, text-serial, rod-shown}
 use Rattle.odx_host.proofs.Starting.{write-begun}
 use Rattle.odx_host.proofs.Work.{work}

@@ -102,11 +102,11 @@ module _ (config : Configuration) (unit : ℕ) (places blocks : List ℕ) (items
                   let before = or-right (is_written (work past place) block) (is_written (shared d.served place d.wrote) block) both (not-shared d.served place block d.wrote writes) in
                   after-unwritten d.wrote block (held past block) writes ∙ was place block i j before
 
-  onward : (h rest : List Entry) → h ++ rest ≡ all → length base ≤ length h → Holds h → Holds all
-  onward h [] whole from was = subst Holds (sym (append-nil h) ∙ whole) was
-  onward h (e ∷ es) whole from was =
+  to-the-end : (h rest : List Entry) → h ++ rest ≡ all → length base ≤ length h → Holds h → Holds all
+  to-the-end h [] whole from was = subst Holds (sym (append-nil h) ∙ whole) was
+  to-the-end h (e ∷ es) whole from was =
       let longer = length-append h (e ∷ []) in
-      onward (h ++ e ∷ []) es (append_assoc h (e ∷ []) es ∙ whole) (omega (arith, from, longer)) (next h e es whole from was)
+      to-the-end (h ++ e ∷ []) es (append_assoc h (e ∷ []) es ∙ whole) (omega (arith, from, longer)) (next h e es whole from was)
 
   written-by : (ps : List ℕ) (block : ℕ) → is_written (flat_map (work (past_of config unit all)) ps) block ≡ true
       → (place : ℕ) × In place ps × (is_written (work (past_of config unit all) place) block ≡ true)
@@ -126,7 +126,7 @@ module _ (config : Configuration) (unit : ℕ) (places blocks : List ℕ) (items
   -- in the end the blocks hold the items
   pub blocks-hold : (rest : List Entry) → base ++ rest ≡ all → map (held (past_of config unit all)) blocks ≡ items
   blocks-hold rest whole =
-      let holds = onward base rest whole (omega arith) first in
+      let holds = to-the-end base rest whole (omega arith) first in
       map-same (held (past_of config unit all)) (given (paired blocks items)) blocks (λ block j.
       let f = written-by places block (ap (λ ws. is_written ws block) wrote ∙ paired-written blocks items block same j) in
       holds f.0 block f.1 j f.2)

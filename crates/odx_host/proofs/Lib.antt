@@ -19,7 +19,7 @@ pub mod Ran
 pub mod Decoding
 pub mod Programs
 pub mod Leaving
-pub mod Telling
+pub mod Reports
 pub mod Redeeming
 pub mod Starting
 pub mod Given

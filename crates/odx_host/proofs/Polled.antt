@@ -35,7 +35,7 @@ use Rattle.odx_host.specs.Copies.{Copies}
 use Rattle.odx_host.proofs.Ran.{RanIn, never-refused}
 use Rattle.odx_host.proofs.Programs.{status-program, not-there}
 use Rattle.odx_host.proofs.Leaving.{Leaves, Reported, reported}
-use Rattle.odx_host.proofs.Telling.{IsPlain, information, report-read, start-report}
+use Rattle.odx_host.proofs.Reports.{IsPlain, information, report-read, start-report}
 use Rattle.odx_host.proofs.Work.{work}
 use Rattle.odx_host.proofs.Finishing.{IsState, IsDone, WasStopped, state-is, finished}
 use Rattle.odx_host.proofs.Advancing.{Remains, remains-longer, by-outcome, ask-on}

@@ -34,7 +34,7 @@ use Rattle.odx_host.specs.Copies.{Copies}
 use Rattle.odx_host.proofs.Ran.{RanIn, never-refused}
 use Rattle.odx_host.proofs.Programs.{MayName, populate-program, not-there}
 use Rattle.odx_host.proofs.Leaving.{Leaves, Reported, left-by, reported}
-use Rattle.odx_host.proofs.Telling.{IsPlain, report-read, populate-answer, populate-report}
+use Rattle.odx_host.proofs.Reports.{IsPlain, report-read, populate-answer, populate-report}
 use Rattle.odx_host.proofs.Polled.{status-ran}
 use Rattle.odx_host.proofs.Advancing.{Remains, remains-longer, ask-on}
 

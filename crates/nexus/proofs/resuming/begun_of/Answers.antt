@@ -4,7 +4,7 @@ use Rattle.cm_history.specs.declared.act.Entry.{Entry}
 use Rattle.unit_gate.specs.Opening.{opening_entries}
 use Rattle.unit_gate.specs.Recorded.{facts}
 use Rattle.nexus.specs.Opening.{stored}
-use Rattle.nexus.proofs.GoingOn.{recorders-none, recorder-fits, has-recorded, recorders-more}
+use Rattle.nexus.proofs.Resumed.{recorders-none, recorder-fits, has-recorded, recorders-more}
 use Rattle.nexus.proofs.resuming.begun_of.Goals as goal
 
 pub loop-init : goal.loop-init

@@ -2,7 +2,7 @@ use Rattle.std.proofs.Common.{◌<◌, ap, sym, ◌∙◌, arith, length, map}
 use Rattle.std.specs.Prelude.{max}
 use Rattle.unit_gate.specs.Recorded.{facts}
 use Rattle.nexus.specs.Opening.{numbers_after, stored}
-use Rattle.nexus.proofs.GoingOn.{get-mapped, nexus-more}
+use Rattle.nexus.proofs.Resumed.{get-mapped, nexus-more}
 use Rattle.nexus.proofs.resuming.next_nexus.Goals as goal
 
 pub loop-index-preserved : goal.loop-index-preserved

@@ -1,7 +1,7 @@
 use Rattle.std.proofs.Common.{ap, sym, ◌∙◌}
 use Rattle.std.specs.Prelude.{max}
 use Rattle.nexus.specs.Opening.{number_after}
-use Rattle.nexus.proofs.GoingOn.{numbers-more}
+use Rattle.nexus.proofs.Resumed.{numbers-more}
 use Rattle.nexus.proofs.resuming.numbers_after.Goals as goal
 
 pub loop-place-preserved : goal.loop-place-preserved

@@ -3,7 +3,7 @@ use Rattle.std.specs.Prelude.{slice_index_or}
 use Rattle.std.proofs.lemmas.Result.{err_from_is_err_and}
 use Rattle.unit_gate.specs.Recorded.{facts}
 use Rattle.nexus.specs.Opening.{stored, bad_history}
-use Rattle.nexus.proofs.GoingOn.{get-mapped, on-given, on-more, on-bad}
+use Rattle.nexus.proofs.Resumed.{get-mapped, on-given, on-more, on-bad}
 use Rattle.nexus.proofs.resuming.units_of.Goals as goal
 
 pub resume-requires-clause-given : goal.resume-requires-clause-given

@@ -1,5 +1,5 @@
 use Rattle.std.proofs.Common.{◌∙◌, sym}
-use Rattle.cm_server.proofs.Wording.{three-words, same-bytes, asked-of}
+use Rattle.cm_server.proofs.Words.{three-words, same-bytes, asked-of}
 use Rattle.cm_server.proofs.asking.words.sessions_of.Goals as goal
 
 pub returns-in-len3-clause-asked : goal.returns-in-len3-clause-asked

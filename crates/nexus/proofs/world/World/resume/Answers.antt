@@ -6,7 +6,7 @@ use Rattle.unit_gate.specs.Opening.{has_late_number}
 use Rattle.unit_gate.specs.Recorded.{facts}
 use Rattle.nexus.specs.Opening.{GoesOn, StoredUnit, next_nexus, stored}
 use Rattle.nexus.specs.Roots.{RootView}
-use Rattle.nexus.proofs.GoingOn.{each-of, good-numbers, nexus-few}
+use Rattle.nexus.proofs.Resumed.{each-of, good-numbers, nexus-few}
 use Rattle.nexus.proofs.Opening.{begun-long, begun-units, goes-on}
 use Rattle.nexus.proofs.world.World.resume.Goals as goal
 

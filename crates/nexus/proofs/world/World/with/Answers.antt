@@ -3,7 +3,7 @@ use Rattle.std.proofs.lemmas.List.{length-map}
 use Rattle.unit_gate.specs.Recorded.{facts}
 use Rattle.nexus.specs.Opening.{IsBegun}
 use Rattle.nexus.specs.inner.Building.{IsBegunWith}
-use Rattle.nexus.proofs.GoingOn.{if-ok}
+use Rattle.nexus.proofs.Resumed.{if-ok}
 use Rattle.nexus.proofs.Opening.{begun-long, begun-units, fresh, is-begun}
 use Rattle.nexus.proofs.world.World.with.Goals as goal
 
