@@ -1,5 +1,6 @@
 pub mod Writings
 pub mod Holds
+pub mod Tables
 pub mod Outcomes
 pub mod Pasts
 pub mod Forms

@@ -8,6 +8,7 @@ mod deeds;
 mod operations;
 mod outcome;
 mod refusals;
+mod tables;
 mod tokens;
 mod unit;
 mod units;

@@ -1,4 +1,4 @@
-ghost use Rattle.std.specs.Prelude.{◌≡◌, ◌<◌, ◌≤◌, ◌++◌, ◌∷◌, ◌^◌, [], length, map, filter, find, not, ◌&&◌, true, IfOk, if◌then◌else◌};
+ghost use Rattle.std.specs.Prelude.{◌≡◌, ◌<◌, ◌≤◌, ◌++◌, ◌∷◌, ◌^◌, [], length, map, filter, find, not, ◌&&◌, true, IfOk, OnOk, if◌then◌else◌};
 ghost use Rattle.cm_history.specs.Tokens.{is_populate};
 ghost use Rattle.cm_history.specs.Operations.{Operation, has_key, written, count, list_of, state, result_of, is_running, is_running_state, fits, next_piece, operation_after, made_operation, makes_operation, has_ended, same_key, without_first_ended, with_room, keep};
 ghost use Rattle.cm_history.specs.Answers.{serial_made, report_of};
@@ -213,10 +213,17 @@ impl PlainOperation {
     fn copy(&self, alloc: Global) -> Result<PlainOperation, OutOfMemory>
         ensures { IfOk result (λ copy. copy ≡ self.now) }
     {
-        Ok(PlainOperation {
-            made: self.made.copy(alloc)?,
-            servers: self.servers.copy(alloc)?,
-        })
+        let made = self.made.copy(alloc)?;
+        let servers = self.servers.copy(alloc)?;
+        Ok(PlainOperation { made, servers })
+    }
+
+    /// Adds a deed to those that served it.
+    fn serve(&mut self, deed: PlainDeed) -> Result<(), OutOfMemory>
+        requires { IsSoundOperation (record self.old { servers = deed ∷ self.old.servers }) }
+        ensures { OnOk result (self.new ≡ record self.old { servers = deed ∷ self.old.servers }) }
+    {
+        self.servers.push(deed)
     }
 
     /// The operation after one more deed.
@@ -224,13 +231,12 @@ impl PlainOperation {
         requires { IsSoundOperation (operation_after deed.now self.now) }
         ensures { IfOk result (λ o. o ≡ operation_after deed.now self.now) }
     {
-        if deed.served() != Some(self.place()) {
-            return self.copy(alloc);
+        let mut operation = self.copy(alloc)?;
+        if deed.served() == Some(self.place()) {
+            let deed = deed.copy(alloc)?;
+            operation.serve(deed)?;
         }
-        let made = self.made.copy(alloc)?;
-        let mut servers = self.servers.copy(alloc)?;
-        servers.push(deed.copy(alloc)?)?;
-        Ok(PlainOperation { made, servers })
+        Ok(operation)
     }
 }
 
@@ -326,6 +332,18 @@ fn with_room(
     }
 }
 
+/// The records that stay beside a new one: those that it doesn't replace, with room for it.
+fn beside(
+    alloc: Global,
+    records: &[PlainOperation],
+    made: &PlainOperation,
+) -> Result<Vec<PlainOperation>, OutOfMemory>
+    ensures { IfOk result (λ next. next.items ≡ with_room (filter (λ r. not (has_ended r && same_key made.now r)) records.now)) }
+{
+    let others = others(alloc, records, made)?;
+    with_room(alloc, others)
+}
+
 /// The records that are kept after one more deed.
 pub(crate) fn kept_after(
     alloc: Global,
@@ -341,8 +359,7 @@ pub(crate) fn kept_after(
         return served(alloc, records, deed);
     }
     let made = PlainOperation::new(alloc, deed)?;
-    let others = others(alloc, records, &made)?;
-    let mut next = with_room(alloc, others)?;
+    let mut next = beside(alloc, records, &made)?;
     next.push(made)?;
     Ok(next)
 }

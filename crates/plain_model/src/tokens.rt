@@ -108,39 +108,40 @@ impl PlainToken {
     fn copy(&self, alloc: Global) -> Result<PlainToken, OutOfMemory>
         ensures { IfOk result (λ copy. copy ≡ self.now) }
     {
+        let ranges = self.ranges.copy(alloc)?;
+        let before = self.before.copy(alloc)?;
         Ok(PlainToken {
             serial: self.serial,
-            ranges: self.ranges.copy(alloc)?,
+            ranges,
             timeout: self.timeout,
-            before: self.before.copy(alloc)?,
+            before,
             last_use: self.last_use,
             fate: self.fate,
         })
     }
 
-    fn ended(self, fate: PlainFate) -> PlainToken
-        ensures { result ≡ record self { fate = fate_of fate } }
+    /// Notes one more deed, where these were the tokens before.
+    fn note(&mut self, deed: &PlainDeed, tokens: &[PlainToken])
+        ensures { self.new ≡ token_after deed.now tokens.now self.old }
     {
-        PlainToken {
-            serial: self.serial,
-            ranges: self.ranges,
-            timeout: self.timeout,
-            before: self.before,
-            last_use: self.last_use,
-            fate,
+        let act = &deed.entry().act;
+        if !self.is_live() {
+            return;
         }
-    }
-
-    fn used(self, moment: u64) -> PlainToken
-        ensures { result ≡ record self { last_use = moment } }
-    {
-        PlainToken {
-            serial: self.serial,
-            ranges: self.ranges,
-            timeout: self.timeout,
-            before: self.before,
-            last_use: moment,
-            fate: self.fate,
+        if self.is_over(deed.moment()) {
+            self.fate = PlainFate::Expired;
+            return;
+        }
+        if acts::is_delete_of(self.serial, act) {
+            self.fate = PlainFate::Deleted;
+            return;
+        }
+        if acts::is_populate(act) && deed.is_answered() && self.makes_room(deed.moment(), tokens) {
+            self.fate = PlainFate::Evicted;
+            return;
+        }
+        if acts::is_redeem_of(self.serial, act) && deed.is_answered() {
+            self.last_use = deed.moment();
         }
     }
 
@@ -153,23 +154,8 @@ impl PlainToken {
     ) -> Result<PlainToken, OutOfMemory>
         ensures { IfOk result (λ token. token ≡ token_after deed.now tokens.now self.now) }
     {
-        let token = self.copy(alloc)?;
-        let act = &deed.entry().act;
-        if !self.is_live() {
-            return Ok(token);
-        }
-        if self.is_over(deed.moment()) {
-            return Ok(token.ended(PlainFate::Expired));
-        }
-        if acts::is_delete_of(self.serial, act) {
-            return Ok(token.ended(PlainFate::Deleted));
-        }
-        if acts::is_populate(act) && deed.is_answered() && self.makes_room(deed.moment(), tokens) {
-            return Ok(token.ended(PlainFate::Evicted));
-        }
-        if acts::is_redeem_of(self.serial, act) && deed.is_answered() {
-            return Ok(token.used(deed.moment()));
-        }
+        let mut token = self.copy(alloc)?;
+        token.note(deed, tokens);
         Ok(token)
     }
 

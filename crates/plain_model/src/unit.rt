@@ -18,9 +18,10 @@ ghost use Rattle.cm_history.specs.Tokens.{tokens};
 
 use crate::acts::{self, PlainForm, bytes_in, is_write};
 use crate::deeds::{PlainDeed, PlainPast};
-use crate::operations::{PlainOperation, kept_after, operations_after};
+use crate::operations::PlainOperation;
 use crate::outcome::PlainOutcome;
-use crate::tokens::{PlainToken, tokens_after};
+use crate::tables::PlainTables;
+use crate::tokens::PlainToken;
 use crate::writings::PlainWritings;
 use crate::{blocks, refusals};
 use cm_base::{Config, OutOfMemory, UnitConfig};
@@ -28,7 +29,6 @@ use cm_history::{
     Act, Actor, Answer, Entry, OpState, answer_holder, answer_keys, bars, pieces, reserve,
 };
 use lba_ranges::{BlockList, RangeList};
-use pr_keys::PrState;
 use std::alloc::Global;
 use std::marker::Model;
 
@@ -38,15 +38,11 @@ const RUNNING_OPERATIONS: usize = 64;
 /// Serials that a unit makes.
 const SERIALS: usize = 1 << 48;
 
-/// What a unit has done, with the tokens, the operations and the reservations that come of it. Contracts see its deeds, the latest
-/// first.
+/// What a unit has done, with the tables that come of it. Contracts see its deeds, the latest first.
 #[derive(Drop)]
 pub(crate) struct PlainUnit {
     past: PlainPast,
-    tokens: Vec<PlainToken>,
-    operations: Vec<PlainOperation>,
-    kept: Vec<PlainOperation>,
-    reservations: PrState,
+    tables: PlainTables,
 }
 
 impl Model for PlainUnit {
@@ -55,11 +51,11 @@ impl Model for PlainUnit {
 
     ghost Value = { List Deed };
 
-    ghost use Rattle.plain_model.specs.inner.Holds.{ComesOf};
+    ghost use Rattle.plain_model.specs.inner.Tables.{ComeOf};
 
     ghost view = { λ u. u.past };
 
-    ghost invariant = { λ u. ComesOf u.past u.tokens.items u.operations.items u.kept.items u.reservations };
+    ghost invariant = { λ u. ComeOf u.past u.tables };
 }
 
 impl PlainUnit {
@@ -69,10 +65,7 @@ impl PlainUnit {
     {
         PlainUnit {
             past: PlainPast::new(alloc),
-            tokens: Vec::new(alloc),
-            operations: Vec::new(alloc),
-            kept: Vec::new(alloc),
-            reservations: PrState::new(alloc),
+            tables: PlainTables::new(alloc),
         }
     }
 
@@ -80,7 +73,7 @@ impl PlainUnit {
     fn would_serve(&self, actor: Actor, act: &Act) -> Option<&PlainOperation>
         ensures { option_copied result ≡ would_serve self.now actor act.now }
     {
-        for operation in &self.operations {
+        for operation in &self.tables.operations {
             if operation.is_running() && operation.fits(actor, act) {
                 return Some(operation);
             }
@@ -92,7 +85,7 @@ impl PlainUnit {
     fn kept(&self, actor: Actor, form: PlainForm, id: u32) -> Option<&PlainOperation>
         ensures { option_copied result ≡ find (has_key actor (as_form form) id) (kept self.now) }
     {
-        for operation in &self.kept {
+        for operation in &self.tables.kept {
             if operation.has_key(actor, form, id) {
                 return Some(operation);
             }
@@ -104,7 +97,7 @@ impl PlainUnit {
     fn is_busy(&self, actor: Actor, form: PlainForm, id: u32) -> bool
         ensures { result ≡ is_busy self.now actor (as_form form) id }
     {
-        for operation in &self.operations {
+        for operation in &self.tables.operations {
             if operation.is_running() && operation.has_key(actor, form, id) {
                 return true;
             }
@@ -117,7 +110,7 @@ impl PlainUnit {
         ensures { result ≡ is_crowded self.now }
     {
         let mut running = 0;
-        for operation in &self.operations {
+        for operation in &self.tables.operations {
             if operation.is_running() {
                 running += 1;
             }
@@ -129,7 +122,7 @@ impl PlainUnit {
     fn named_token(&self, text: &[u8; 512]) -> Option<&PlainToken>
         ensures { option_copied result ≡ named_token self.now text.now }
     {
-        self.tokens.get(acts::serial_of(text) as usize)
+        self.tables.tokens.get(acts::serial_of(text) as usize)
     }
 
     fn populate(&self, unit: UnitConfig, actor: Actor, id: u32, ranges: &RangeList) -> Answer
@@ -141,11 +134,11 @@ impl PlainUnit {
         if !ranges.within(unit.blocks) {
             return refusals::out_of_range();
         }
-        if self.tokens.len() >= SERIALS {
+        if self.tables.tokens.len() >= SERIALS {
             return refusals::too_many();
         }
         Answer::Made {
-            serial: self.tokens.len() as u64,
+            serial: self.tables.tokens.len() as u64,
         }
     }
 
@@ -296,12 +289,12 @@ impl PlainUnit {
                 key,
                 action_key,
             } => {
-                let unit = &self.reservations;
+                let unit = &self.tables.reservations;
                 let done = reserve(unit, actor, *action, *scope, *kind, *key, *action_key)?;
                 Ok(done.answer)
             }
-            Act::PrKeys => answer_keys(&self.reservations),
-            Act::PrHolder => Ok(answer_holder(&self.reservations)),
+            Act::PrKeys => answer_keys(&self.tables.reservations),
+            Act::PrHolder => Ok(answer_holder(&self.tables.reservations)),
             _ => Ok(Answer::Done),
         }
     }
@@ -331,7 +324,7 @@ impl PlainUnit {
     fn is_barred(&self, actor: Actor, act: &Act) -> bool
         ensures { result ≡ bars_act (reservations self.now) actor act.now }
     {
-        bars(&self.reservations, actor, act)
+        bars(&self.tables.reservations, actor, act)
     }
 
     /// What an act is answered, and what it writes, where no reservation stands against it.
@@ -408,15 +401,9 @@ impl PlainUnit {
         ensures ok { OnOk result (self.new ≡ deed ∷ self.old) }
         ensures err { OnErr result (self.new ≡ self.old) }
     {
-        let tokens = tokens_after(alloc, &self.tokens, &self.past, &deed)?;
-        let operations = operations_after(alloc, &self.operations, &deed)?;
-        let kept = kept_after(alloc, &self.kept, &deed)?;
-        let reservations = reservations_after(&self.reservations, deed.entry())?;
+        let tables = self.tables.after(alloc, &self.past, &deed)?;
         self.past.push(deed)?;
-        self.tokens = tokens;
-        self.operations = operations;
-        self.kept = kept;
-        self.reservations = reservations;
+        self.tables = tables;
         Ok(())
     }
 
@@ -446,7 +433,7 @@ impl PlainUnit {
         ensures { result ≡ capped (reserved self.now) }
     {
         let mut reserved = 0u64;
-        for operation in &self.operations {
+        for operation in &self.tables.operations {
             if operation.is_running() {
                 reserved = reserved.saturating_add(operation.reserved());
             }
@@ -491,26 +478,6 @@ impl PlainUnit {
         stamp.max(self.past.last_stamp()) == u64::MAX
             || kept.saturating_add(self.need(actor, act)) > u64::from(unit.entries)
             || (is_write(act) && payload > u64::from(unit.payload))
-    }
-}
-
-/// The reservations after one more entry.
-fn reservations_after(reservations: &PrState, entry: &Entry) -> Result<PrState, OutOfMemory>
-    ensures { IfOk result (λ r. r ≡ reserved_by reservations.now entry.now.actor entry.now.act) }
-{
-    match entry.act {
-        Act::PrOut {
-            action,
-            scope,
-            kind,
-            key,
-            action_key,
-        } => {
-            let actor = entry.actor;
-            let done = reserve(reservations, actor, action, scope, kind, key, action_key)?;
-            Ok(done.reservations)
-        }
-        _ => reservations.copy(),
     }
 }
 

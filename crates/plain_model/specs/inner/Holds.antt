@@ -7,9 +7,7 @@ use Rattle.lba_ranges.specs.Writings.{Held, Writing}
 use Rattle.cm_history.specs.declared.act.Act.{Act}
 use Rattle.cm_history.specs.Deeds.{Deed, is_answered}
 use Rattle.cm_history.specs.Operations.{Operation, written, list_of, operations, kept, operation_after, made_operation, makes_operation}
-use Rattle.cm_history.specs.Tokens.{Token, tokens}
-use Rattle.pr_keys.specs.Reservations.{Reservations}
-use Rattle.cm_history.specs.Reserving.{reservations}
+use Rattle.cm_history.specs.Tokens.{tokens}
 
 -- each mapped block has so many bytes
 abbrev pub AreSized : ℕ → (ℕ → Held) → Type 0
@@ -54,13 +52,6 @@ pub record IsSoundOperation (o : Operation) : Type 0 where
 abbrev pub AllSound : List Operation → Type 0
 AllSound [] = ⊤
 AllSound (o ∷ os) = IsSoundOperation o × AllSound os
-
--- the tokens, the operations, the records and the reservations that come of the past
-pub record ComesOf (past : List Deed) (made_tokens : List Token) (made_operations records : List Operation) (made_reservations : Reservations) : Type 0 where
-  pub all_tokens : made_tokens ≡ tokens past
-  pub all_operations : made_operations ≡ operations past
-  pub all_records : records ≡ kept past
-  pub all_reservations : made_reservations ≡ reservations past
 
 -- the deed may follow the past: its token and the operations after it are sound
 pub record MayFollow (past : List Deed) (d : Deed) : Type 0 where
