@@ -1,16 +1,19 @@
 // Random histories of two units, whose answers are compared with those of the plain model, and whose stored versions are
 // compared with a plain count.
-ghost use Rattle.std.specs.Prelude.{◌≡◌, ◌<◌, ◌≤◌, ◌^◌, length, IfOk, OnOk, true};
+ghost use Rattle.std.specs.Prelude.{◌≡◌, ◌<◌, ◌≤◌, ◌^◌, ◌++◌, ◌∷◌, [], length, IfOk, OnOk, true};
 ghost use Rattle.cm_history.specs.Legal.{may_ask};
+ghost use Rattle.cm_history.specs.Limits.{within_limits};
 ghost use Rattle.plain_model.specs.Holds.{AreWithin};
+ghost use Rattle.unit_histories.specs.inner.Players.{IsPlayer};
 
 use crate::needed::Needed;
-use cm_base::{CallList, Config, UnitConfig, UnitList};
+use cm_base::{CallList, Config, OutOfMemory, UnitConfig, UnitList};
 use cm_history::{Act, ActRefused, Actor, Answer, Entry, History, within_limits};
 use plain_model::plain_answer;
 use random_acts::{Numbers, Style, is_same, random_act};
 use recorder::MemoryRecorder;
 use std::alloc::Global;
+use std::marker::Model;
 use std::test::Fail;
 use unit_core::Unit;
 
@@ -54,37 +57,42 @@ fn is_answered_so(told: Result<Answer, ActRefused>, plain: &Answer) -> bool {
     }
 }
 
-/// Asks a unit for an act, and says whether it is answered as by the plain model, which goes through all that was asked
-/// before, and then stores so many versions as are needed. Where the record is full its entries are recorded elsewhere first. An act beyond its limits is not asked, nor
-/// one for which the operations that run leave no room.
-fn is_as_plain(
-    alloc: Global,
-    config: &Config,
-    unit: &mut Unit,
-    recorder: &mut MemoryRecorder,
-    asked: &mut History,
-    needed: &mut Needed,
-    next: Entry,
-) -> Result<bool, Fail>
-    requires config { unit.old.config ≡ config.now }
-    requires unit { unit.old.unit ≡ next.unit }
-    requires configured { next.unit < length config.now.units }
-    requires within { AreWithin config.now next.unit asked.old.entries }
-    requires may { may_ask next.unit next.actor next.act ≡ true }
+/// Makes room for an act in the record, whose entries are recorded elsewhere where it is full. Whether there is room then.
+fn makes_room(unit: &mut Unit, recorder: &mut MemoryRecorder, next: &Entry) -> bool
+    requires limits { within_limits unit.old.config unit.old.unit next.now.act ≡ true }
+    requires asked { may_ask unit.old.unit next.now.actor next.now.act ≡ true }
     ensures config { unit.new.config ≡ unit.old.config }
     ensures unit { unit.new.unit ≡ unit.old.unit }
-    ensures within { OnOk result (AreWithin config.now next.unit asked.new.entries) }
 {
-    if !within_limits(config, next.unit, &next.act) {
-        return Ok(true);
+    if !unit.is_full(next.actor, 0, &next.act) {
+        return true;
     }
-    if unit.is_full(next.actor, 0, &next.act) {
-        unit.fold(recorder);
-        if unit.is_full(next.actor, 0, &next.act) {
-            return Ok(true);
-        }
-    }
-    let plain = plain_answer(
+    unit.fold(recorder);
+    !unit.is_full(next.actor, 0, &next.act)
+}
+
+/// Adds an entry to those that were asked for.
+fn add(alloc: Global, asked: &mut History, next: &Entry) -> Result<(), Fail>
+    ensures { OnOk result (asked.new.entries ≡ asked.old.entries ++ next.now ∷ []) }
+{
+    asked.reserve(1)?;
+    let entry = next.copy(alloc)?;
+    asked.append(entry);
+    Ok(())
+}
+
+/// The plain model's answer to an act, by all that was asked before.
+fn plain_of(
+    alloc: Global,
+    config: &Config,
+    asked: &History,
+    next: &Entry,
+) -> Result<Answer, OutOfMemory>
+    requires configured { next.now.unit < length config.now.units }
+    requires within { AreWithin config.now next.now.unit asked.now.entries }
+    requires limits { within_limits config.now next.now.unit next.now.act ≡ true }
+{
+    plain_answer(
         alloc,
         config,
         asked,
@@ -92,12 +100,86 @@ fn is_as_plain(
         next.actor,
         next.moment,
         &next.act,
-    )?;
-    asked.reserve(1)?;
-    asked.append(next.copy(alloc)?);
-    needed.note(alloc, &next, &plain)?;
-    let told = unit.act(next.actor, next.seq, 0, next.moment, next.act);
-    Ok(is_answered_so(told, &plain) && unit.stored() == needed.count(alloc)?)
+    )
+}
+
+/// A unit stores so many versions as are needed.
+fn stores_the_needed(alloc: Global, unit: &Unit, needed: &Needed) -> Result<bool, OutOfMemory> {
+    Ok(unit.stored() == needed.count(alloc)?)
+}
+
+/// A unit that plays a history: with what it was asked for so far, and the versions that are needed.
+#[derive(Drop)]
+struct Player {
+    unit: Unit,
+    asked: History,
+    needed: Needed,
+}
+
+impl Model for Player {
+    ghost use Rattle.unit_histories.specs.inner.Players.{Played};
+
+    ghost Value = { Played };
+
+    ghost view = { λ p. record { config = p.unit.config; unit = p.unit.unit; entries = p.asked.entries } };
+}
+
+impl Player {
+    fn new(alloc: Global, config: &Config, number: u16) -> Result<Player, Fail>
+        requires { number < length config.now.units }
+        ensures { IfOk result (λ p. IsPlayer config.now number p) }
+    {
+        let needed = Needed::new(alloc, config.unit(number).blocks)?;
+        let unit = Unit::new(alloc, config, number)?;
+        Ok(Player {
+            unit,
+            asked: History::empty(alloc),
+            needed,
+        })
+    }
+
+    /// Notes an act that is asked for, and answers it as the plain model does, which goes through all that was asked
+    /// before.
+    fn note(&mut self, alloc: Global, config: &Config, next: &Entry) -> Result<Answer, Fail>
+        requires player { IsPlayer config.now next.now.unit self.old }
+        requires configured { next.now.unit < length config.now.units }
+        requires limits { within_limits config.now next.now.unit next.now.act ≡ true }
+        ensures { OnOk result (IsPlayer config.now next.now.unit self.new) }
+    {
+        let plain = plain_of(alloc, config, &self.asked, next)?;
+        add(alloc, &mut self.asked, next)?;
+        self.needed.note(alloc, next, &plain)?;
+        Ok(plain)
+    }
+
+    /// Asks for an act. Whether it is answered as by the plain model, and the unit then stores so many versions as are
+    /// needed. An act beyond its limits is not asked, nor one for which the operations that run leave no room.
+    fn ask(
+        &mut self,
+        alloc: Global,
+        config: &Config,
+        recorder: &mut MemoryRecorder,
+        next: Entry,
+    ) -> Result<bool, Fail>
+        requires player { IsPlayer config.now next.unit self.old }
+        requires configured { next.unit < length config.now.units }
+        requires may { may_ask next.unit next.actor next.act ≡ true }
+        ensures { OnOk result (IsPlayer config.now next.unit self.new) }
+    {
+        if !within_limits(config, next.unit, &next.act) {
+            return Ok(true);
+        }
+        if !makes_room(&mut self.unit, recorder, &next) {
+            return Ok(true);
+        }
+        let plain = self.note(alloc, config, &next)?;
+        let told = self
+            .unit
+            .act(next.actor, next.seq, 0, next.moment, next.act);
+        let is_same = is_answered_so(told, &plain);
+        let is_stored = stores_the_needed(alloc, &self.unit, &self.needed)?;
+        Ok(is_same && is_stored)
+    }
 }
 
 /// An entry, of which neither stamp nor place matters to what is answered.
@@ -135,8 +217,39 @@ fn next_entry(
     Ok(entry(number, actor, moment, act))
 }
 
-/// Plays a random history on a unit, whose entries go to a recorder where the record is full. Whether each answer was that
-/// of the plain model, as many versions were stored as were needed, and no entry is lost.
+impl Player {
+    /// Plays a random history, whose entries go to a recorder where the record is full. Whether each answer was that of
+    /// the plain model, and as many versions were stored as were needed.
+    fn play(
+        &mut self,
+        alloc: Global,
+        config: &Config,
+        number: u16,
+        style: Style,
+        numbers: &mut Numbers,
+        recorder: &mut MemoryRecorder,
+    ) -> Result<bool, Fail>
+        requires player { IsPlayer config.now number self.old }
+        requires configured { number < length config.now.units }
+    {
+        for _ in 0..ACTS {
+            let next = next_entry(alloc, config, number, style, numbers)?;
+            if !self.ask(alloc, config, recorder, next)? {
+                return Ok(false);
+            }
+        }
+        Ok(true)
+    }
+
+    /// Each entry that was asked for is in the record or with the recorder.
+    fn lost_none(&self, recorder: &MemoryRecorder) -> bool {
+        let folded = self.unit.folded();
+        let all = folded.saturating_add(self.unit.kept());
+        folded == recorder.entries().len() as u64 && all == self.asked.len() as u64
+    }
+}
+
+/// Plays a random history on a new unit. Whether it is as by the plain model, and no entry is lost.
 fn history_is_as_plain(
     alloc: Global,
     config: &Config,
@@ -147,25 +260,9 @@ fn history_is_as_plain(
 ) -> Result<bool, Fail>
     requires { number < length config.now.units }
 {
-    let mut unit = Unit::new(alloc, config, number)?;
-    let mut asked = History::empty(alloc);
-    let mut needed = Needed::new(alloc, config.unit(number).blocks)?;
-    for _ in 0..ACTS {
-        let next = next_entry(alloc, config, number, style, numbers)?;
-        if !is_as_plain(
-            alloc,
-            config,
-            &mut unit,
-            recorder,
-            &mut asked,
-            &mut needed,
-            next,
-        )? {
-            return Ok(false);
-        }
-    }
-    let all = unit.folded().saturating_add(unit.kept());
-    Ok(unit.folded() == recorder.entries().len() as u64 && all == asked.len() as u64)
+    let mut player = Player::new(alloc, config, number)?;
+    let is_plain = player.play(alloc, config, number, style, numbers, recorder)?;
+    Ok(is_plain && player.lost_none(recorder))
 }
 
 #[test]

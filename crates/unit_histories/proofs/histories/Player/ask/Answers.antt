@@ -1,0 +1,14 @@
+use Rattle.std.proofs.Common.{◌∙◌, ap, sym, subst}
+use Rattle.plain_model.specs.Holds.{AreWithin}
+use Rattle.unit_histories.specs.inner.Players.{Played}
+use Rattle.unit_histories.proofs.histories.Player.ask.Goals as goal
+
+pub returns : goal.returns
+returns c =
+    let config = c.args.config.now in
+    let unit = c.args.next.unit in
+    let noted = c.in_ok-plain.ensures in (
+      c.act-told.ensures.config ∙ ap (λ (p : Played). p.config) c.self-2.view_is ∙ noted.0,
+      c.act-told.ensures.unit ∙ ap (λ (p : Played). p.unit) c.self-2.view_is ∙ noted.1,
+      subst (AreWithin config unit) (sym (ap (λ (p : Played). p.entries) c.self-2.view_is)) noted.2,
+    )
