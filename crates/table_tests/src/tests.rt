@@ -1,7 +1,7 @@
-mod extents;
+mod blocks;
+mod lists;
 mod model;
 mod operations;
-mod plain_blocks;
 mod ranges;
 mod table_steps;
 mod tokens;

@@ -1,10 +1,10 @@
 // Ranges of blocks, and lists of blocks over shared payload.
-ghost use Rattle.std.specs.Prelude.{◌≡◌, ◌+◌, ◌<◌, ◌≤◌, ◌^◌, ◌++◌, ◌∷◌, [], length, IsTrue, IfOk, OnOk, OnErr};
+ghost use Rattle.std.specs.Prelude.{◌≡◌, ◌+◌, ◌≤◌, ◌^◌, ◌++◌, ◌∷◌, [], length, IsTrue, IfOk, OnOk, OnErr};
 ghost use Rattle.lba_ranges.specs.Denoted.{total, is_within};
-ghost use Rattle.lba_ranges.specs.HeldBlocks.{IsFull};
 
-use cm_base::{Bytes, OutOfMemory, Payload};
-use lba_ranges::{BlockList, Blocks, Fill, Piece, Range, RangeList};
+use super::lists::{add_hole, add_piece, append, list_of, part, reads};
+use cm_base::OutOfMemory;
+use lba_ranges::{BlockList, Range, RangeList};
 use std::alloc::Global;
 use std::test::Fail;
 
@@ -64,124 +64,108 @@ fn ranges_with_room(rt: HostRuntime) -> Result<(), Fail> {
 }
 
 /// Two blocks of four bytes, two holes, and one more block.
-fn five_blocks(alloc: Global) -> Result<BlockList, Fail>
-    ensures { IfOk result (λ list. length list.items ≡ 5) }
-{
-    let bytes = Payload::copy_from_slice(alloc, &[1, 2, 3, 4, 5, 6, 7, 8])?;
-    let mut list = BlockList::from_payload(alloc, 4, 2, bytes)?;
-    list.push(Piece {
-        count: 1,
-        fill: Fill::Hole,
-    })?;
-    list.push(Piece {
-        count: 1,
-        fill: Fill::Hole,
-    })?;
-    let bytes = Payload::copy_from_slice(alloc, &[9, 9, 9, 9])?;
-    let last = BlockList::from_payload(alloc, 4, 1, bytes)?;
-    list.append(last)?;
+fn five_blocks(alloc: Global) -> Result<BlockList, Fail> {
+    let mut list = list_of(alloc, 2, 4, &[1, 2, 3, 4, 5, 6, 7, 8])?;
+    add_hole(&mut list, 1)?;
+    add_hole(&mut list, 1)?;
+    append(&mut list, list_of(alloc, 1, 4, &[9, 9, 9, 9])?)?;
     Ok(list)
 }
 
+/// The bytes of the five blocks.
+static FIVE: [u8; 20] = [1, 2, 3, 4, 5, 6, 7, 8, 0, 0, 0, 0, 0, 0, 0, 0, 9, 9, 9, 9];
+
 #[test]
 fn blocks(rt: HostRuntime) -> Result<(), Fail> {
-    let alloc = rt.alloc();
-    let list = five_blocks(alloc)?;
-    let list = list.copy(alloc)?;
-    assert!(rt; list.blocks() == 5 && list.mapped() == 3);
-    let mut read = Bytes::empty(alloc);
-    list.read_into(&mut read)?;
-    assert!(rt;
-        read.as_slice() == [1, 2, 3, 4, 5, 6, 7, 8, 0, 0, 0, 0, 0, 0, 0, 0, 9, 9, 9, 9].as_slice()
-    );
+    let list = five_blocks(rt.alloc())?;
+    let copy = list.copy(rt.alloc())?;
+    assert!(rt; copy.blocks() == 5 && copy.mapped() == 3 && reads(rt.alloc(), &copy, &FIVE)?);
     Ok(())
+}
+
+/// The list has two blocks, of which the first holds these bytes, and the second is unmapped.
+fn are_one_and_a_hole(alloc: Global, list: &BlockList, bytes: &[u8]) -> Result<bool, Fail> {
+    let items = list.items(alloc)?;
+    let is_held = matches!(items.first(), Some(Some(held)) if held.as_slice() == bytes);
+    Ok(items.len() == 2 && is_held && matches!(items.get(1), Some(None)))
 }
 
 /// The second block and the first hole of the five.
 #[test]
 fn items_of_blocks(rt: HostRuntime) -> Result<(), Fail> {
-    let alloc = rt.alloc();
-    let list = five_blocks(alloc)?;
-    let part = list.slice(alloc, 1, 2)?;
-    let items = part.items(alloc)?;
-    assert_eq!(rt; items.len(), 2);
-    assert!(rt; matches!(&items[0], Some(bytes) if bytes.as_slice() == [5, 6, 7, 8].as_slice()));
-    assert!(rt; items[1].is_none());
+    let list = five_blocks(rt.alloc())?;
+    let part = part(rt.alloc(), &list, 1, 2)?;
+    assert!(rt; are_one_and_a_hole(rt.alloc(), &part, &[5, 6, 7, 8])?);
     Ok(())
+}
+
+/// The bytes of the list are these, in one payload.
+fn has_payload(alloc: Global, list: &BlockList, bytes: &[u8]) -> Result<bool, Fail> {
+    let payload = list.payload(alloc)?;
+    Ok(payload.as_slice() == bytes)
 }
 
 /// The bytes of one piece, and those of two.
 #[test]
 fn payload(rt: HostRuntime) -> Result<(), Fail> {
-    let alloc = rt.alloc();
-    let bytes = Payload::copy_from_slice(alloc, &[1, 2, 3, 4])?;
-    let mut list = BlockList::from_payload(alloc, 2, 2, bytes)?;
-    let one = list.payload(alloc)?;
-    assert!(rt; one.as_slice() == [1, 2, 3, 4].as_slice());
-    list.push(Piece {
-        count: 1,
-        fill: Fill::Hole,
-    })?;
-    let two = list.payload(alloc)?;
-    assert!(rt; two.as_slice() == [1, 2, 3, 4, 0, 0].as_slice());
+    let mut list = list_of(rt.alloc(), 2, 2, &[1, 2, 3, 4])?;
+    assert!(rt; has_payload(rt.alloc(), &list, &[1, 2, 3, 4])?);
+    add_hole(&mut list, 1)?;
+    assert!(rt; has_payload(rt.alloc(), &list, &[1, 2, 3, 4, 0, 0])?);
     Ok(())
 }
 
-/// Some blocks of one byte each, one piece.
-fn piece(alloc: Global, bytes: &'static [u8]) -> Result<Piece, Fail>
-    requires { length bytes.now < 100 }
-    ensures { IfOk result (λ piece. IsFull 1 piece.count piece.fill × (piece.count ≡ length bytes.now)) }
-{
-    let count = bytes.len() as u32;
-    let fill = Fill::Bytes(Payload::copy_from_slice(alloc, bytes)?);
-    Ok(Piece { count, fill })
-}
-
-/// Three blocks, two holes, a piece without blocks and two blocks; then a hole and one block.
-fn pieces(alloc: Global) -> Result<BlockList, Fail>
-    ensures { IfOk result (λ list. length list.items ≡ 9) }
+/// Three blocks of one byte, two holes, a piece without blocks and two blocks.
+fn front(alloc: Global) -> Result<BlockList, Fail>
+    ensures { IfOk result (λ list. list.block_length ≡ 1) }
 {
     let mut list = BlockList::empty(alloc, 1);
-    list.push(piece(alloc, &[1, 2, 3])?)?;
-    list.push(Piece {
-        count: 2,
-        fill: Fill::Hole,
-    })?;
-    list.push(piece(alloc, &[])?)?;
-    list.push(piece(alloc, &[6, 7])?)?;
-    let mut last = BlockList::empty(alloc, 1);
-    last.push(Piece {
-        count: 1,
-        fill: Fill::Hole,
-    })?;
-    last.push(piece(alloc, &[9])?)?;
-    list.append(last)?;
+    add_piece(alloc, &mut list, &[1, 2, 3])?;
+    add_hole(&mut list, 2)?;
+    add_piece(alloc, &mut list, &[])?;
+    add_piece(alloc, &mut list, &[6, 7])?;
     Ok(list)
 }
 
-/// Whether the blocks of a part hold these bytes, one each, and 0 where one is unmapped.
-fn part_holds(alloc: Global, list: &BlockList, from: u64, bytes: &[u8]) -> Result<bool, Fail>
-    requires { from + length bytes.now ≤ length list.now.items }
+/// A hole and one block of one byte.
+fn back(alloc: Global) -> Result<BlockList, Fail>
+    ensures { IfOk result (λ list. list.block_length ≡ 1) }
 {
-    let part = list.slice(alloc, from, bytes.len() as u64)?;
-    let mut read = Bytes::empty(alloc);
-    part.read_into(&mut read)?;
-    Ok(read.as_slice() == bytes)
+    let mut list = BlockList::empty(alloc, 1);
+    add_hole(&mut list, 1)?;
+    add_piece(alloc, &mut list, &[9])?;
+    Ok(list)
+}
+
+/// The front, and the back behind it: nine blocks.
+fn pieces(alloc: Global) -> Result<BlockList, Fail> {
+    let mut list = front(alloc)?;
+    append(&mut list, back(alloc)?)?;
+    Ok(list)
 }
 
 fn holds(list: &BlockList, index: u64, byte: u8) -> bool {
     matches!(list.held(index), Some(bytes) if bytes == [byte].as_slice())
 }
 
+fn is_hole(list: &BlockList, index: u64) -> bool {
+    list.held(index).is_none()
+}
+
 #[test]
 fn blocks_at_the_borders_of_pieces(rt: HostRuntime) -> Result<(), Fail> {
     let list = pieces(rt.alloc())?;
-    assert!(rt; holds(&list, 0, 1) && holds(&list, 2, 3));
-    assert!(rt; list.held(3).is_none() && list.held(4).is_none());
-    assert!(rt; holds(&list, 5, 6) && holds(&list, 6, 7));
-    assert!(rt; list.held(7).is_none() && holds(&list, 8, 9) && list.held(9).is_none());
+    assert!(rt; holds(&list, 0, 1) && holds(&list, 2, 3) && is_hole(&list, 3) && is_hole(&list, 4));
+    assert!(rt; holds(&list, 5, 6) && holds(&list, 6, 7) && is_hole(&list, 7));
+    assert!(rt; holds(&list, 8, 9) && is_hole(&list, 9));
     assert!(rt; list.blocks() == 9 && list.mapped() == 6 && !list.is_mapped());
     Ok(())
+}
+
+/// Whether the blocks of a part hold these bytes, one each, and 0 where one is unmapped.
+fn part_holds(alloc: Global, list: &BlockList, from: u64, bytes: &[u8]) -> Result<bool, Fail> {
+    let part = part(alloc, list, from, bytes.len() as u64)?;
+    reads(alloc, &part, bytes)
 }
 
 #[test]
