@@ -1,5 +1,5 @@
 // Inputs, outputs and lists, the standard streams, and how a unit is named and described.
-ghost use Rattle.std.specs.Prelude.{◌≡◌, ◌++◌, ◌∷◌, [], length, IfOk, OnOk, OnErr};
+ghost use Rattle.std.specs.Prelude.{◌≡◌, ◌<◌, ◌++◌, ◌∷◌, [], length, IfOk, OnOk, OnErr};
 
 use cm_base::{
     Bytes, CallList, Config, FillFailed, InputBuffer, MemorySink, MemorySource, OutOfMemory,
@@ -31,16 +31,25 @@ fn two_units(rt: &HostRuntime) -> Result<Config, Fail>
     Ok(Config::new([7; 32], units))
 }
 
+/// The descriptor of unit 1, whose blocks have 4096 bytes.
+static DESCRIPTOR: [u8; 32] = [
+    0xe4, 0, 0, 0, 1, 3, 0, 8, 0x30, 0, 0, 0, 0, 0, 0, 1, 0, 0, 0, 0, 0, 0, 0, 0, 0, 0, 0, 0, 0, 0,
+    0x10, 0,
+];
+
+/// The secret is this byte 32 times, and unit 1 has the descriptor.
+fn is_described(config: &Config, secret: u8) -> bool
+    requires { 1 < length config.now.units }
+{
+    unit_descriptor(config, 1) == DESCRIPTOR && *config.secret() == [secret; 32]
+}
+
 #[test]
 fn a_unit_is_named_and_described(rt: HostRuntime) -> Result<(), Fail> {
-    let config = two_units(&rt)?.copy(rt.alloc())?;
     assert_eq!(rt; unit_name(0x0102), [0x30, 0, 0, 0, 0, 0, 1, 2]);
-    let descriptor = [
-        0xe4, 0, 0, 0, 1, 3, 0, 8, 0x30, 0, 0, 0, 0, 0, 0, 1, 0, 0, 0, 0, 0, 0, 0, 0, 0, 0, 0, 0,
-        0, 0, 0x10, 0,
-    ];
-    assert_eq!(rt; unit_descriptor(&config, 1), descriptor);
-    assert_eq!(rt; config.secret(), &[7; 32]);
+    let config = two_units(&rt)?;
+    let copy = config.copy(rt.alloc())?;
+    assert!(rt; is_described(&copy, 7));
     Ok(())
 }
 

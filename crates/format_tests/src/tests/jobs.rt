@@ -138,7 +138,8 @@ fn spelled(
 
 /// How a job of these extents is read.
 fn read(alloc: Global, from: &[(u64, u32)], to: &[(u64, u32)]) -> Result<Ending, Fail> {
-    ending_of(alloc, spelled(alloc, 5, from, to)?.as_slice())
+    let bytes = spelled(alloc, 5, from, to)?;
+    ending_of(alloc, bytes.as_slice())
 }
 
 #[test]
@@ -186,16 +187,33 @@ fn a_job_has_at_most_as_many_blocks_as_a_unit(rt: HostRuntime) -> Result<(), Fai
     Ok(())
 }
 
+/// The job that these bytes spell.
+fn job_in(alloc: Global, bytes: &[u8]) -> Result<Job, Fail> {
+    match read_job(alloc, bytes)? {
+        Parsed::Whole { value, .. } => Ok(value),
+        _ => Err(Fail::from("no job")),
+    }
+}
+
+/// The job copies 16 blocks in two extents of unit 2 to one extent of unit 3, and polls nine times.
+fn is_as_spelled(job: &Job) -> bool {
+    let units = job.source() == 2 && job.target() == 3;
+    let extents = job.from().len() == 2 && job.to().len() == 1;
+    units && extents && job.blocks() == 16 && job.polls() == 9
+}
+
+/// The job is written in these bytes.
+fn is_written_as(alloc: Global, job: &Job, bytes: &[u8]) -> Result<bool, Fail> {
+    let written = write_job(alloc, job)?;
+    Ok(written.as_slice() == bytes)
+}
+
 #[test]
 fn a_job_is_read_and_written(rt: HostRuntime) -> Result<(), Fail> {
     let alloc = rt.alloc();
     let bytes = spelled(alloc, 9, &[(0, 8), (100, 8)], &[(50, 16)])?;
-    let Parsed::Whole { value, .. } = read_job(alloc, bytes.as_slice())? else {
-        return Err(Fail::from("no job"));
-    };
-    assert!(rt; value.source() == 2 && value.target() == 3 && value.polls() == 9);
-    assert!(rt; value.from().len() == 2 && value.to().len() == 1 && value.blocks() == 16);
-    assert!(rt; write_job(alloc, &value)?.as_slice() == bytes.as_slice());
+    let job = job_in(alloc, bytes.as_slice())?;
+    assert!(rt; is_as_spelled(&job) && is_written_as(alloc, &job, bytes.as_slice())?);
     Ok(())
 }
 

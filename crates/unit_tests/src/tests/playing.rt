@@ -222,6 +222,19 @@ fn machine(alloc: Global, room: Room) -> Result<Config, Fail>
     Ok(Config::new([0; 32], units))
 }
 
+/// The number of the first step that a new unit answers otherwise, from 0, if there is one.
+fn played(
+    alloc: Global,
+    config: &Config,
+    recorder: &mut MemoryRecorder,
+    steps: &[(Step, Told)],
+) -> Result<Option<usize>, Fail>
+    requires { length config.now.units ≡ 1 }
+{
+    let mut unit = Unit::new(alloc, config, 0)?;
+    first_other(alloc, config, &mut unit, recorder, steps)
+}
+
 /// The number of the first step that a unit answers otherwise, from 0, if there is one. Of the calls of its recorder
 /// those listed fail.
 pub(crate) fn play(
@@ -235,14 +248,24 @@ pub(crate) fn play(
     requires payload { (1 ≤ room.payload) × (room.payload ≤ 4_194_304) }
 {
     let config = machine(alloc, room)?;
-    let mut unit = Unit::new(alloc, &config, 0)?;
-    let mut recorder = MemoryRecorder::new(alloc, CallList::copy(alloc, failing)?);
-    first_other(alloc, &config, &mut unit, &mut recorder, steps)
+    let failing = CallList::copy(alloc, failing)?;
+    let mut recorder = MemoryRecorder::new(alloc, failing);
+    played(alloc, &config, &mut recorder, steps)
 }
 
 /// What [`play`] finds of a unit with ample room, no call of whose recorder fails.
 pub(crate) fn play_ample(alloc: Global, steps: &[(Step, Told)]) -> Result<Option<usize>, Fail> {
     play(alloc, AMPLE, &[], steps)
+}
+
+/// A unit behind these steps.
+fn unit_behind(alloc: Global, config: &Config, steps: &[(Step, Told)]) -> Result<Unit, Fail>
+    requires { length config.now.units ≡ 1 }
+{
+    let mut recorder = MemoryRecorder::new(alloc, CallList::empty(alloc));
+    let mut unit = Unit::new(alloc, config, 0)?;
+    first_other(alloc, config, &mut unit, &mut recorder, steps)?;
+    Ok(unit)
 }
 
 /// How many entries a unit hands out behind these steps.
@@ -252,8 +275,7 @@ pub(crate) fn handed_out(alloc: Global, room: Room, steps: &[(Step, Told)]) -> R
     requires payload { (1 ≤ room.payload) × (room.payload ≤ 4_194_304) }
 {
     let config = machine(alloc, room)?;
-    let mut unit = Unit::new(alloc, &config, 0)?;
-    let mut recorder = MemoryRecorder::new(alloc, CallList::empty(alloc));
-    first_other(alloc, &config, &mut unit, &mut recorder, steps)?;
-    Ok(unit.into_history().len())
+    let unit = unit_behind(alloc, &config, steps)?;
+    let history = unit.into_history();
+    Ok(history.len())
 }
