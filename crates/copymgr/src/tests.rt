@@ -69,6 +69,7 @@ pub(crate) struct Failing {
 }
 
 impl Failing {
+    /// No call fails.
     pub fn nothing() -> Failing {
         Failing {
             pull: None,
@@ -76,6 +77,7 @@ impl Failing {
         }
     }
 
+    /// This pull fails, and no push.
     pub fn pull(call: u64) -> Failing {
         Failing {
             pull: Some(call),
@@ -83,6 +85,7 @@ impl Failing {
         }
     }
 
+    /// This push fails, and no pull.
     pub fn push(call: u64) -> Failing {
         Failing {
             pull: None,
@@ -274,6 +277,7 @@ fn the_257th_record_drops_the_first(rt: HostRuntime) -> Result<(), Fail> {
     Ok(())
 }
 
+/// The replies to the generated trace of 20 rounds.
 pub(crate) fn generated_replies(alloc: Global) -> Result<Bytes, Fail> {
     bytes_of(alloc, generated::replies())
 }

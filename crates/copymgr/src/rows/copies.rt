@@ -3,6 +3,7 @@
 use super::Row;
 use crate::status::Status;
 
+/// The copies that are done, refused or stopped, and the lists that are hostile.
 pub fn rows() -> &'static [Row] {
     &ROWS
 }

@@ -3,6 +3,7 @@
 use super::Row;
 use crate::status::Status;
 
+/// The one row: as many tokens as may live, and one more.
 pub fn rows() -> &'static [Row] {
     &ROWS
 }

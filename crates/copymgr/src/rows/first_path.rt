@@ -3,6 +3,7 @@
 use super::Row;
 use crate::status::Status;
 
+/// What a program without tokens does, and each place where an input can end. The last row has the longest runs.
 pub fn rows() -> &'static [Row] {
     &ROWS
 }

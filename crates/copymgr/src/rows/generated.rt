@@ -1,9 +1,11 @@
 // A generated trace of 20 rounds, and the replies to it.
 
+/// Its items, as words of a row.
 pub fn trace() -> &'static str {
     TRACE
 }
 
+/// The replies to its commands, as words of a row.
 pub fn replies() -> &'static str {
     REPLIES
 }

@@ -16,6 +16,7 @@ pub const JOB: &str =
     "000000010000000300000002000000010000000000000000000000080000000000000064000000080000000000\
 00003200000010";
 
+/// A job that is copied, and those that have no extents, are cut short or do not poll.
 pub fn copies() -> &'static [HostCopy] {
     &COPIES
 }

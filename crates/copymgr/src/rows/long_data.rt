@@ -4,6 +4,7 @@
 use super::Row;
 use crate::status::Status;
 
+/// The Write that comes whole, and the one that ends before its last byte.
 pub fn rows() -> &'static [Row] {
     &ROWS
 }

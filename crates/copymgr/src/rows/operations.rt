@@ -3,6 +3,7 @@
 use super::Row;
 use crate::status::Status;
 
+/// Operations in the foreground and in the background, to their ends of each kind, and records with little room.
 pub fn rows() -> &'static [Row] {
     &ROWS
 }

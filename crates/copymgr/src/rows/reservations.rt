@@ -3,6 +3,7 @@
 use super::Row;
 use crate::status::Status;
 
+/// A holder that bars others, and an operation that goes on behind its reservation.
 pub fn rows() -> &'static [Row] {
     &ROWS
 }

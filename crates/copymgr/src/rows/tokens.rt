@@ -3,6 +3,7 @@
 use super::Row;
 use crate::status::Status;
 
+/// Tokens that are redeemed, and those that are over, deleted, altered or of zeros.
 pub fn rows() -> &'static [Row] {
     &ROWS
 }

@@ -3,6 +3,7 @@
 use super::Row;
 use crate::status::Status;
 
+/// The one row: 64 MiB in two token writes, one of them in the background, with what is asked before and behind.
 pub fn rows() -> &'static [Row] {
     &ROWS
 }

@@ -1,9 +1,11 @@
 // Words, and what the program says to them.
 
+/// Each is a number of rounds, and what the program says when it has generated so many.
 pub fn generated() -> &'static [(&'static str, &'static str)] {
     &GENERATED
 }
 
+/// Each is a line of words to which the program tells its usage.
 pub fn other() -> &'static [&'static [&'static str]] {
     &OTHER
 }
