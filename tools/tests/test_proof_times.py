@@ -1,0 +1,72 @@
+"""What tools/proof-times tells of the files that a check wrote."""
+
+import contextlib
+import io
+import os
+import pathlib
+import sys
+import tempfile
+import unittest
+import unittest.mock
+
+from . import support
+
+# files of a check, in their order, each with the seconds since the one before
+WRITTEN = [
+    ("Rattle-low", 9.0),
+    ("Rattle-low-proofs.Laws", 0.5),
+    ("records/Rattle-low-specs.contracts.map.Map.put.Key.decls", 0.25),
+    ("Rattle-low-proofs.map.Map.put.Code.Mir", 0.25),
+    ("Rattle-low-proofs.map.Map.put.Kinds-2-0-1", 0.5),
+    ("Rattle-low-proofs.map.Map.put.Lts.View", 1.0),
+    ("Rattle-low-proofs.map.Map.put.Lts", 4.0),
+    ("Rattle-low-proofs.map.Map.put.Answers", 2.0),
+    ("Rattle-low-proofs.map.Map.put.Proof", 3.0),
+    ("Rattle-low-proofs.map.len.Proof", 1.5),
+]
+
+
+class ProofTimes(unittest.TestCase):
+    def told(self, *words, written=WRITTEN):
+        """The lines, what was said, and the exit status."""
+        tool = support.tool("proof-times")
+        with tempfile.TemporaryDirectory() as name, contextlib.ExitStack() as stack:
+            top, at = pathlib.Path(name), 1_000_000_000_000
+            for file, seconds in written:
+                path = top / "crates/low/out/incremental" / f"{file}.oantt"
+                path.parent.mkdir(parents=True, exist_ok=True)
+                path.write_text("")
+                at += int(seconds * 1e9)
+                os.utime(path, ns=(at, at))
+            stack.enter_context(unittest.mock.patch.object(tool, "TOP", top))
+            stack.enter_context(unittest.mock.patch.object(sys, "argv", ["proof-times", *words]))
+            lines = stack.enter_context(contextlib.redirect_stdout(io.StringIO()))
+            said = stack.enter_context(contextlib.redirect_stderr(io.StringIO()))
+            status = 0
+            try:
+                tool.main()
+            except SystemExit as end:
+                status = end.code
+        return lines.getvalue().splitlines(), said.getvalue(), status
+
+    def test_the_time_is_told_by_function_and_part(self):
+        lines, said, status = self.told("low")
+        self.assertEqual((said, status), ("", 0))
+        self.assertEqual(
+            lines[2:],
+            [
+                "| 11.0 | 5.0 | 3.0 | 2.0 | 1.0 | map::Map::put |",
+                "| 1.5 | 0.0 | 1.5 | 0.0 | 0.0 | map::len |",
+                "| 0.5 | 0.0 | 0.0 | 0.0 | 0.5 | Laws |",
+                "| 13.0 | 5.0 | 4.5 | 2.0 | 1.5 | all 3 |",
+            ],
+        )
+
+    def test_only_the_greatest_are_told(self):
+        lines, _, _ = self.told("low", "--most", "1")
+        self.assertEqual([line.split(" | ")[-1] for line in lines[2:]], ["map::Map::put |", "all 3 |"])
+
+    def test_a_crate_that_was_not_checked(self):
+        lines, said, status = self.told("high")
+        self.assertEqual((lines, status), ([], 2))
+        self.assertEqual(said, "tools/proof-times: no check has left crates/high/out/incremental\n")
