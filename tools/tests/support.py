@@ -1,11 +1,14 @@
 """What the tests of the tools have in common."""
 
+import contextlib
 import importlib.machinery
 import importlib.util
+import io
 import os
 import pathlib
 import subprocess
 import sys
+import unittest.mock
 
 TOOLS = pathlib.Path(__file__).resolve().parent.parent
 TOP = TOOLS.parent
@@ -29,3 +32,18 @@ def run(*words, data=b""):
     """A tool, by its words: what it wrote, what it said on standard error, and its exit status."""
     done = subprocess.run([TOOLS / words[0], *words[1:]], input=data, capture_output=True, check=False, cwd=TOP)
     return done.stdout, done.stderr.decode(), done.returncode
+
+
+def run_at(top, *words):
+    """A tool that is told that the repository is at `top`: its lines, what it said, and its exit status."""
+    module, status = tool(words[0]), 0
+    with contextlib.ExitStack() as stack:
+        stack.enter_context(unittest.mock.patch.object(module, "TOP", top))
+        stack.enter_context(unittest.mock.patch.object(sys, "argv", list(words)))
+        told = stack.enter_context(contextlib.redirect_stdout(io.StringIO()))
+        said = stack.enter_context(contextlib.redirect_stderr(io.StringIO()))
+        try:
+            module.main()
+        except SystemExit as end:
+            status = end.code
+    return told.getvalue().splitlines(), said.getvalue(), status

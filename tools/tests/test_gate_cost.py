@@ -1,11 +1,8 @@
 """What tools/gate-cost tells of a run of the gate."""
 
-import contextlib
-import io
 import os
 import pathlib
 import signal
-import sys
 import tempfile
 import unittest
 import unittest.mock
@@ -34,8 +31,7 @@ ENDLESS = RT.split("python3 -c \"$work\" build --crate-name low --test")[0] + f"
 class GateCost(unittest.TestCase):
     def cost(self, *names, gate=RT):
         """The table, what was said, the exit status, and the words of the gate."""
-        tool = support.tool("gate-cost")
-        with tempfile.TemporaryDirectory() as name, contextlib.ExitStack() as stack:
+        with tempfile.TemporaryDirectory() as name:
             top = pathlib.Path(name)
             for path in ("bin", "crates/low/must-fail", "crates/high", "edit"):
                 (top / path).mkdir(parents=True)
@@ -44,18 +40,10 @@ class GateCost(unittest.TestCase):
             (top / "crates.txt").write_text(CRATES)
             (top / "crates/low/must-fail/wrong.edit").write_text("")
             environment = {"PATH": f"{top / 'bin'}:{os.environ['PATH']}", "LOG": str(top / "log")}
-            stack.enter_context(unittest.mock.patch.dict(os.environ, environment))
-            stack.enter_context(unittest.mock.patch.object(tool, "TOP", top))
-            stack.enter_context(unittest.mock.patch.object(sys, "argv", ["gate-cost", *names]))
-            told = stack.enter_context(contextlib.redirect_stdout(io.StringIO()))
-            said = stack.enter_context(contextlib.redirect_stderr(io.StringIO()))
-            status = 0
-            try:
-                tool.main()
-            except SystemExit as end:
-                status = end.code
+            with unittest.mock.patch.dict(os.environ, environment):
+                table, said, status = support.run_at(top, "gate-cost", *names)
             ran = (top / "log").read_text().split() if (top / "log").exists() else []
-        return told.getvalue().splitlines(), said.getvalue(), status, ran
+        return table, said, status, ran
 
     def test_the_time_is_told_by_crate_and_part(self):
         table, _, status, ran = self.cost("low")

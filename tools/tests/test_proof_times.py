@@ -1,13 +1,9 @@
 """What tools/proof-times tells of the files that a check wrote."""
 
-import contextlib
-import io
 import os
 import pathlib
-import sys
 import tempfile
 import unittest
-import unittest.mock
 
 from . import support
 
@@ -29,8 +25,7 @@ WRITTEN = [
 class ProofTimes(unittest.TestCase):
     def told(self, *words, written=WRITTEN):
         """The lines, what was said, and the exit status."""
-        tool = support.tool("proof-times")
-        with tempfile.TemporaryDirectory() as name, contextlib.ExitStack() as stack:
+        with tempfile.TemporaryDirectory() as name:
             top, at = pathlib.Path(name), 1_000_000_000_000
             for file, seconds in written:
                 path = top / "crates/low/out/incremental" / f"{file}.oantt"
@@ -38,16 +33,7 @@ class ProofTimes(unittest.TestCase):
                 path.write_text("")
                 at += int(seconds * 1e9)
                 os.utime(path, ns=(at, at))
-            stack.enter_context(unittest.mock.patch.object(tool, "TOP", top))
-            stack.enter_context(unittest.mock.patch.object(sys, "argv", ["proof-times", *words]))
-            lines = stack.enter_context(contextlib.redirect_stdout(io.StringIO()))
-            said = stack.enter_context(contextlib.redirect_stderr(io.StringIO()))
-            status = 0
-            try:
-                tool.main()
-            except SystemExit as end:
-                status = end.code
-        return lines.getvalue().splitlines(), said.getvalue(), status
+            return support.run_at(top, "proof-times", *words)
 
     def test_the_time_is_told_by_function_and_part(self):
         lines, said, status = self.told("low")
