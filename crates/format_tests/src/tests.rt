@@ -7,5 +7,6 @@ mod jobs;
 mod links;
 mod parameters;
 mod segments;
+mod senses;
 mod statuses;
 mod tokens;

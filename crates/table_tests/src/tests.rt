@@ -2,6 +2,7 @@ mod blocks;
 mod lists;
 mod model;
 mod operations;
+mod quotas;
 mod ranges;
 mod table_steps;
 mod tokens;

@@ -1,4 +1,5 @@
-// What a unit answers to acts in turn. The crate has tests alone.
+// What a unit and the plain model answer to acts in turn, and whether both answer random histories alike. The crate has
+// tests alone.
 #![tactic(auto)]
 
 #[cfg(test)]

@@ -1,6 +1,9 @@
 mod acts;
 mod asking;
 mod folds;
+mod histories;
+mod model;
+mod needed;
 mod operations;
 mod playing;
 mod records;

@@ -6,6 +6,3 @@ mod status;
 
 pub use quota::exceeds_quota;
 pub use status::map_runs;
-
-#[cfg(test)]
-mod tests;

@@ -1,8 +1,8 @@
 use Rattle.std.proofs.Common.{◌∙◌, ap, sym, subst}
 use Rattle.plain_model.specs.Holds.{AreWithin}
 use Rattle.plain_model.proofs.PublicLaws.{within-push}
-use Rattle.unit_histories.specs.inner.Players.{Played}
-use Rattle.unit_histories.proofs.histories.Player.note.Goals as goal
+use Rattle.unit_tests.specs.inner.Players.{Played}
+use Rattle.unit_tests.proofs.tests.histories.Player.note.Goals as goal
 
 pub returns : goal.returns
 returns c =

@@ -1,7 +1,7 @@
 use Rattle.std.proofs.Common.{◌∙◌, ap, sym, subst}
 use Rattle.plain_model.specs.Holds.{AreWithin}
-use Rattle.unit_histories.specs.inner.Players.{Played}
-use Rattle.unit_histories.proofs.histories.Player.ask.Goals as goal
+use Rattle.unit_tests.specs.inner.Players.{Played}
+use Rattle.unit_tests.proofs.tests.histories.Player.ask.Goals as goal
 
 pub returns : goal.returns
 returns c =

@@ -4,9 +4,9 @@ ghost use Rattle.std.specs.Prelude.{◌≡◌, ◌<◌, ◌≤◌, ◌^◌, ◌+
 ghost use Rattle.cm_history.specs.Legal.{may_ask};
 ghost use Rattle.cm_history.specs.Limits.{within_limits};
 ghost use Rattle.plain_model.specs.Holds.{AreWithin};
-ghost use Rattle.unit_histories.specs.inner.Players.{IsPlayer};
+ghost use Rattle.unit_tests.specs.inner.Players.{IsPlayer};
 
-use crate::needed::Needed;
+use super::needed::Needed;
 use cm_base::{CallList, Config, OutOfMemory, UnitConfig, UnitList};
 use cm_history::{Act, ActRefused, Actor, Answer, Entry, History, within_limits};
 use plain_model::plain_answer;
@@ -117,7 +117,7 @@ struct Player {
 }
 
 impl Model for Player {
-    ghost use Rattle.unit_histories.specs.inner.Players.{Played};
+    ghost use Rattle.unit_tests.specs.inner.Players.{Played};
 
     ghost Value = { Played };
 

@@ -1,13 +1,13 @@
+// How many blocks of a unit are mapped, and which.
 ghost use Rattle.std.specs.Prelude.{◌≡◌, ◌∷◌, [], length, IfOk};
 ghost use Rattle.lba_ranges.specs.declared.ranges.Range.{Range};
 ghost use Rattle.lun_plain.specs.Plain.{Plain};
 
-use super::*;
-use crate::quota::mapped_after;
 use cm_base::Payload;
 use lba_ranges::{BlockList, Blocks, Fill, MapRun, Piece, Range, RangeList};
 use lun_plain::PlainUnit;
 use std::test::Fail;
+use unmap_thin::{exceeds_quota, map_runs};
 
 /// A row of two blocks.
 fn two_places(rt: &HostRuntime, lba: u64) -> Result<RangeList, Fail>
@@ -46,7 +46,7 @@ fn unit_of_eight(rt: &HostRuntime) -> Result<PlainUnit, Fail>
     Ok(unit)
 }
 
-/// With two items from a block on so many blocks would be mapped, by the count and by the quota.
+/// With two items from a block on so many blocks would be mapped: the least quota that they don't exceed.
 fn is_count(
     rt: &HostRuntime,
     unit: &PlainUnit,
@@ -62,8 +62,7 @@ fn is_count(
         return Err(Fail::new("no place for the items"));
     }
     Ok(
-        mapped_after(unit, &places, &items) == count
-            && !exceeds_quota(unit, &places, &items, count)
+        !exceeds_quota(unit, &places, &items, count)
             && (count == 0 || exceeds_quota(unit, &places, &items, count - 1))
             && !exceeds_quota(unit, &places, &items, 8),
     )

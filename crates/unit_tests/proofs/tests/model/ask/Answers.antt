@@ -1,7 +1,7 @@
 use Rattle.std.proofs.Common.{sym, subst}
 use Rattle.plain_model.specs.Holds.{AreWithin}
 use Rattle.plain_model.proofs.PublicLaws.{within-push}
-use Rattle.model_tests.proofs.tests.ask.Goals as goal
+use Rattle.unit_tests.proofs.tests.model.ask.Goals as goal
 
 pub returns : goal.returns
 returns c =

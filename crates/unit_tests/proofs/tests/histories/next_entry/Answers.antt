@@ -1,7 +1,7 @@
 use Rattle.std.proofs.Common.{◌≡◌, true, sym, subst}
 use Rattle.cm_history.specs.declared.act.Entry.{Entry}
 use Rattle.cm_history.specs.Legal.{may_ask}
-use Rattle.unit_histories.proofs.histories.next_entry.Goals as goal
+use Rattle.unit_tests.proofs.tests.histories.next_entry.Goals as goal
 
 pub returns-clause-may : goal.returns-clause-may
 returns-clause-may c =
