@@ -22,8 +22,9 @@ where
 
 /// How tables agree with lists of entries.
 pub(crate) trait Reached {
-    ghost use Rattle.std.specs.Prelude.{List};
+    ghost use Rattle.std.specs.Prelude.{ℕ, List, Option};
     ghost use Rattle.cm_history.specs.declared.act.Entry.{Entry};
+    ghost use Rattle.unit_core.specs.Versions.{Sight};
 
     // These entries make the tables as they are.
     ghost IsAfter: { Self → List Entry → Type 0 };
@@ -33,6 +34,9 @@ pub(crate) trait Reached {
 
     // Each live token has a pin of its own, and no other pin is live.
     ghost IsPinned: { Self → Type 0 };
+
+    // These puts may have written what the blocks and the live tokens show.
+    ghost IsWritten: { Self → (Sight → ℕ → Option ℕ) → Type 0 };
 }
 
 impl<B: Pins + Drop> Reached for Core<B>
@@ -41,8 +45,10 @@ where
 {
     ghost use Rattle.std.specs.Prelude.{List};
     ghost use Rattle.cm_history.specs.declared.act.Entry.{Entry};
-    ghost use Rattle.std.specs.Prelude.{None};
+    ghost use Rattle.std.specs.Prelude.{ℕ, Option, None};
+    ghost use Rattle.unit_core.specs.Versions.{Sight};
     ghost use Rattle.unit_core.specs.inner.Agreeing.{TablesAgree};
+    ghost use Rattle.unit_core.specs.inner.Seen.{AreWriters};
     ghost use Rattle.token_pins.specs.Pinning.{rods_of, holder, ArePinned};
 
     ghost IsAfter = { λ c entries. TablesAgree c.config c.unit
@@ -54,4 +60,6 @@ where
         (rods_of B.number (B.block_length c.tables.blocks) (B.shown c.tables.blocks) c.tables.tokens) c.tables.jobs c.tables.reservations c.last_stamp c.moment entries };
 
     ghost IsPinned = { λ c. ArePinned B.number (B.blocks c.tables.blocks) (B.pinned c.tables.blocks) (holder None c.tables.tokens.tokens) };
+
+    ghost IsWritten = { λ c seen. AreWriters B.number (B.written_by c.tables.blocks) c.tables.tokens.tokens seen };
 }

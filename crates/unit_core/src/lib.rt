@@ -8,6 +8,7 @@ mod folding;
 mod inner;
 mod job_change;
 mod job_plans;
+mod perform;
 mod plan;
 mod plans;
 mod refusals;

@@ -18,7 +18,6 @@ use crate::{block_plans as blocks, refusals};
 use cm_base::OutOfMemory;
 use cm_history::{Act, Actor, Answer, bars};
 use lba_ranges::{BlockList, Pins, RangeList};
-use token_pins::TokenChange;
 
 impl<B: Pins + Drop> Core<B>
 where
@@ -74,10 +73,7 @@ where
                 ranges,
             } => self.plan_populate(actor, *id, *timeout, ranges),
             Act::Redeem { text, target } => self.plan_redeem(moment, text.bytes(), *target),
-            Act::Delete { serial } => Ok(Plan::of_tokens(
-                Answer::Done,
-                TokenChange::Delete { serial: *serial },
-            )),
+            Act::Delete { serial } => Ok(self.plan_delete(*serial)),
             Act::Start {
                 id,
                 background,

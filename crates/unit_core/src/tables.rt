@@ -1,4 +1,4 @@
-ghost use Rattle.std.specs.Prelude.{◌≡◌, ℕ, ◌≤◌, ◌<◌, ◌||◌, [], length, None, unwrap_or, IfOk, OnOk, OnErr, true, false};
+ghost use Rattle.std.specs.Prelude.{◌≡◌, ℕ, ◌≤◌, ◌<◌, ◌||◌, ◌&&◌, not, [], length, None, unwrap_or, IfOk, OnOk, OnErr, true, false};
 ghost use Rattle.cm_base.specs.Configuration.{IsUnit};
 ghost use Rattle.cm_base.specs.Units.{unit_of};
 ghost use Rattle.lba_ranges.specs.Versions.{Writers, IsNew, no_writers};
@@ -11,6 +11,8 @@ ghost use Rattle.pr_keys.specs.Reservations.{unreserved};
 ghost use Rattle.unit_core.specs.inner.Planning.{takes_none};
 ghost use Rattle.unit_core.specs.inner.Seen.{AreWriters, lives_in, put_seen, seen_after};
 
+use crate::block_change::BlockChange;
+use crate::job_change::JobChange;
 use crate::plan::Plan;
 use cm_base::{Config, OutOfMemory};
 use cm_history::Answer;
@@ -19,7 +21,7 @@ use lba_ranges::Pins;
 use pr_keys::PrState;
 use rod_store::RodStore;
 use std::alloc::Global;
-use token_pins::{PinnedRod, give_up, settle};
+use token_pins::{PinnedRod, TokenChange, give_up, settle};
 
 /// What a unit answers from: its blocks, its tokens, its operations and its reservations. A live token is a pin of its blocks.
 #[derive(Drop)]
@@ -60,10 +62,10 @@ where
         ensures reservations { IfOk result (λ t. t.reservations ≡ unreserved) }
         ensures written { IfOk result (λ t. B.written_by t.blocks no_writers) }
     {
-        let jobs = JobTable::new(alloc)?;
         let told = config.unit(unit);
-        let tokens = RodStore::new(alloc, config, unit)?;
         let blocks = B::new(alloc, told.blocks, told.block_length)?;
+        let tokens = RodStore::new(alloc, config, unit)?;
+        let jobs = JobTable::new(alloc)?;
         Ok(Tables {
             blocks,
             tokens,
@@ -112,6 +114,49 @@ where
             tokens,
             reservations,
         } = plan;
+        self.carry_out(now, &blocks, jobs, tokens)?;
+        replace(&mut self.reservations, reservations);
+        Ok(answer)
+    }
+
+    /// Changes blocks, tokens and operations, at a moment. At `OutOfMemory` all stands as before. The rest of the plan stays
+    /// with the caller, so that each way out drops little.
+    fn carry_out(
+        &mut self,
+        now: u64,
+        blocks: &BlockChange<'_>,
+        jobs: JobChange,
+        tokens: TokenChange,
+    ) -> Result<(), OutOfMemory>
+        requires blocks { MayChange (B.blocks self.old.blocks) (B.block_length self.old.blocks) blocks.now }
+        requires jobs { MayJob jobs self.old.jobs }
+        requires tokens { (spare : ℕ) → (is_make tokens ≡ true → 1 ≤ spare)
+            → MayToken (record (rods_of B.number (B.block_length self.old.blocks) (B.shown self.old.blocks) self.old.tokens) { spare = spare }) now tokens }
+        requires pins { MayPin (B.blocks self.old.blocks) tokens }
+        requires apart { (grows jobs || is_make tokens) ≡ true → is_nothing blocks.now ≡ true }
+        requires pinned { ArePinned B.number (B.blocks self.old.blocks) (B.pinned self.old.blocks) (holder None self.old.tokens.tokens) }
+        ensures pinned { ArePinned B.number (B.blocks self.new.blocks) (B.pinned self.new.blocks) (holder None self.new.tokens.tokens) }
+        ensures wrote { OnOk result ((block : ℕ) → B.holds self.new.blocks block
+            ≡ after (writings_of blocks.now) block (B.holds self.old.blocks block)) }
+        ensures jobs { OnOk result (self.new.jobs ≡ jobs_after jobs self.old.jobs) }
+        ensures tokens { OnOk result ((rods_of B.number (B.block_length self.new.blocks) (B.shown self.new.blocks) self.new.tokens).tokens
+            ≡ tokens_after (rod_now (B.block_length self.old.blocks) (B.holds self.old.blocks)) tokens now
+            (rods_of B.number (B.block_length self.old.blocks) (B.shown self.old.blocks) self.old.tokens).tokens) }
+        ensures unit { self.new.tokens.unit ≡ self.old.tokens.unit }
+        ensures blocks { B.blocks self.new.blocks ≡ B.blocks self.old.blocks }
+        ensures length { B.block_length self.new.blocks ≡ B.block_length self.old.blocks }
+        ensures reservations { self.new.reservations ≡ self.old.reservations }
+        ensures same_blocks { OnErr result ((block : ℕ) → B.holds self.new.blocks block ≡ B.holds self.old.blocks block) }
+        ensures same_jobs { OnErr result (self.new.jobs ≡ self.old.jobs) }
+        ensures same_tokens { OnErr result ((rods_of B.number (B.block_length self.new.blocks) (B.shown self.new.blocks) self.new.tokens).tokens
+            ≡ (rods_of B.number (B.block_length self.old.blocks) (B.shown self.old.blocks) self.old.tokens).tokens) }
+        ensures memory { OnErr result ((is_nothing blocks.now && not (grows jobs) && not (is_make tokens)) ≡ false) }
+        ensures written { OnOk result ((w : Writers) (put : ℕ) → B.written_by self.old.blocks w → IsNew (B.blocks self.old.blocks) (B.pinned self.old.blocks) w put
+            → AreWriters B.number (B.written_by self.new.blocks) self.new.tokens.tokens
+            (seen_after put (writings_of blocks.now) (ranges_pinned tokens) (length self.old.tokens.tokens) (lives_in self.new.tokens.tokens) (put_seen B.number w self.old.tokens.tokens))) }
+        ensures writers { OnErr result ((w : Writers) → B.written_by self.old.blocks w
+            → AreWriters B.number (B.written_by self.new.blocks) self.new.tokens.tokens (put_seen B.number w self.old.tokens.tokens)) }
+    {
         tokens.reserve(&mut self.tokens)?;
         blocks.apply(&mut self.blocks)?;
         let change = tokens.pinned(&mut self.blocks)?;
@@ -120,7 +165,6 @@ where
             return Err(refused);
         }
         settle(change, now, &mut self.tokens, &mut self.blocks);
-        replace(&mut self.reservations, reservations);
-        Ok(answer)
+        Ok(())
     }
 }

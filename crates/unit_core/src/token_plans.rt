@@ -97,4 +97,12 @@ where
             Err(sense) => Ok(Plan::answered(Answer::Refused(sense))),
         }
     }
+
+    /// Deletes a token.
+    pub(crate) fn plan_delete<'a>(&self, serial: u64) -> Plan<'a>
+        ensures { (h : List Entry) → ⟦<Core<B> as Reached>⟧.IsAfter self.now h → (actor : Actor) (at : ℕ)
+            → IsPlan self.now.config self.now.unit (past_of self.now.config self.now.unit h) actor at (Act.Delete serial) result }
+    {
+        Plan::of_tokens(Answer::Done, TokenChange::Delete { serial })
+    }
 }

@@ -95,12 +95,12 @@ where
         ensures kept { IfOk result (λ u. u.kept ≡ []) }
         ensures folded { IfOk result (λ u. u.folded ≡ 0) }
     {
+        let own = config.copy(alloc)?;
         let tables = Tables::new(alloc, config, unit)?;
-        let config = config.copy(alloc)?;
         Ok(UnitOver {
             core: Core {
                 alloc,
-                config,
+                config: own,
                 unit,
                 tables,
                 last_stamp: 0,
@@ -152,17 +152,14 @@ where
         if self.is_full(actor, stamp, &act) {
             return Err(ActRefused::Full);
         }
-        let plan = self.core.plan(actor, moment, &act)?;
-        let room = self.core.tables.jobs.reserved() + self.core.need(actor, &act);
-        self.history.reserve(room)?;
-        let now = moment.max(self.core.moment);
-        let answer = self.core.tables.change(now, plan)?;
-        self.core.last_stamp = stamp.max(self.core.last_stamp) + 1;
-        self.core.moment = now;
+        let unit = self.core.unit;
+        let stamp = stamp.max(self.core.last_stamp) + 1;
+        let history = &mut self.history;
+        let answer = self.core.perform(history, actor, stamp, moment, &act)?;
         self.payload += bytes_in(&act);
         self.history.append(Entry {
-            stamp: self.core.last_stamp,
-            unit: self.core.unit,
+            stamp,
+            unit,
             actor,
             seq,
             moment,

@@ -1,8 +1,6 @@
 use Rattle.std.proofs.Common.{inl, inr, ap, refl}
 use Rattle.std.specs.Prelude.{Some}
 use Rattle.std.proofs.lemmas.Result.{IfOk-weaker}
-use Rattle.cm_history.specs.History.{past_of}
-use Rattle.unit_core.proofs.Planned.{delete-plan}
 use Rattle.unit_core.proofs.inner.Core.plan_unbarred.Goals as goal
 
 pub returns-in-Read-clause-planned : goal.returns-in-Read-clause-planned
@@ -39,9 +37,7 @@ pub returns-in-Start-clause-planned : goal.returns-in-Start-clause-planned
 returns-in-Start-clause-planned g c = rw (c.in-Start.is, ← c.list.ensures) (IfOk-weaker c.plan_start.result _ _ (λ p f h a. f h a c.args.moment) c.plan_start.ensures)
 
 pub returns-in-Delete-clause-planned : goal.returns-in-Delete-clause-planned
-returns-in-Delete-clause-planned g c = λ h a free.
-    let s = c.args.self.now in
-    rw (c.in-Delete.is, c.of_tokens.ensures) (delete-plan s.config s.unit (past_of s.config s.unit h) c.args.actor c.args.moment c.in-Delete.serial)
+returns-in-Delete-clause-planned g c = λ h a free. rw c.in-Delete.is (c.plan_delete.ensures h a c.args.actor c.args.moment)
 
 pub returns-in-End-clause-planned : goal.returns-in-End-clause-planned
 returns-in-End-clause-planned g c = λ h a free. rw c.in-End.is (c.plan_end.ensures h a c.args.moment)

@@ -12,7 +12,7 @@ use Rattle.unit_core.specs.inner.JobChanges.{grows}
 use Rattle.unit_core.specs.inner.Seen.{lives_in, put_seen, seen_after}
 use Rattle.unit_core.proofs.Seeing.{pinned-apart, seen-changed, seen-with}
 use Rattle.unit_core.proofs.Changing.{on-err, nothing-written, made-makes, now-same, may-now, stay, stay-shown}
-use Rattle.unit_core.proofs.tables.Tables.change.Goals as goal
+use Rattle.unit_core.proofs.tables.Tables.carry_out.Goals as goal
 
 or-right : (a b : Bool) → b ≡ true → (a || b) ≡ true
 or-right true b e = refl
@@ -86,7 +86,7 @@ returns-in-Err-clause-same_tokens g c = rw c.reserve.ensures.same (
 
 pub settle-requires-clause-may : goal.settle-requires-clause-may
 settle-requires-clause-may g c =
-    may-now (rod_shown g.B.Pins.number (g.B.Blocks.block_length c.args.self.now.blocks) (g.B.Blocks.shown c.args.self.now.blocks)) c.args.self.now.tokens c.reserve.new.tokens c.args.now c.args.plan.tokens
+    may-now (rod_shown g.B.Pins.number (g.B.Blocks.block_length c.args.self.now.blocks) (g.B.Blocks.shown c.args.self.now.blocks)) c.args.self.now.tokens c.reserve.new.tokens c.args.now c.args.tokens
     (unpinned c.in_ok-change.change) c.reserve.ensures.same c.in_ok-change.ensures.change (c.requires.tokens c.reserve.new.tokens.spare c.in_ok-reserve.ensures.room)
 
 pub settle-requires-clause-pinned : goal.settle-requires-clause-pinned
@@ -117,7 +117,7 @@ returns-clause-tokens g c =
     let quiet : (rod : PinnedRod _) → rod_made change ≡ Some rod → (b : ℕ) → g.B.Blocks.holds put b ≡ g.B.Blocks.holds was b = λ rod e b.
     c.in_ok-apply.ensures.wrote b
     ∙ ap (λ ws. after ws b (g.B.Blocks.holds was b))
-    (nothing-written c.args.plan.blocks (c.requires.apart (or-right (grows c.args.plan.jobs) (is_make c.args.plan.tokens) (ap is_make (sym c.in_ok-change.ensures.change) ∙ made-makes change rod e)))) in
+    (nothing-written c.args.blocks.now (c.requires.apart (or-right (grows c.args.jobs) (is_make c.args.tokens) (ap is_make (sym c.in_ok-change.ensures.change) ∙ made-makes change rod e)))) in
     let made : (rod : PinnedRod _) → rod_made change ≡ Some rod → f rod ≡ cut rod.ranges = λ rod e.
     ap (λ n. rod_shown number n (g.B.Blocks.shown kept) rod) (sym c.apply.ensures.length)
     ∙ c.in_ok-change.ensures.made rod e
@@ -126,7 +126,7 @@ returns-clause-tokens g c =
     ∙ ap (map (kept_with f)) (c.settle.ensures.tokens ∙ ap (pinned_after change c.args.now) c.reserve.ensures.same)
     ∙ after-with f cut change c.args.now tokens made
     ∙ ap (λ x. tokens_after cut x c.args.now (map (kept_with f) tokens)) c.in_ok-change.ensures.change
-    ∙ ap (tokens_after cut c.args.plan.tokens c.args.now)
+    ∙ ap (tokens_after cut c.args.tokens c.args.now)
     (rods-same number size size (g.B.Blocks.shown was) (g.B.Blocks.shown kept) tokens refl (λ k rod b e den. second k rod b e den ∙ first k rod b e den))
 
 pub returns-in_err-reserve-clause-writers : goal.returns-in_err-reserve-clause-writers
@@ -139,7 +139,7 @@ returns-in_err-apply-clause-writers g c = on-err c.from_residual-in_err-apply.re
 
 pub returns-in_err-change-clause-writers : goal.returns-in_err-change-clause-writers
 returns-in_err-change-clause-writers g c = on-err c.from_residual-in_err-change.result _ (λ w by.
-    let quiet = c.requires.apart (or-right (grows c.args.plan.jobs) (is_make c.args.plan.tokens) c.in_err-change.ensures.makes) in
+    let quiet = c.requires.apart (or-right (grows c.args.jobs) (is_make c.args.tokens) c.in_err-change.ensures.makes) in
     record { writers = w; written = c.in_err-change.ensures.writers w (c.apply.ensures.quiet quiet w by); same = λ s b. ap (λ l. put_seen g.B.Pins.number w l s b) c.reserve.ensures.same })
 
 or-left : (a b : Bool) → a ≡ true → (a || b) ≡ true
@@ -155,7 +155,7 @@ returns-in-Err-clause-writers g c = λ w by.
     let are = pinned-same number (g.B.Blocks.blocks c.args.self.now.blocks) (g.B.Blocks.pinned c.args.self.now.blocks) (g.B.Blocks.pinned c.apply.new.blocks) own own c.requires.pinned c.apply.ensures.pins.live (λ at. refl) in
     let here = pinned-sized number (g.B.Blocks.blocks c.args.self.now.blocks) (g.B.Blocks.blocks c.apply.new.blocks) (g.B.Blocks.pinned c.apply.new.blocks) own c.apply.ensures.blocks are in
     let apart = pinned-apart number (g.B.Blocks.blocks c.pinned.new.blocks) (g.B.Blocks.pinned c.pinned.new.blocks) change tokens (c.in_ok-change.ensures.pins tokens here) in
-    let quiet = c.requires.apart (or-left (grows c.args.plan.jobs) (is_make c.args.plan.tokens) c.in-Err.ensures.grows) in
+    let quiet = c.requires.apart (or-left (grows c.args.jobs) (is_make c.args.tokens) c.in-Err.ensures.grows) in
     record {
       writers = written_with number change w;
       written = c.give_up.ensures.written (written_with number change w) (c.in_ok-change.ensures.written w (c.apply.ensures.quiet quiet w by));
@@ -168,12 +168,12 @@ returns-clause-written g c = λ w put by new.
     let own = holder None c.args.self.now.tokens.tokens in
     let tokens = c.args.self.now.tokens.tokens in
     let change = c.in_ok-change.change in
-    let ws = writings_of c.args.plan.blocks in
+    let ws = writings_of c.args.blocks.now in
     let are = pinned-same number (g.B.Blocks.blocks c.args.self.now.blocks) (g.B.Blocks.pinned c.args.self.now.blocks) (g.B.Blocks.pinned c.apply.new.blocks) own own c.requires.pinned c.apply.ensures.pins.live (λ at. refl) in
     let here = pinned-sized number (g.B.Blocks.blocks c.args.self.now.blocks) (g.B.Blocks.blocks c.apply.new.blocks) (g.B.Blocks.pinned c.apply.new.blocks) own c.apply.ensures.blocks are in
     let apart = pinned-apart number (g.B.Blocks.blocks c.pinned.new.blocks) (g.B.Blocks.pinned c.pinned.new.blocks) change tokens (c.in_ok-change.ensures.pins tokens here) in
     let quiet : (rod : PinnedRod _) → rod_made change ≡ Some rod → ws ≡ [] = λ rod e.
-    nothing-written c.args.plan.blocks (c.requires.apart (or-right (grows c.args.plan.jobs) (is_make c.args.plan.tokens) (ap is_make (sym c.in_ok-change.ensures.change) ∙ made-makes change rod e))) in
+    nothing-written c.args.blocks.now (c.requires.apart (or-right (grows c.args.jobs) (is_make c.args.tokens) (ap is_make (sym c.in_ok-change.ensures.change) ∙ made-makes change rod e))) in
     let after = c.settle.ensures.tokens ∙ ap (pinned_after change c.args.now) c.reserve.ensures.same in
     let written = c.settle.ensures.written _ (c.in_ok-change.ensures.written _ (c.in_ok-apply.ensures.written w put by new)) in
     record {
@@ -183,5 +183,5 @@ returns-clause-written g c = λ w put by new.
           ap (λ l. put_seen number (written_with number change (with_put ws put w)) l s b) after
           ∙ seen-changed number change tokens apart c.args.now ws put w quiet s b
           ∙ ap (λ x. seen_after put ws (ranges_pinned x) (length tokens) (lives_in (pinned_after change c.args.now tokens)) (put_seen number w tokens) s b) c.in_ok-change.ensures.change
-          ∙ ap (λ l. seen_after put ws (ranges_pinned c.args.plan.tokens) (length tokens) (lives_in l) (put_seen number w tokens) s b) (sym after);
+          ∙ ap (λ l. seen_after put ws (ranges_pinned c.args.tokens) (length tokens) (lives_in l) (put_seen number w tokens) s b) (sym after);
     }
