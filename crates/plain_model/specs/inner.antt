@@ -2,7 +2,9 @@ pub mod Writings
 pub mod Holds
 pub mod Tables
 pub mod Outcomes
+pub mod Parts
 pub mod Pasts
+pub mod Reservations
 pub mod Forms
 pub mod Fates
 pub mod Amounts

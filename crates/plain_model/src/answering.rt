@@ -1,7 +1,10 @@
 ghost use Rattle.std.specs.Prelude.{◌≡◌, ◌<◌, length, true, IfOk};
+ghost use Rattle.cm_base.specs.Units.{unit_of};
+ghost use Rattle.cm_history.specs.Answers.{answer_after};
 ghost use Rattle.cm_history.specs.History.{answer};
 ghost use Rattle.cm_history.specs.Limits.{within_limits};
 ghost use Rattle.plain_model.specs.Holds.{AreWithin};
+ghost use Rattle.plain_model.specs.inner.Holds.{IsSizedPast};
 ghost use Rattle.plain_model.specs.inner.Pasts.{IsPlayed};
 
 use crate::acts;
@@ -9,6 +12,27 @@ use crate::unit::PlainUnit;
 use cm_base::{Config, OutOfMemory};
 use cm_history::{Act, Actor, Answer, History};
 use std::alloc::Global;
+
+impl PlainUnit {
+    /// What an act is answered.
+    pub(crate) fn answer(
+        &self,
+        alloc: Global,
+        config: &Config,
+        number: u16,
+        actor: Actor,
+        moment: u64,
+        act: &Act,
+    ) -> Result<Answer, OutOfMemory>
+        requires configured { number < length config.now.units }
+        requires limits { within_limits config.now number act.now ≡ true }
+        requires sized { IsSizedPast (unit_of config.now number).block_length self.now }
+        ensures { IfOk result (λ a. a ≡ answer_after config.now number self.now actor moment act.now) }
+    {
+        let outcome = self.outcome(alloc, config, number, actor, moment, act)?;
+        Ok(outcome.answer)
+    }
+}
 
 /// The unit after its entries of a history.
 fn played(
@@ -50,6 +74,5 @@ pub fn plain_answer(
     ensures { IfOk result (λ a. a ≡ answer config.now history.now.entries unit actor moment act.now) }
 {
     let played = played(alloc, config, history, unit)?;
-    let outcome = played.outcome(alloc, config, unit, actor, moment, act)?;
-    Ok(outcome.answer)
+    played.answer(alloc, config, unit, actor, moment, act)
 }

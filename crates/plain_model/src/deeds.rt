@@ -6,6 +6,7 @@ ghost use Rattle.cm_history.specs.Blocks.{held};
 ghost use Rattle.cm_history.specs.Operations.{is_failure, is_ending, written_by, was_stopped, was_ended, result_or, result_of};
 ghost use Rattle.cm_history.specs.Room.{payload};
 ghost use Rattle.plain_model.specs.inner.Amounts.{capped, mappings};
+ghost use Rattle.plain_model.specs.inner.Parts.{deed_of};
 
 use crate::acts::bytes_in;
 use crate::writings::PlainWritings;
@@ -13,10 +14,11 @@ use cm_base::{OutOfMemory, Payload};
 use cm_history::{Act, Answer, CopyEnd, CopyState, Entry, OpState};
 use std::alloc::Global;
 use std::marker::Model;
+use std::rc::Rc;
 
-/// An entry of the unit, with what came of it.
+/// What a deed consists of.
 #[derive(Drop)]
-pub(crate) struct PlainDeed {
+pub(crate) struct DeedParts {
     pub(crate) entry: Entry,
     pub(crate) place: u64,
     pub(crate) moment: u64,
@@ -25,12 +27,19 @@ pub(crate) struct PlainDeed {
     pub(crate) served: Option<u64>,
 }
 
+/// An entry of the unit, with what came of it. Its copies share them.
+#[derive(Drop)]
+pub(crate) struct PlainDeed {
+    parts: Rc<DeedParts>,
+}
+
 impl Model for PlainDeed {
     ghost use Rattle.cm_history.specs.Deeds.{Deed};
+    ghost use Rattle.plain_model.specs.inner.Parts.{deed_of};
 
     ghost Value = { Deed };
 
-    ghost view = { λ d. record { entry = d.entry; place = d.place; moment = d.moment; answer = d.answer; wrote = d.wrote; served = d.served } };
+    ghost view = { λ d. deed_of d.parts.value };
 }
 
 /// The answer is a refusal.
@@ -51,78 +60,78 @@ pub(crate) fn is_failure(answer: &Answer) -> bool
 }
 
 impl PlainDeed {
+    pub(crate) fn new(alloc: Global, parts: DeedParts) -> Result<PlainDeed, OutOfMemory>
+        ensures { IfOk result (λ deed. deed ≡ deed_of parts) }
+    {
+        Ok(PlainDeed {
+            parts: Rc::new(alloc, parts)?,
+        })
+    }
+
     pub(crate) fn entry(&self) -> &Entry
         ensures { result.now ≡ self.now.entry }
     {
-        &self.entry
+        &self.parts.entry
     }
 
     pub(crate) fn place(&self) -> u64
         ensures { result ≡ self.now.place }
     {
-        self.place
+        self.parts.place
     }
 
     pub(crate) fn moment(&self) -> u64
         ensures { result ≡ self.now.moment }
     {
-        self.moment
+        self.parts.moment
     }
 
     pub(crate) fn answer(&self) -> &Answer
         ensures { result.now ≡ self.now.answer }
     {
-        &self.answer
+        &self.parts.answer
     }
 
     pub(crate) fn wrote(&self) -> &PlainWritings
         ensures { result.now ≡ self.now.wrote }
     {
-        &self.wrote
+        &self.parts.wrote
     }
 
     pub(crate) fn served(&self) -> Option<u64>
         ensures { result ≡ self.now.served }
     {
-        self.served
+        self.parts.served
     }
 
     pub(crate) fn is_answered(&self) -> bool
         ensures { result ≡ is_answered self.now }
     {
-        !is_refusal(&self.answer)
+        !is_refusal(self.answer())
     }
 
     /// It ended the operation that it served.
     fn is_ending(&self) -> bool
         ensures { result ≡ is_ending self.now.entry.act }
     {
-        matches!(&self.entry.act, Act::End { .. } | Act::Abort { .. })
+        matches!(&self.parts.entry.act, Act::End { .. } | Act::Abort { .. })
     }
 
     /// The result of a Close; of another act, what it was.
     fn result_or(&self, was: CopyEnd) -> CopyEnd
         ensures { result ≡ result_or was self.now.entry.act }
     {
-        match &self.entry.act {
+        match &self.parts.entry.act {
             Act::Close { id: _, result } => *result,
             _ => was,
         }
     }
 
-    pub(crate) fn copy(&self, alloc: Global) -> Result<PlainDeed, OutOfMemory>
+    pub(crate) fn copy(&self) -> Result<PlainDeed, OutOfMemory>
         ensures { IfOk result (λ copy. copy ≡ self.now) }
     {
-        let entry = self.entry.copy(alloc)?;
-        let answer = self.answer.copy(alloc)?;
-        let wrote = self.wrote.copy(alloc)?;
         Ok(PlainDeed {
-            entry,
-            place: self.place,
-            moment: self.moment,
-            answer,
-            wrote,
-            served: self.served,
+            parts: self.parts.clone()?,
         })
     }
 }
@@ -158,11 +167,11 @@ impl PlainPast {
         self.deeds.len()
     }
 
-    pub(crate) fn push(&mut self, deed: PlainDeed) -> Result<(), OutOfMemory>
-        ensures ok { OnOk result (self.new ≡ deed ∷ self.old) }
+    pub(crate) fn push(&mut self, deed: &PlainDeed) -> Result<(), OutOfMemory>
+        ensures ok { OnOk result (self.new ≡ deed.now ∷ self.old) }
         ensures err { OnErr result (self.new ≡ self.old) }
     {
-        self.deeds.push(deed)?;
+        self.deeds.push(deed.copy()?)?;
         Ok(())
     }
 
@@ -171,7 +180,7 @@ impl PlainPast {
     {
         let mut copy = PlainPast::new(alloc);
         for deed in &self.deeds {
-            copy.push(deed.copy(alloc)?)?;
+            copy.push(deed)?;
         }
         Ok(copy)
     }

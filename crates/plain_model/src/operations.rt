@@ -53,7 +53,7 @@ impl PlainOperation {
         ensures { IfOk result (λ o. o ≡ made_operation made.now) }
     {
         Ok(PlainOperation {
-            made: made.copy(alloc)?,
+            made: made.copy()?,
             servers: PlainPast::new(alloc),
         })
     }
@@ -213,15 +213,15 @@ impl PlainOperation {
     fn copy(&self, alloc: Global) -> Result<PlainOperation, OutOfMemory>
         ensures { IfOk result (λ copy. copy ≡ self.now) }
     {
-        let made = self.made.copy(alloc)?;
+        let made = self.made.copy()?;
         let servers = self.servers.copy(alloc)?;
         Ok(PlainOperation { made, servers })
     }
 
     /// Adds a deed to those that served it.
-    fn serve(&mut self, deed: PlainDeed) -> Result<(), OutOfMemory>
-        requires { IsSoundOperation (record self.old { servers = deed ∷ self.old.servers }) }
-        ensures { OnOk result (self.new ≡ record self.old { servers = deed ∷ self.old.servers }) }
+    fn serve(&mut self, deed: &PlainDeed) -> Result<(), OutOfMemory>
+        requires { IsSoundOperation (record self.old { servers = deed.now ∷ self.old.servers }) }
+        ensures { OnOk result (self.new ≡ record self.old { servers = deed.now ∷ self.old.servers }) }
     {
         self.servers.push(deed)
     }
@@ -233,7 +233,6 @@ impl PlainOperation {
     {
         let mut operation = self.copy(alloc)?;
         if deed.served() == Some(self.place()) {
-            let deed = deed.copy(alloc)?;
             operation.serve(deed)?;
         }
         Ok(operation)

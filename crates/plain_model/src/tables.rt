@@ -1,13 +1,12 @@
-ghost use Rattle.std.specs.Prelude.{◌≡◌, ◌∷◌, [], IfOk};
-ghost use Rattle.cm_history.specs.Reserving.{reserved_by};
+ghost use Rattle.std.specs.Prelude.{◌∷◌, [], IfOk};
 ghost use Rattle.plain_model.specs.inner.Holds.{MayFollow};
 ghost use Rattle.plain_model.specs.inner.Tables.{ComeOf};
 
 use crate::deeds::{PlainDeed, PlainPast};
 use crate::operations::{PlainOperation, kept_after, operations_after};
+use crate::reservations::reservations_after;
 use crate::tokens::{PlainToken, tokens_after};
 use cm_base::OutOfMemory;
-use cm_history::{Act, Entry, reserve};
 use pr_keys::PrState;
 use std::alloc::Global;
 
@@ -54,25 +53,5 @@ impl PlainTables {
             kept,
             reservations,
         })
-    }
-}
-
-/// The reservations after one more entry.
-fn reservations_after(reservations: &PrState, entry: &Entry) -> Result<PrState, OutOfMemory>
-    ensures { IfOk result (λ r. r ≡ reserved_by reservations.now entry.now.actor entry.now.act) }
-{
-    match entry.act {
-        Act::PrOut {
-            action,
-            scope,
-            kind,
-            key,
-            action_key,
-        } => {
-            let actor = entry.actor;
-            let done = reserve(reservations, actor, action, scope, kind, key, action_key)?;
-            Ok(done.reservations)
-        }
-        _ => reservations.copy(),
     }
 }

@@ -1,12 +1,12 @@
-ghost use Rattle.std.specs.Prelude.{◌≡◌, ◌<◌, ◌∷◌, [], ◌^◌, length, find, true, false, IfOk, OnOk, OnErr};
+ghost use Rattle.std.specs.Prelude.{◌≡◌, ◌<◌, ◌∷◌, [], ◌^◌, length, max, find, true, false, Some, IfOk, OnOk, OnErr};
 ghost use Rattle.std.specs.Option.{option_copied};
 ghost use Rattle.cm_base.specs.Units.{unit_of};
 ghost use Rattle.lba_ranges.specs.Denoted.{blocks_of};
 ghost use Rattle.cm_history.specs.declared.act.Act.{Act};
-ghost use Rattle.cm_history.specs.Answers.{answer_after, answer_unbarred, answer_populate, answer_start, answer_open, progress, answer_end, done_if, answer_report, answer_recall, is_busy, is_crowded, piece_of, writings, deed};
+ghost use Rattle.cm_history.specs.Answers.{answer_after, answer_unbarred, answer_populate, answer_start, answer_open, progress, is_busy, is_crowded, piece_of, writings, deed};
 ghost use Rattle.cm_history.specs.Deeds.{moment};
 ghost use Rattle.cm_history.specs.Limits.{within_limits};
-ghost use Rattle.cm_history.specs.Operations.{OfToken, OfCopy, has_key, kept, operations, running, would_serve};
+ghost use Rattle.cm_history.specs.Operations.{OfToken, OfCopy, has_key, kept, next_piece, operations, running, would_serve};
 ghost use Rattle.cm_history.specs.Redeeming.{redeemed, named_token};
 ghost use Rattle.cm_history.specs.Reserving.{reservations, reserved_by, bars_act};
 ghost use Rattle.cm_history.specs.Room.{reserved, need, need_to_serve, is_full};
@@ -17,17 +17,16 @@ ghost use Rattle.plain_model.specs.inner.Outcomes.{IsOutcome};
 ghost use Rattle.cm_history.specs.Tokens.{tokens};
 
 use crate::acts::{self, PlainForm, bytes_in, is_write};
-use crate::deeds::{PlainDeed, PlainPast};
+use crate::deeds::{DeedParts, PlainDeed, PlainPast};
+use crate::operation_answers::{answer_end, answer_recall, answer_report, done_if};
 use crate::operations::PlainOperation;
 use crate::outcome::PlainOutcome;
+use crate::reservations::answer_out;
 use crate::tables::PlainTables;
 use crate::tokens::PlainToken;
-use crate::writings::PlainWritings;
 use crate::{blocks, refusals};
 use cm_base::{Config, OutOfMemory, UnitConfig};
-use cm_history::{
-    Act, Actor, Answer, Entry, OpState, answer_holder, answer_keys, bars, pieces, reserve,
-};
+use cm_history::{Act, Actor, Answer, Entry, OpState, answer_holder, answer_keys, bars, pieces};
 use lba_ranges::{BlockList, RangeList};
 use std::alloc::Global;
 use std::marker::Model;
@@ -201,29 +200,22 @@ impl PlainUnit {
         Answer::Done
     }
 
-    /// Writes the next piece of the operation that the act serves, if the quota allows it.
-    fn progress(
+    /// Writes the next piece of an operation, if the quota allows it.
+    fn write_piece(
         &self,
         alloc: Global,
         unit: UnitConfig,
-        otherwise: Answer,
-        served: Option<&PlainOperation>,
+        operation: &PlainOperation,
     ) -> Result<PlainOutcome, OutOfMemory>
         requires { unit.blocks < 2 ^ 63 }
-        ensures { IfOk result (λ o. IsOutcome o (progress unit self.now otherwise (option_copied served.entry)) (piece_of (option_copied served.entry))) }
+        ensures { IfOk result (λ o. IsOutcome o (progress unit self.now Answer.Idle (Some operation.now)) (next_piece operation.now)) }
     {
-        let Some(operation) = served else {
-            return Ok(PlainOutcome::told(alloc, otherwise));
-        };
         let piece = operation.next_piece(alloc)?;
         let before = operation.count();
         if self.past.maps_beyond(unit.quota, unit.blocks, &piece) {
             let state = OpState::Failed(refusals::quota_sense());
             let count = before;
-            return Ok(PlainOutcome {
-                answer: Answer::Progress { state, count },
-                wrote: PlainWritings::new(alloc),
-            });
+            return Ok(PlainOutcome::told(alloc, Answer::Progress { state, count }));
         }
         let count = before + piece.len() as u32;
         let state = if u64::from(count) == operation.blocks() {
@@ -235,6 +227,23 @@ impl PlainUnit {
             answer: Answer::Progress { state, count },
             wrote: piece,
         })
+    }
+
+    /// Writes the next piece of the operation that the act serves, if there is one.
+    fn progress(
+        &self,
+        alloc: Global,
+        unit: UnitConfig,
+        otherwise: Answer,
+        served: Option<&PlainOperation>,
+    ) -> Result<PlainOutcome, OutOfMemory>
+        requires { unit.blocks < 2 ^ 63 }
+        ensures { IfOk result (λ o. IsOutcome o (progress unit self.now otherwise (option_copied served.entry)) (piece_of (option_copied served.entry))) }
+    {
+        match served {
+            Some(operation) => self.write_piece(alloc, unit, operation),
+            None => Ok(PlainOutcome::told(alloc, otherwise)),
+        }
     }
 }
 
@@ -282,17 +291,7 @@ impl PlainUnit {
                 let found = self.kept(actor, PlainForm::OfCopy, u32::from(*id));
                 Ok(answer_recall(found))
             }
-            Act::PrOut {
-                action,
-                scope,
-                kind,
-                key,
-                action_key,
-            } => {
-                let unit = &self.tables.reservations;
-                let done = reserve(unit, actor, *action, *scope, *kind, *key, *action_key)?;
-                Ok(done.answer)
-            }
+            Act::PrOut { .. } => answer_out(&self.tables.reservations, actor, act),
             Act::PrKeys => answer_keys(&self.tables.reservations),
             Act::PrHolder => Ok(answer_holder(&self.tables.reservations)),
             _ => Ok(Answer::Done),
@@ -360,6 +359,34 @@ impl PlainUnit {
         }
     }
 
+    /// The deed of an entry that serves this operation and has this outcome, behind all deeds.
+    fn next_deed(
+        &self,
+        alloc: Global,
+        entry: &Entry,
+        served: Option<u64>,
+        outcome: PlainOutcome,
+    ) -> Result<PlainDeed, OutOfMemory>
+        ensures { IfOk result (λ d. d ≡ record {
+          entry = entry.now;
+          place = length self.now;
+          moment = max entry.now.moment (moment self.now);
+          answer = outcome.answer;
+          wrote = outcome.wrote;
+          served = served;
+        }) }
+    {
+        let parts = DeedParts {
+            entry: entry.copy(alloc)?,
+            place: self.past.len() as u64,
+            moment: entry.moment.max(self.past.moment()),
+            answer: outcome.answer,
+            wrote: outcome.wrote,
+            served,
+        };
+        PlainDeed::new(alloc, parts)
+    }
+
     /// The deed that comes of an entry.
     fn deed(
         &self,
@@ -377,31 +404,17 @@ impl PlainUnit {
             Some(operation) => Some(operation.place()),
             None => None,
         };
-        let PlainOutcome { answer, wrote } = self.outcome(
-            alloc,
-            config,
-            number,
-            entry.actor,
-            entry.moment,
-            &entry.act,
-        )?;
-        Ok(PlainDeed {
-            entry: entry.copy(alloc)?,
-            place: self.past.len() as u64,
-            moment: entry.moment.max(self.past.moment()),
-            answer,
-            wrote,
-            served,
-        })
+        let outcome = self.outcome(alloc, config, number, entry.actor, entry.moment, &entry.act)?;
+        self.next_deed(alloc, entry, served, outcome)
     }
 
     /// Adds a deed. At `OutOfMemory` nothing changes.
-    fn push(&mut self, alloc: Global, deed: PlainDeed) -> Result<(), OutOfMemory>
-        requires { MayFollow self.old deed }
-        ensures ok { OnOk result (self.new ≡ deed ∷ self.old) }
+    fn push(&mut self, alloc: Global, deed: &PlainDeed) -> Result<(), OutOfMemory>
+        requires { MayFollow self.old deed.now }
+        ensures ok { OnOk result (self.new ≡ deed.now ∷ self.old) }
         ensures err { OnErr result (self.new ≡ self.old) }
     {
-        let tables = self.tables.after(alloc, &self.past, &deed)?;
+        let tables = self.tables.after(alloc, &self.past, deed)?;
         self.past.push(deed)?;
         self.tables = tables;
         Ok(())
@@ -423,7 +436,7 @@ impl PlainUnit {
         ensures err { OnErr result (self.new ≡ self.old) }
     {
         let deed = self.deed(alloc, config, number, entry)?;
-        self.push(alloc, deed)
+        self.push(alloc, &deed)
     }
 }
 
@@ -478,44 +491,5 @@ impl PlainUnit {
         stamp.max(self.past.last_stamp()) == u64::MAX
             || kept.saturating_add(self.need(actor, act)) > u64::from(unit.entries)
             || (is_write(act) && payload > u64::from(unit.payload))
-    }
-}
-
-fn answer_end(served: Option<&PlainOperation>) -> Answer
-    ensures { result ≡ answer_end (option_copied served.entry) }
-{
-    match served {
-        Some(operation) => Answer::Progress {
-            state: OpState::Terminated,
-            count: operation.count(),
-        },
-        None => refusals::no_such_operation(),
-    }
-}
-
-fn done_if(served: Option<&PlainOperation>) -> Answer
-    ensures { result ≡ done_if (option_copied served.entry) }
-{
-    match served {
-        Some(_) => Answer::Done,
-        None => refusals::no_such_operation(),
-    }
-}
-
-fn answer_report(found: Option<&PlainOperation>) -> Answer
-    ensures { result ≡ answer_report (option_copied found.entry) }
-{
-    match found {
-        Some(operation) => Answer::Report(operation.report()),
-        None => refusals::no_such_operation(),
-    }
-}
-
-fn answer_recall(found: Option<&PlainOperation>) -> Answer
-    ensures { result ≡ answer_recall (option_copied found.entry) }
-{
-    match found {
-        Some(operation) => Answer::Copy(operation.result()),
-        None => refusals::no_such_operation(),
     }
 }

@@ -85,8 +85,7 @@ impl PlainUnits {
     {
         let _ = self.config.unit(unit);
         let played = &self.units[usize::from(unit)];
-        let outcome = played.outcome(alloc, &self.config, unit, actor, moment, act)?;
-        Ok(outcome.answer)
+        played.answer(alloc, &self.config, unit, actor, moment, act)
     }
 
     /// How many entries an actor has made.
@@ -100,6 +99,27 @@ impl PlainUnits {
             }
         }
         made
+    }
+
+    /// The entry that an act of an actor becomes, behind all others and with the next stamp.
+    fn next_entry(&self, unit: u16, actor: Actor, moment: u64, act: Act) -> Entry
+        ensures { result ≡ record {
+          stamp = length self.now.entries + 1;
+          unit = unit;
+          actor = actor;
+          seq = count_by (λ (e : Entry). same_actor e.actor actor) self.now.entries;
+          moment = moment;
+          act = act;
+        } }
+    {
+        Entry {
+            stamp: self.entries.len() as u64 + 1,
+            unit,
+            actor,
+            seq: self.made_by(actor),
+            moment,
+            act,
+        }
     }
 
     /// Adds an act of an actor behind all entries, with the next stamp. The act is within its limits. At `OutOfMemory`
@@ -127,20 +147,15 @@ impl PlainUnits {
     {
         let _ = self.config.unit(unit);
         acts::blocks_brought(&act);
-        let entry = Entry {
-            stamp: self.entries.len() as u64 + 1,
-            unit,
-            actor,
-            seq: self.made_by(actor),
-            moment,
-            act,
-        };
-        self.entries.push(entry.copy(alloc)?)?;
+        let count = self.entries.len();
+        let next = self.next_entry(unit, actor, moment, act);
+        self.entries.push(next)?;
         let place = usize::from(unit);
-        match self.units[place].add(alloc, &self.config, unit, &entry) {
+        let entry = &self.entries[count];
+        match self.units[place].add(alloc, &self.config, unit, entry) {
             Ok(()) => Ok(()),
             Err(OutOfMemory) => {
-                let _ = self.entries.pop();
+                self.entries.truncate(count);
                 Err(OutOfMemory)
             }
         }

@@ -4,6 +4,7 @@ use Rattle.cm_history.specs.Answers.{answer_end, done_if}
 use Rattle.cm_history.specs.Blocks.{held}
 use Rattle.cm_history.specs.Deeds.{Deed}
 use Rattle.cm_history.specs.Operations.{would_serve}
+use Rattle.cm_history.specs.Reserving.{reservations}
 use Rattle.plain_model.specs.inner.Holds.{AreSized}
 use Rattle.plain_model.proofs.Sizes.{held-sized}
 use Rattle.plain_model.proofs.unit.PlainUnit.told.Goals as goal
@@ -30,3 +31,8 @@ returns-in-Abort c =
 pub returns-in-Close : goal.returns-in-Close
 returns-in-Close c =
     rw c.in-Close.is (c.done_if-in-Close.ensures ∙ ap done_if (c.would_serve-served.ensures ∙ ap (would_serve c.args.self.now c.args.actor) c.in-Close.is))
+
+pub returns-in-PrOut : goal.returns-in-PrOut
+returns-in-PrOut c =
+    let same : c.self.inside.tables.reservations ≡ reservations c.args.self.now = cc in
+    rw c.in-PrOut.is (rw (c.in-PrOut.is, same) at c.answer_out.ensures)

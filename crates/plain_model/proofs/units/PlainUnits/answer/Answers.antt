@@ -1,4 +1,5 @@
 use Rattle.std.proofs.Common.{◌<◌, ap, sym, subst, length}
+use Rattle.std.proofs.lemmas.Result.{IfOk-weaker}
 use Rattle.cm_base.specs.Configuration.{Configuration}
 use Rattle.plain_model.specs.Holds.{PlayedUnits}
 use Rattle.plain_model.proofs.UnitLists.{IsFound, answer-at, form-at}
@@ -13,8 +14,9 @@ returns-clause-value c =
       here = c.from.ensures;
       value = c.index-played.ensures;
     } in
-    rw (← c.self.view_is) (answer-at c.self.inside.config c.self.inside.entries.items c.self.inside.units.items c.args.unit c.from.result c.index-played.result.now c.args.actor c.args.moment c.args.act.now
-    c.in_ok-outcome.outcome.answer found c.in_ok-outcome.ensures.told)
+    rw (← c.self.view_is) (IfOk-weaker c.answer.result _ _ (λ a is.
+    answer-at c.self.inside.config c.self.inside.entries.items c.self.inside.units.items c.args.unit c.from.result c.index-played.result.now c.args.actor c.args.moment c.args.act.now a found is)
+    c.answer.ensures)
 
 pub returns-clause-form : goal.returns-clause-form
 returns-clause-form c =
@@ -25,6 +27,7 @@ returns-clause-form c =
       here = c.from.ensures;
       value = c.index-played.ensures;
     } in
-    rw (← c.self.view_is) (form-at c.self.inside.config c.self.inside.entries.items c.self.inside.units.items c.args.unit c.args.actor c.args.moment c.args.act.now c.in_ok-outcome.outcome.answer c.self.invariant
-    (answer-at c.self.inside.config c.self.inside.entries.items c.self.inside.units.items c.args.unit c.from.result c.index-played.result.now c.args.actor c.args.moment c.args.act.now
-    c.in_ok-outcome.outcome.answer found c.in_ok-outcome.ensures.told))
+    rw (← c.self.view_is) (IfOk-weaker c.answer.result _ _ (λ a is.
+    form-at c.self.inside.config c.self.inside.entries.items c.self.inside.units.items c.args.unit c.args.actor c.args.moment c.args.act.now a c.self.invariant
+    (answer-at c.self.inside.config c.self.inside.entries.items c.self.inside.units.items c.args.unit c.from.result c.index-played.result.now c.args.actor c.args.moment c.args.act.now a found is))
+    c.answer.ensures)
