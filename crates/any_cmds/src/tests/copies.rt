@@ -36,11 +36,17 @@ fn copy_list(alloc: Global, usage: u8) -> Result<Payload, Fail> {
     set_u16(&mut head, 2, 64);
     set_u32(&mut head, 8, 56);
     let mut list = Bytes::copy(alloc, &head)?;
+    add_descriptors(&mut list)?;
+    Ok(Payload::from_vec(list.into_vec())?)
+}
+
+/// Adds two units and two segments.
+fn add_descriptors(list: &mut Bytes) -> Result<(), Fail> {
     list.extend(&cscd(0))?;
     list.extend(&cscd(1))?;
     list.extend(&segment(0, 1, 1500, 7, 100))?;
     list.extend(&segment(1, 0, 2, 9, 200))?;
-    Ok(Payload::from_vec(list.into_vec())?)
+    Ok(())
 }
 
 /// A copy by a list of this LIST ID USAGE does these things in turn, of which that came, and then the last.

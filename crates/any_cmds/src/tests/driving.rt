@@ -132,6 +132,25 @@ fn drive(
     Ok(step)
 }
 
+/// The next steps of a command, of which that came, and the step behind them.
+fn go_on(
+    alloc: Global,
+    config: &Config,
+    command: &mut AnyCommand,
+    outcomes: Vec<Outcome>,
+    steps: &mut Vec<Step>,
+) -> Result<(), Fail>
+    requires sound { IsSoundAt IsSoundAny config.now command.old }
+    requires stands { (nexus : ℕ) × (request : Request) × (outcomes : List Outcome)
+        × StandsFor by_any config.now command.old nexus request outcomes }
+{
+    for outcome in outcomes {
+        steps.push(drive(alloc, config, command, outcome)?)?;
+    }
+    steps.push(command.step(alloc, config)?)?;
+    Ok(())
+}
+
 /// The steps of the command of a request, of which that came, and the step behind them.
 pub(super) fn steps(
     alloc: Global,
@@ -141,9 +160,6 @@ pub(super) fn steps(
 ) -> Result<Vec<Step>, Fail> {
     let mut command = begin_any(alloc, config, 7, request)?;
     let mut steps = Vec::new(alloc);
-    for outcome in outcomes {
-        steps.push(drive(alloc, config, &mut command, outcome)?)?;
-    }
-    steps.push(command.step(alloc, config)?)?;
+    go_on(alloc, config, &mut command, outcomes, &mut steps)?;
     Ok(steps)
 }

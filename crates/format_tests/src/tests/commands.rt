@@ -155,15 +155,20 @@ fn some_bits_are_ignored(rt: HostRuntime) -> Result<(), Sense> {
     Ok(())
 }
 
+/// The bytes are refused so.
+fn is_refused(bytes: &[u8], sense: Sense) -> bool {
+    match decode(&padded(bytes)) {
+        Ok(_) => false,
+        Err(found) => found == sense,
+    }
+}
+
 #[test]
 fn some_cdbs_are_refused(rt: HostRuntime) {
     // REPORT CAPABILITIES, PREEMPT AND ABORT, a copy service action, READ LONG (16).
     let unknown: [&[u8]; 4] = [b"\x5e\x02", b"\x5f\x05", b"\x83\x1d", b"\x9e\x11"];
     for bytes in unknown {
-        assert_eq!(rt;
-            decode(&padded(bytes)),
-            Err(Sense::invalid_operation_code())
-        );
+        assert!(rt; is_refused(bytes, Sense::invalid_operation_code()));
     }
     let bad: [&[u8]; 9] = [
         // NACA, in the last byte of 6, 10, 12 and 16.
@@ -179,6 +184,6 @@ fn some_cdbs_are_refused(rt: HostRuntime) {
         b"\x03\x01",
     ];
     for bytes in bad {
-        assert_eq!(rt; decode(&padded(bytes)), Err(Sense::invalid_field_in_cdb()));
+        assert!(rt; is_refused(bytes, Sense::invalid_field_in_cdb()));
     }
 }

@@ -1,4 +1,5 @@
 // The data of INQUIRY, READ CAPACITY, REPORT LUNS and RECEIVE COPY OPERATING PARAMETERS.
+ghost use Rattle.std.specs.Prelude.{◌≡◌, length, IfOk};
 ghost use Rattle.cm_base.specs.Configuration.{IsUnit};
 
 use cm_base::{Config, OutOfMemory, Sequence, UnitConfig};
@@ -19,14 +20,20 @@ fn largest() -> UnitConfig
     }
 }
 
+/// The page of unit 0102h is these bytes.
+fn is_page(alloc: Global, page: u8, wanted: &[u8]) -> Result<bool, OutOfMemory> {
+    match vpd(alloc, 0x0102, page)? {
+        Some(bytes) => Ok(bytes.as_slice() == wanted),
+        None => Ok(false),
+    }
+}
+
 /// Each page of INQUIRY by SPC-4 and SBC-3.
 #[test]
 fn pages_of_the_standards(rt: HostRuntime) -> Result<(), OutOfMemory> {
     let alloc = rt.alloc();
-    assert_eq!(rt;
-        standard().as_slice(),
-        b"\0\0\x06\x02\x1f\x08\0\0COPYMGR ROD TOKEN UNIT  0001".as_slice()
-    );
+    let told = b"\0\0\x06\x02\x1f\x08\0\0COPYMGR ROD TOKEN UNIT  0001".as_slice();
+    assert!(rt; standard().as_slice() == told);
     let pages: [(u8, &[u8]); 5] = [
         (0x00, b"\0\x00\0\x05\x00\x83\x8f\xb0\xb2"),
         (0x83, b"\0\x83\0\x0c\x01\x03\0\x08\x30\0\0\0\0\0\x01\x02"),
@@ -41,30 +48,33 @@ fn pages_of_the_standards(rt: HostRuntime) -> Result<(), OutOfMemory> {
         (0xb2, b"\0\xb2\0\x04\0\x84\x02\0"),
     ];
     for (page, wanted) in pages {
-        match vpd(alloc, 0x0102, page)? {
-            Some(bytes) => assert_eq!(rt; bytes.as_slice(), wanted),
-            None => assert!(rt; false),
-        }
+        assert!(rt; is_page(alloc, page, wanted)?, "page {page}");
     }
     assert!(rt; vpd(alloc, 0, 0x80)?.is_none());
     Ok(())
 }
 
+/// A machine of the largest unit alone.
+fn one_unit(alloc: Global) -> Result<Config, OutOfMemory>
+    ensures { IfOk result (λ config. length config.units ≡ 1) }
+{
+    let units = Sequence::from_vec(vec![in alloc; largest()]?);
+    Ok(Config::new([0; 32], units))
+}
+
+/// The first bytes of READ CAPACITY (16) of the largest unit.
+const CAPACITY: [u8; 16] = *b"\0\0\0\0\xff\xff\xff\xff\0\0\x10\0\0\0\xc0\0";
+
+/// The list of one unit.
+const ONE_UNIT: [u8; 16] = *b"\0\0\0\x08\0\0\0\0\0\0\0\0\0\0\0\0";
+
 /// The data of a machine of one unit.
 #[test]
 fn data_of_one_unit(rt: HostRuntime) -> Result<(), OutOfMemory> {
     let alloc = rt.alloc();
-    let config = Config::new([0; 32], Sequence::from_vec(vec![in alloc; largest()]?));
-    assert_eq!(rt; read_capacity10(&config, 0), *b"\xff\xff\xff\xff\0\0\x10\0");
-    let capacity = read_capacity16(&config, 0);
-    assert_eq!(rt;
-        capacity[..16],
-        b"\0\0\0\0\xff\xff\xff\xff\0\0\x10\0\0\0\xc0\0"[..]
-    );
-    assert_eq!(rt;
-        report_luns(alloc, &config)?.as_slice(),
-        b"\0\0\0\x08\0\0\0\0\0\0\0\0\0\0\0\0".as_slice()
-    );
+    assert!(rt; read_capacity10(&one_unit(alloc)?, 0) == *b"\xff\xff\xff\xff\0\0\x10\0");
+    assert!(rt; read_capacity16(&one_unit(alloc)?, 0).starts_with(&CAPACITY));
+    assert!(rt; report_luns(alloc, &one_unit(alloc)?)?.as_slice() == ONE_UNIT.as_slice());
     Ok(())
 }
 

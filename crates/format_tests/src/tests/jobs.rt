@@ -88,16 +88,30 @@ fn next_run(
     Ok((first, ranges.len(), ranges.total(), cursor.place()))
 }
 
+/// Of 130 extents of three blocks: of how many blocks a run may be, and the run.
+const RUNS: [(u64, (u64, usize, u64, u64)); 4] = [
+    (1_000, (0, 64, 192, 192)),
+    (2, (256, 1, 2, 194)),
+    (0, (0, 0, 0, 194)),
+    (1_000, (258, 64, 190, 384)),
+];
+
+/// The next runs are these, and behind them are six more blocks.
+fn are_next(alloc: Global, cursor: &mut ExtentCursor) -> Result<bool, Fail> {
+    for (most, run) in RUNS {
+        if next_run(alloc, cursor, most)? != run {
+            return Ok(false);
+        }
+    }
+    Ok(cursor.pass(5) == 5 && cursor.pass(5) == 1 && cursor.pass(5) == 0)
+}
+
 #[test]
 fn runs_have_64_ranges_or_as_many_blocks_as_asked(rt: HostRuntime) -> Result<(), Fail> {
     let alloc = rt.alloc();
     let job = job_of(alloc, spaced(alloc, 130, 3)?)?;
     let mut cursor = ExtentCursor::new(job.from());
-    assert!(rt; next_run(alloc, &mut cursor, 1_000)? == (0, 64, 192, 192));
-    assert!(rt; next_run(alloc, &mut cursor, 2)? == (256, 1, 2, 194));
-    assert!(rt; next_run(alloc, &mut cursor, 0)? == (0, 0, 0, 194));
-    assert!(rt; next_run(alloc, &mut cursor, 1_000)? == (258, 64, 190, 384));
-    assert!(rt; cursor.pass(5) == 5 && cursor.pass(5) == 1 && cursor.pass(5) == 0);
+    assert!(rt; are_next(alloc, &mut cursor)?);
     Ok(())
 }
 
@@ -125,15 +139,29 @@ fn spelled(
     to: &[(u64, u32)],
 ) -> Result<Bytes, Fail> {
     let mut bytes = Bytes::empty(alloc);
+    spell_front(&mut bytes, polls, [from.len(), to.len()])?;
+    spell_extents(&mut bytes, from)?;
+    spell_extents(&mut bytes, to)?;
+    Ok(bytes)
+}
+
+/// Adds the numbers of the units and the polls, and how many extents there are.
+fn spell_front(bytes: &mut Bytes, polls: u32, extents: [usize; 2]) -> Result<(), Fail> {
     bytes.extend(&[0, 2, 0, 3])?;
     bytes.extend(&polls.to_be_bytes())?;
-    bytes.extend(&(from.len() as u64).to_be_bytes()[4..])?;
-    bytes.extend(&(to.len() as u64).to_be_bytes()[4..])?;
-    for &(lba, count) in from.iter().chain(to) {
+    for count in extents {
+        bytes.extend(&(count as u64).to_be_bytes()[4..])?;
+    }
+    Ok(())
+}
+
+/// Adds the bytes of extents.
+fn spell_extents(bytes: &mut Bytes, extents: &[(u64, u32)]) -> Result<(), Fail> {
+    for (lba, count) in extents {
         bytes.extend(&lba.to_be_bytes())?;
         bytes.extend(&count.to_be_bytes())?;
     }
-    Ok(bytes)
+    Ok(())
 }
 
 /// How a job of these extents is read.
@@ -144,35 +172,58 @@ fn read(alloc: Global, from: &[(u64, u32)], to: &[(u64, u32)]) -> Result<Ending,
 
 #[test]
 fn a_front_is_judged_when_it_is_whole(rt: HostRuntime) -> Result<(), Fail> {
-    let alloc = rt.alloc();
-    let front = [0, 0, 0, 1, 0, 0, 0, 1, 0, 0, 0, 0, 0, 0, 0, 0];
-    assert!(rt; ending_of(alloc, &front)? == Ending::Whole(16));
-    assert!(rt; ending_of(alloc, &front[..15])? == Ending::Short);
-    let idle = [0, 0, 0, 1, 0, 0, 0, 0, 0, 1, 0, 1, 0, 1, 0, 1];
-    assert!(rt; ending_of(alloc, &idle)? == Ending::Bad(4));
-    assert!(rt; ending_of(alloc, &idle[..15])? == Ending::Short);
-    let sources = [0, 0, 0, 1, 0, 0, 0, 1, 0, 1, 0, 1, 0, 1, 0, 1];
-    assert!(rt; ending_of(alloc, &sources)? == Ending::Bad(8));
-    let targets = [0, 0, 0, 1, 0, 0, 0, 1, 0, 1, 0, 0, 0, 1, 0, 1];
-    assert!(rt; ending_of(alloc, &targets)? == Ending::Bad(12));
-    let many = [0, 0, 0, 1, 0, 0, 0, 1, 0, 1, 0, 0, 0, 1, 0, 0];
-    assert!(rt; ending_of(alloc, &many)? == Ending::Short);
+    let fronts: [(&[u8], Ending); 7] = [
+        (b"\0\0\0\x01\0\0\0\x01\0\0\0\0\0\0\0\0", Ending::Whole(16)),
+        (b"\0\0\0\x01\0\0\0\x01\0\0\0\0\0\0\0", Ending::Short),
+        // No polls, 65,537 sources, 65,537 targets, 65,536 of both.
+        (
+            b"\0\0\0\x01\0\0\0\0\0\x01\0\x01\0\x01\0\x01",
+            Ending::Bad(4),
+        ),
+        (b"\0\0\0\x01\0\0\0\0\0\x01\0\x01\0\x01\0", Ending::Short),
+        (
+            b"\0\0\0\x01\0\0\0\x01\0\x01\0\x01\0\x01\0\x01",
+            Ending::Bad(8),
+        ),
+        (
+            b"\0\0\0\x01\0\0\0\x01\0\x01\0\0\0\x01\0\x01",
+            Ending::Bad(12),
+        ),
+        (b"\0\0\0\x01\0\0\0\x01\0\x01\0\0\0\x01\0\0", Ending::Short),
+    ];
+    for (front, ending) in fronts {
+        assert!(rt; ending_of(rt.alloc(), front)? == ending);
+    }
     Ok(())
 }
 
 #[test]
 fn extents_are_judged_when_all_are_there(rt: HostRuntime) -> Result<(), Fail> {
-    let alloc = rt.alloc();
-    assert!(rt; read(alloc, &[(0, 8), (100, 8)], &[(50, 16)])? == Ending::Whole(52));
-    assert!(rt; read(alloc, &[(0, 8), (100, 0)], &[(50, 8)])? == Ending::Bad(28));
-    assert!(rt; read(alloc, &[(0, 8)], &[(50, 7), (u64::MAX, 1)])? == Ending::Whole(52));
-    assert!(rt; read(alloc, &[(0, 9)], &[(50, 7), (u64::MAX, 2)])? == Ending::Bad(40));
-    assert!(rt; read(alloc, &[(8, 8), (20, 2), (0, 9)], &[(50, 19)])? == Ending::Bad(0));
-    assert!(rt; read(alloc, &[(0, 19)], &[(50, 9), (58, 10)])? == Ending::Bad(0));
-    assert!(rt; read(alloc, &[(0, 8)], &[(50, 9)])? == Ending::Bad(0));
-    let mut bytes = spelled(alloc, 5, &[(0, 8), (100, 0)], &[(50, 8)])?;
-    let last = bytes.pop();
-    assert!(rt; last == Some(8) && ending_of(alloc, bytes.as_slice())? == Ending::Short);
+    type Extents = &'static [(u64, u32)];
+    let jobs: [(Extents, Extents, Ending); 7] = [
+        (&[(0, 8), (100, 8)], &[(50, 16)], Ending::Whole(52)),
+        (&[(0, 8), (100, 0)], &[(50, 8)], Ending::Bad(28)),
+        (&[(0, 8)], &[(50, 7), (u64::MAX, 1)], Ending::Whole(52)),
+        (&[(0, 9)], &[(50, 7), (u64::MAX, 2)], Ending::Bad(40)),
+        (&[(8, 8), (20, 2), (0, 9)], &[(50, 19)], Ending::Bad(0)),
+        (&[(0, 19)], &[(50, 9), (58, 10)], Ending::Bad(0)),
+        (&[(0, 8)], &[(50, 9)], Ending::Bad(0)),
+    ];
+    for (from, to, ending) in jobs {
+        assert!(rt; read(rt.alloc(), from, to)? == ending);
+    }
+    Ok(())
+}
+
+/// The last byte is missing behind an extent of no block.
+#[test]
+fn a_fault_waits_for_the_last_byte(rt: HostRuntime) -> Result<(), Fail> {
+    let bytes = spelled(rt.alloc(), 5, &[(0, 8), (100, 0)], &[(50, 8)])?;
+    let ending = match bytes.as_slice() {
+        [front @ .., 8] => ending_of(rt.alloc(), front)?,
+        _ => Ending::Bad(0),
+    };
+    assert!(rt; ending == Ending::Short);
     Ok(())
 }
 

@@ -3,7 +3,7 @@ use block_params::{
     ParamFault, read_populate, read_unmap, read_write_token, write_populate, write_unmap,
     write_write_token,
 };
-use cm_base::set_u16;
+use cm_base::{Bytes, set_u16};
 use lba_ranges::{Range, RangeList};
 use std::alloc::Global;
 
@@ -112,40 +112,46 @@ fn hostile_token_writes(rt: HostRuntime) -> Result<(), ParamFault> {
     Ok(())
 }
 
-/// A block device range descriptor of 8 blocks from 1000h on.
-const DESCRIPTOR: [u8; 16] = *b"\0\0\0\0\0\0\x10\0\0\0\0\x08\0\0\0\0";
+/// An UNMAP list of 8 blocks from 1000h on, by SBC-3.
+const UNMAP: [u8; 24] = *b"\0\x16\0\x10\0\0\0\0\0\0\0\0\0\0\x10\0\0\0\0\x08\0\0\0\0";
 
-/// The bytes of an UNMAP list by SBC-3.
-#[test]
-fn unmap_of_the_standard(rt: HostRuntime) -> Result<(), ParamFault> {
-    let alloc = rt.alloc();
+/// The UNMAP list of 8 blocks from 1000h on, as it is written.
+fn unmap_of_8_blocks(alloc: Global) -> Result<Bytes, ParamFault> {
     let mut ranges = RangeList::empty(alloc);
     ranges.push(Range {
         lba: 0x1000,
         count: 8,
     })?;
-    let unmap = write_unmap(alloc, &ranges)?;
-    assert_eq!(rt; unmap.as_slice()[..8], b"\0\x16\0\x10\0\0\0\0"[..]);
-    assert_eq!(rt; unmap.as_slice()[8..], DESCRIPTOR[..]);
-    assert_eq!(rt; read_unmap(alloc, unmap.as_slice())?.len(), 1);
+    Ok(write_unmap(alloc, &ranges)?)
+}
+
+#[test]
+fn unmap_of_the_standard(rt: HostRuntime) -> Result<(), ParamFault> {
+    let alloc = rt.alloc();
+    assert!(rt; unmap_of_8_blocks(alloc)?.as_slice() == UNMAP.as_slice());
+    assert!(rt; read_unmap(alloc, &UNMAP)?.len() == 1);
     Ok(())
 }
 
-/// The bytes of a POPULATE TOKEN list by SBC-3.
+/// A POPULATE TOKEN list of 8 blocks from 1000h on, by SBC-3, which leaves the timeout to the unit.
+const POPULATE: [u8; 32] =
+    *b"\0\x1e\0\0\0\0\0\0\0\0\0\0\0\0\0\x10\0\0\0\0\0\0\x10\0\0\0\0\x08\0\0\0\0";
+
+/// The same list as it is written, with the timeout of 300 seconds.
+const WRITTEN: [u8; 32] =
+    *b"\0\x1e\x02\0\0\0\x01\x2c\0\x80\0\0\0\0\0\x10\0\0\0\0\0\0\x10\0\0\0\0\x08\0\0\0\0";
+
+/// The list that these bytes spell, as it is written.
+fn written_populate(alloc: Global, list: &[u8]) -> Result<Bytes, ParamFault> {
+    let list = read_populate(alloc, list)?;
+    Ok(write_populate(alloc, &list)?)
+}
+
 #[test]
 fn populate_of_the_standard(rt: HostRuntime) -> Result<(), ParamFault> {
     let alloc = rt.alloc();
-    let list = read_populate(
-        alloc,
-        b"\0\x1e\0\0\0\0\0\0\0\0\0\0\0\0\0\x10\0\0\0\0\0\0\x10\0\0\0\0\x08\0\0\0\0",
-    )?;
-    assert_eq!(rt; list.timeout, 300);
-    let populate = write_populate(alloc, &list)?;
-    assert_eq!(rt;
-        populate.as_slice()[..16],
-        b"\0\x1e\x02\0\0\0\x01\x2c\0\x80\0\0\0\0\0\x10"[..]
-    );
-    assert_eq!(rt; populate.as_slice()[16..], DESCRIPTOR[..]);
+    assert!(rt; read_populate(alloc, &POPULATE)?.timeout == 300);
+    assert!(rt; written_populate(alloc, &POPULATE)?.as_slice() == WRITTEN.as_slice());
     Ok(())
 }
 
@@ -159,16 +165,18 @@ const TOKEN_WRITE: [(usize, u16); 6] = [
     (546, 8),
 ];
 
+/// The list is read with these fields, and written as it was.
+fn is_token_write(alloc: Global, asked: &[u8]) -> Result<bool, ParamFault> {
+    let list = read_write_token(alloc, asked)?;
+    let is_read = list.immed && list.delete && list.offset == 3 && list.token == [0; 512];
+    Ok(is_read && write_write_token(alloc, &list)?.as_slice() == asked)
+}
+
 /// The bytes of a WRITE USING TOKEN list by SBC-3.
 #[test]
 fn token_write_of_the_standard(rt: HostRuntime) -> Result<(), ParamFault> {
     let alloc = rt.alloc();
     let asked = list_of(alloc, 552, &TOKEN_WRITE)?;
-    let list = read_write_token(alloc, &asked)?;
-    assert!(rt; list.immed && list.delete && list.offset == 3 && list.token == [0; 512]);
-    assert_eq!(rt;
-        write_write_token(alloc, &list)?.as_slice(),
-        asked.as_slice()
-    );
+    assert!(rt; is_token_write(alloc, &asked)?);
     Ok(())
 }

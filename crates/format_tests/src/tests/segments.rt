@@ -89,15 +89,13 @@ fn list_of_the_standard(rt: HostRuntime) -> Result<(), ParamFault> {
     let wanted =
         b"\x07\x18\0\x20\0\0\0\0\0\0\0\x1c\0\0\0\0\xe4\0\0\0\x01\x03\0\x08\x30\0\0\0\0\0\0\x01\0\0\0\0\0\0\0\0\0\0\0\0\0\0\x02\0\x02\0\0\x18\0\0\0\0\0\0\0\x08\0\0\0\0\0\0\0\x01\0\0\0\0\0\0\0\x02";
     let list = read_lid1(alloc, asked)?;
-    assert_eq!(rt;
-        (list.id, list.usage, list.units.len(), list.segments.len()),
-        (7, 3, 1, 1)
-    );
+    let lengths = (list.units.len(), list.segments.len());
+    assert!(rt; (list.id, list.usage, lengths) == (7, 3, (1, 1)));
     for unit in list.units.as_slice() {
         if unit.name.is_none() {
             return Err(ParamFault::OutOfMemory);
         }
     }
-    assert_eq!(rt; write_lid1(alloc, &list)?.as_slice(), wanted.as_slice());
+    assert!(rt; write_lid1(alloc, &list)?.as_slice() == wanted.as_slice());
     Ok(())
 }

@@ -15,16 +15,15 @@ fn bytes_of_the_standard(rt: HostRuntime) {
         (Sense::new(0x05, 0x23, 0x07), token_expired),
     ];
     for (sense, bytes) in table {
-        assert_eq!(rt; sense.to_bytes(), bytes);
-        assert_eq!(rt; Sense::from_bytes(&bytes), Some(sense));
+        assert!(rt; sense.to_bytes() == bytes && Sense::from_bytes(&bytes) == Some(sense));
     }
     // Descriptor format, a filemark, a further byte, and a byte too few.
     let mut descriptor = invalid_field;
     descriptor[0] = 0x72;
     let mut filemark = invalid_field;
     filemark[2] = 0x85;
-    assert_eq!(rt; Sense::from_bytes(&descriptor), None);
-    assert_eq!(rt; Sense::from_bytes(&filemark), None);
-    assert_eq!(rt; Sense::from_bytes(&invalid_field[..17]), None);
-    assert_eq!(rt; Sense::from_bytes(&[]), None);
+    let others: [&[u8]; 4] = [&descriptor, &filemark, &invalid_field[..17], &[]];
+    for bytes in others {
+        assert!(rt; Sense::from_bytes(bytes).is_none());
+    }
 }

@@ -6,6 +6,15 @@ use copy_status::{
 };
 use scsi_sense::Sense;
 
+/// The bytes tell of a POPULATE TOKEN that made this token, of 8 blocks.
+fn is_read(bytes: &[u8], token: [u8; 512]) -> bool {
+    let Some((fields, read)) = read_token_information(bytes) else {
+        return false;
+    };
+    let is_done = fields.populate() && fields.status() == 0x01 && !fields.running();
+    is_done && fields.sense().is_none() && fields.count() == 8 && read == Some(token)
+}
+
 /// RECEIVE ROD TOKEN INFORMATION by SPC-4 of a POPULATE TOKEN that made a token of 8 blocks: 546
 /// bytes are available.
 #[test]
@@ -18,13 +27,7 @@ fn made_token_of_the_standard(rt: HostRuntime) -> Result<(), OutOfMemory> {
     wanted[..38].copy_from_slice(
         b"\x00\x00\x02\x22\x10\x01\0\0\0\0\0\0\0\0\0\xf1\0\0\0\0\0\0\0\x08\0\0\0\0\0\0\0\0\x00\x00\x02\x02\0\0",
     );
-    assert_eq!(rt; bytes, wanted.as_slice());
-    let read = read_token_information(bytes);
-    assert!(rt; read.is_some());
-    if let Some((fields, read)) = read {
-        assert!(rt; fields.populate() && fields.status() == 0x01 && !fields.running());
-        assert!(rt; fields.sense().is_none() && fields.count() == 8 && read == Some(token));
-    }
+    assert!(rt; bytes == wanted.as_slice() && is_read(bytes, token));
     Ok(())
 }
 
@@ -35,13 +38,10 @@ fn copy_status_of_the_standard(rt: HostRuntime) -> Result<(), OutOfMemory> {
     let running = StatusFields::new(false, OperationStatus::Background, 1024);
     let wanted =
         b"\x00\x00\x00\x1c\x11\x12\0\0\0\0\0\x64\0\0\0\xf1\0\0\0\0\0\0\x04\0\0\0\0\0\0\0\0\0";
-    assert_eq!(rt; header(&running, 28), *wanted);
-    assert_eq!(rt;
-        status4(rt.alloc(), &running)?.as_slice(),
-        wanted.as_slice()
-    );
+    assert!(rt; header(&running, 28) == *wanted);
+    assert!(rt; status4(rt.alloc(), &running)?.as_slice() == wanted.as_slice());
     let done = b"\0\0\0\x08\x01\0\x02\0\0\x00\x10\x00";
-    assert_eq!(rt; status1(0x01, 2, 4096), *done);
+    assert!(rt; status1(0x01, 2, 4096) == *done);
     Ok(())
 }
 

@@ -1,7 +1,24 @@
 // The text of a token.
+ghost use Rattle.std.specs.Prelude.{◌≡◌, length, IfOk};
+
 use cm_base::{Config, UnitConfig, UnitList};
 use rod_token::{TokenKind, classify, text};
 use std::test::Fail;
+
+/// A machine of one unit of 1,048,576 blocks of 512 bytes, with this secret.
+fn one_unit(rt: &HostRuntime, secret: [u8; 32]) -> Result<Config, Fail>
+    ensures { IfOk result (λ config. length config.units ≡ 1) }
+{
+    let only = UnitConfig {
+        blocks: 1_048_576,
+        block_length: 512,
+        entries: 1_048_576,
+        quota: 1_048_576,
+        payload: 268_435_456,
+        group: 0,
+    };
+    Ok(Config::new(secret, UnitList::copy(rt.alloc(), &[only])?))
+}
 
 /// The token of the first serial of unit 0, which stands for one block of 512 bytes, where the
 /// secret is the bytes 00h to 1Fh.
@@ -11,17 +28,7 @@ fn text_of_one_block(rt: HostRuntime) -> Result<(), Fail> {
         0, 1, 2, 3, 4, 5, 6, 7, 8, 9, 10, 11, 12, 13, 14, 15, 16, 17, 18, 19, 20, 21, 22, 23, 24,
         25, 26, 27, 28, 29, 30, 31,
     ];
-    let mut units = UnitList::empty(rt.alloc());
-    units.push(UnitConfig {
-        blocks: 1_048_576,
-        block_length: 512,
-        entries: 1_048_576,
-        quota: 1_048_576,
-        payload: 268_435_456,
-        group: 0,
-    })?;
-    let config = Config::new(secret, units);
-    let token = text(&config, 0, 0, 1);
+    let token = text(&one_unit(&rt, secret)?, 0, 0, 1);
     let front = [
         0x00, 0x80, 0x00, 0x00, 0x00, 0x00, 0x01, 0xf8, 0x00, 0x00, 0x00, 0x00, 0x00, 0x00, 0x00,
         0x00, 0xe4, 0x00, 0x00, 0x00, 0x01, 0x03, 0x00, 0x08, 0x30, 0x00, 0x00, 0x00, 0x00, 0x00,

@@ -37,13 +37,32 @@ fn unit_of_eight(rt: &HostRuntime) -> Result<PlainUnit, Fail>
     ensures { IfOk result (λ unit. unit.blocks ≡ 8) }
 {
     let mut unit = PlainUnit::new(rt.alloc(), 8, 4)?;
+    put_two(rt, &mut unit)?;
+    Ok(unit)
+}
+
+/// Maps blocks 2 and 3.
+fn put_two(rt: &HostRuntime, unit: &mut PlainUnit) -> Result<(), Fail>
+    requires blocks { unit.old.blocks ≡ 8 }
+    requires length { unit.old.block_length ≡ 4 }
+    ensures { unit.new.blocks ≡ 8 }
+{
     let places = two_places(rt, 2)?;
     let items = two_items(rt, true)?;
+    put(unit, &places, &items)
+}
+
+/// Puts the items to their places, if they fit.
+fn put(unit: &mut PlainUnit, places: &RangeList, items: &BlockList) -> Result<(), Fail>
+    requires blocks { unit.old.blocks ≡ 8 }
+    requires length { items.now.block_length ≡ unit.old.block_length }
+    ensures { unit.new.blocks ≡ 8 }
+{
     if !places.within(8) || places.overlap() || places.total() != items.blocks() {
         return Err(Fail::new("no place for the items"));
     }
-    unit.put(&places, &items)?;
-    Ok(unit)
+    unit.put(places, items)?;
+    Ok(())
 }
 
 /// With two items from a block on so many blocks would be mapped: the least quota that they don't exceed.
@@ -58,13 +77,25 @@ fn is_count(
 {
     let places = two_places(rt, lba)?;
     let items = two_items(rt, is_mapped)?;
+    is_least(unit, &places, &items, count)
+}
+
+/// It is the least quota that the items don't exceed at these places.
+fn is_least(
+    unit: &PlainUnit,
+    places: &RangeList,
+    items: &BlockList,
+    count: u64,
+) -> Result<bool, Fail>
+    requires { unit.now.blocks ≡ 8 }
+{
     if !places.within(8) || places.overlap() || places.total() != items.blocks() {
         return Err(Fail::new("no place for the items"));
     }
     Ok(
-        !exceeds_quota(unit, &places, &items, count)
-            && (count == 0 || exceeds_quota(unit, &places, &items, count - 1))
-            && !exceeds_quota(unit, &places, &items, 8),
+        !exceeds_quota(unit, places, items, count)
+            && (count == 0 || exceeds_quota(unit, places, items, count - 1))
+            && !exceeds_quota(unit, places, items, 8),
     )
 }
 
@@ -84,23 +115,22 @@ fn mapped_blocks_are_counted(rt: HostRuntime) -> Result<(), Fail> {
     Ok(())
 }
 
-fn is_run(run: &MapRun, lba: u64, count: u32, mapped: bool) -> bool {
-    run.lba == lba && run.count == count && run.mapped == mapped
+/// The runs begin at these blocks, have so many, and are mapped or not.
+fn are_runs(runs: &[MapRun], wanted: &[(u64, u32, bool)]) -> bool {
+    for (run, wanted) in runs.iter().zip(wanted) {
+        if (run.lba, run.count, run.mapped) != *wanted {
+            return false;
+        }
+    }
+    runs.len() == wanted.len()
 }
 
 #[test]
 fn runs_are_told(rt: HostRuntime) -> Result<(), Fail> {
     let unit = unit_of_eight(&rt)?;
-    let all = map_runs(rt.alloc(), &unit, 8, 0)?;
-    let all = all.as_slice();
-    assert!(rt; all.len() == 3);
-    assert!(rt; is_run(&all[0], 0, 2, false));
-    assert!(rt; is_run(&all[1], 2, 2, true));
-    assert!(rt; is_run(&all[2], 4, 4, false));
-    let last = map_runs(rt.alloc(), &unit, 8, 3)?;
-    let last = last.as_slice();
-    assert!(rt; last.len() == 2);
-    assert!(rt; is_run(&last[0], 3, 1, true));
-    assert!(rt; is_run(&last[1], 4, 4, false));
+    let all = [(0, 2, false), (2, 2, true), (4, 4, false)];
+    assert!(rt; are_runs(map_runs(rt.alloc(), &unit, 8, 0)?.as_slice(), &all));
+    let last = [(3, 1, true), (4, 4, false)];
+    assert!(rt; are_runs(map_runs(rt.alloc(), &unit, 8, 3)?.as_slice(), &last));
     Ok(())
 }

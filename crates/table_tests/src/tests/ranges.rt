@@ -20,22 +20,27 @@ fn two_ranges(alloc: Global) -> Result<RangeList, Fail>
 }
 
 /// The list denotes these blocks, in order.
-fn denotes(alloc: Global, list: &RangeList, blocks: &[u64]) -> Result<bool, Fail>
-    requires { IsTrue (is_within (2 ^ 64) list.now) }
+fn denotes(alloc: Global, list: RangeList, blocks: &[u64]) -> Result<bool, Fail>
+    requires { IsTrue (is_within (2 ^ 64) list) }
 {
     let numbers = list.blocks(alloc)?;
     Ok(numbers.as_slice() == blocks)
+}
+
+/// The list has five blocks, each once, of which 21 is the last.
+fn are_five(list: RangeList) -> bool
+    requires { IsTrue (is_within (2 ^ 64) list) }
+{
+    list.total() == 5 && !list.overlap() && list.within(22) && !list.within(21)
 }
 
 /// Two ranges, and the part of them from 12 to 20.
 #[test]
 fn ranges(rt: HostRuntime) -> Result<(), Fail> {
     let alloc = rt.alloc();
-    let list = two_ranges(alloc)?;
-    assert!(rt; list.total() == 5 && !list.overlap() && list.within(22) && !list.within(21));
-    assert!(rt; denotes(alloc, &list, &[10, 11, 12, 20, 21])?);
-    let part = list.slice(alloc, 2, 2)?;
-    assert!(rt; denotes(alloc, &part, &[12, 20])?);
+    assert!(rt; are_five(two_ranges(alloc)?));
+    assert!(rt; denotes(alloc, two_ranges(alloc)?, &[10, 11, 12, 20, 21])?);
+    assert!(rt; denotes(alloc, two_ranges(alloc)?.slice(alloc, 2, 2)?, &[12, 20])?);
     Ok(())
 }
 
@@ -105,13 +110,24 @@ fn has_payload(alloc: Global, list: &BlockList, bytes: &[u8]) -> Result<bool, Fa
     Ok(payload.as_slice() == bytes)
 }
 
+/// Two blocks of two bytes.
+fn two_blocks(alloc: Global) -> Result<BlockList, Fail> {
+    list_of(alloc, 2, 2, &[1, 2, 3, 4])
+}
+
+/// Two blocks of two bytes, and a hole.
+fn two_blocks_and_a_hole(alloc: Global) -> Result<BlockList, Fail> {
+    let mut list = two_blocks(alloc)?;
+    add_hole(&mut list, 1)?;
+    Ok(list)
+}
+
 /// The bytes of one piece, and those of two.
 #[test]
 fn payload(rt: HostRuntime) -> Result<(), Fail> {
-    let mut list = list_of(rt.alloc(), 2, 2, &[1, 2, 3, 4])?;
-    assert!(rt; has_payload(rt.alloc(), &list, &[1, 2, 3, 4])?);
-    add_hole(&mut list, 1)?;
-    assert!(rt; has_payload(rt.alloc(), &list, &[1, 2, 3, 4, 0, 0])?);
+    let alloc = rt.alloc();
+    assert!(rt; has_payload(alloc, &two_blocks(alloc)?, &[1, 2, 3, 4])?);
+    assert!(rt; has_payload(alloc, &two_blocks_and_a_hole(alloc)?, &[1, 2, 3, 4, 0, 0])?);
     Ok(())
 }
 

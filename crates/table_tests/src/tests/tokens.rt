@@ -254,8 +254,16 @@ fn tell_at_once(store: &mut RodStore<u64>, step: Step) -> Result<Told, Fail>
 fn tells(alloc: Global, steps: &[(Step, Told)]) -> Result<bool, Fail> {
     let config = machine(alloc)?;
     let mut store = RodStore::new(alloc, &config, 0)?;
+    goes(&mut store, &config, steps)
+}
+
+/// The store, at these steps in turn, tells this.
+fn goes(store: &mut RodStore<u64>, config: &Config, steps: &[(Step, Told)]) -> Result<bool, Fail>
+    requires own { store.old.unit ≡ 0 }
+    requires units { length config.now.units ≡ 2 }
+{
     for row in steps {
-        if tell(&mut store, &config, row.0)? != row.1 {
+        if tell(store, config, row.0)? != row.1 {
             return Ok(false);
         }
     }

@@ -53,8 +53,8 @@ fn write<B: Blocks>(
     ensures pins { (n : ℕ) → B.pinned unit.new n ≡ B.pinned unit.old n }
 {
     let blocks = bytes.len() as u32;
-    let ranges = row(alloc, lba, blocks)?;
     let list = BlockList::from_payload(alloc, 1, blocks, Payload::copy_from_slice(alloc, bytes)?)?;
+    let ranges = row(alloc, lba, blocks)?;
     put(unit, count, &ranges, &list)
 }
 
@@ -159,6 +159,18 @@ where
     Ok(())
 }
 
+/// What a pin shows of blocks 0 and 1.
+fn first_two<B: Pins>(alloc: Global, unit: &B, pin: &B::Pin) -> Result<BlockList, Fail>
+where
+    B::Pin: Drop,
+    requires count { B.blocks unit.now ≡ 100 }
+    requires live { IsSome (B.pinned unit.now (B.number pin.now)) }
+    ensures { IfOk result (λ list. list.block_length ≡ B.block_length unit.now) }
+{
+    let from = row(alloc, 0, 2)?;
+    cut_at(unit, alloc, 100, pin, &from)
+}
+
 /// Blocks 10 and 11 get what a pin shows of blocks 0 and 1.
 fn put_pinned<B: Pins>(alloc: Global, unit: &mut B, pin: &B::Pin) -> Result<(), Fail>
 where
@@ -169,9 +181,8 @@ where
     ensures count { B.blocks unit.new ≡ 100 }
     ensures live { IsSome (B.pinned unit.new (B.number pin.now)) }
 {
-    let from = row(alloc, 0, 2)?;
-    let rod = cut_at(unit, alloc, 100, pin, &from)?;
     let to = row(alloc, 10, 2)?;
+    let rod = first_two(alloc, unit, pin)?;
     put(unit, 100, &to, &rod)
 }
 

@@ -8,7 +8,7 @@ use unit_core::FoldEnd;
 /// A full record has room once its entries are recorded, and the unit answers as after all of them.
 #[test]
 fn a_full_record_is_folded(rt: HostRuntime) -> Result<(), Fail> {
-    let other = play(
+    play(
         rt.alloc(),
         Room {
             entries: 2,
@@ -28,15 +28,13 @@ fn a_full_record_is_folded(rt: HostRuntime) -> Result<(), Fail> {
             (Step::Dropped, Told::Count(2)),
             (Step::Recorded, Told::Count(2)),
         ],
-    )?;
-    assert_eq!(rt; other, None);
-    Ok(())
+    )
 }
 
 /// An operation goes on and ends, and a token is redeemed, whose entries were dropped.
 #[test]
 fn a_fold_leaves_what_was_begun(rt: HostRuntime) -> Result<(), Fail> {
-    let other = play_ample(
+    play_ample(
         rt.alloc(),
         &[
             (
@@ -65,15 +63,13 @@ fn a_fold_leaves_what_was_begun(rt: HostRuntime) -> Result<(), Fail> {
             (Step::End, Told::Ended(1024)),
             (Step::At(105, Asked::Redeem(0)), Told::Rod(0)),
         ],
-    )?;
-    assert_eq!(rt; other, None);
-    Ok(())
+    )
 }
 
 /// A fold stops at the entry that the recorder refuses; the next goes on there.
 #[test]
 fn a_fold_stops_at_a_failure(rt: HostRuntime) -> Result<(), Fail> {
-    let other = play(
+    play(
         rt.alloc(),
         AMPLE,
         &[2],
@@ -84,21 +80,17 @@ fn a_fold_stops_at_a_failure(rt: HostRuntime) -> Result<(), Fail> {
             (Step::Fold, Told::Folded(FoldEnd::All, 0, 2)),
             (Step::Recorded, Told::Count(2)),
         ],
-    )?;
-    assert_eq!(rt; other, None);
-    Ok(())
+    )
 }
 
 /// Where there is no recorder each entry is kept.
 #[test]
 fn nothing_is_folded_without_a_recorder(rt: HostRuntime) -> Result<(), Fail> {
-    let other = play_ample(
+    play_ample(
         rt.alloc(),
         &[
             (Step::Ask(Asked::Read(0)), Told::Blocks(0, 0)),
             (Step::FoldNowhere, Told::Folded(FoldEnd::Absent, 1, 0)),
         ],
-    )?;
-    assert_eq!(rt; other, None);
-    Ok(())
+    )
 }

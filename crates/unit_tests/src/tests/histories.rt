@@ -50,9 +50,9 @@ fn machine(
 }
 
 /// Whether the act was answered so.
-fn is_answered_so(told: Result<Answer, ActRefused>, plain: &Answer) -> bool {
+fn is_answered_so(told: Result<Answer, ActRefused>, plain: Answer) -> bool {
     match told {
-        Ok(answer) => is_same(&answer, plain),
+        Ok(answer) => is_same(&answer, &plain),
         Err(ActRefused::Full | ActRefused::OutOfMemory) => false,
     }
 }
@@ -176,7 +176,7 @@ impl Player {
         let told = self
             .unit
             .act(next.actor, next.seq, 0, next.moment, next.act);
-        let is_same = is_answered_so(told, &plain);
+        let is_same = is_answered_so(told, plain);
         let is_stored = stores_the_needed(alloc, &self.unit, &self.needed)?;
         Ok(is_same && is_stored)
     }
@@ -241,6 +241,23 @@ impl Player {
         Ok(true)
     }
 
+    /// Plays a random history. Whether it is as by the plain model, and no entry is lost.
+    fn play_and_look(
+        &mut self,
+        alloc: Global,
+        config: &Config,
+        number: u16,
+        style: Style,
+        numbers: &mut Numbers,
+        recorder: &mut MemoryRecorder,
+    ) -> Result<bool, Fail>
+        requires player { IsPlayer config.now number self.old }
+        requires configured { number < length config.now.units }
+    {
+        let is_plain = self.play(alloc, config, number, style, numbers, recorder)?;
+        Ok(is_plain && self.lost_none(recorder))
+    }
+
     /// Each entry that was asked for is in the record or with the recorder.
     fn lost_none(&self, recorder: &MemoryRecorder) -> bool {
         let folded = self.unit.folded();
@@ -261,8 +278,22 @@ fn history_is_as_plain(
     requires { number < length config.now.units }
 {
     let mut player = Player::new(alloc, config, number)?;
-    let is_plain = player.play(alloc, config, number, style, numbers, recorder)?;
-    Ok(is_plain && player.lost_none(recorder))
+    player.play_and_look(alloc, config, number, style, numbers, recorder)
+}
+
+/// Plays a random history on a new unit, whose record has room for it. Whether it is as by the plain model.
+fn ample_history(
+    alloc: Global,
+    config: &Config,
+    number: u16,
+    style: Style,
+    numbers: &mut Numbers,
+) -> Result<bool, Fail>
+    requires { number < length config.now.units }
+{
+    let mut recorder = MemoryRecorder::new(alloc, CallList::empty(alloc));
+    let same = history_is_as_plain(alloc, config, number, style, numbers, &mut recorder)?;
+    Ok(same && recorder.entries().is_empty())
 }
 
 #[test]
@@ -272,19 +303,8 @@ fn random_histories(rt: HostRuntime) -> Result<(), Fail> {
     for seed in 0..4 {
         let mut numbers = Numbers::new(seed);
         for number in 0..2 {
-            let mut recorder = MemoryRecorder::new(alloc, CallList::empty(alloc));
-            let same = history_is_as_plain(
-                alloc,
-                &config,
-                number,
-                Style::Mixed,
-                &mut numbers,
-                &mut recorder,
-            )?;
-            assert!(rt;
-                same && recorder.entries().is_empty(),
-                "unit {number} of seed {seed}"
-            );
+            let same = ample_history(alloc, &config, number, Style::Mixed, &mut numbers)?;
+            assert!(rt; same, "unit {number} of seed {seed}");
         }
     }
     Ok(())
@@ -297,15 +317,7 @@ fn histories_of_long_operations(rt: HostRuntime) -> Result<(), Fail> {
     let config = machine(alloc, 1100, 3, 4096, 1_048_576)?;
     for seed in 0..4 {
         let mut numbers = Numbers::new(seed);
-        let mut recorder = MemoryRecorder::new(alloc, CallList::empty(alloc));
-        let same = history_is_as_plain(
-            alloc,
-            &config,
-            0,
-            Style::Long,
-            &mut numbers,
-            &mut recorder,
-        )?;
+        let same = ample_history(alloc, &config, 0, Style::Long, &mut numbers)?;
         assert!(rt; same, "seed {seed}");
     }
     Ok(())

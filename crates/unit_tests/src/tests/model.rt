@@ -183,14 +183,25 @@ fn allowed(config: &Config, act: &Act) -> Result<(), &'static str>
     }
 }
 
+/// Makes room for an act that is within its limits.
+fn admit(config: &Config, history: &mut History, act: &Act) -> Result<(), Fail>
+    requires { 1 ≤ length config.now.units }
+    ensures limits { OnOk result (within_limits config.now 0 act.now ≡ true) }
+    ensures room { OnOk result (1 ≤ history.new.spare) }
+    ensures same { history.new.entries ≡ history.old.entries }
+{
+    allowed(config, act)?;
+    history.reserve(1)?;
+    Ok(())
+}
+
 /// Initiator 1 asks unit 0 for an act at this moment.
 fn ask(config: &Config, history: &mut History, moment: u64, act: Act) -> Result<(), Fail>
     requires one { 1 ≤ length config.now.units }
     requires within { AreWithin config.now 0 history.old.entries }
     ensures { OnOk result (AreWithin config.now 0 history.new.entries) }
 {
-    allowed(config, &act)?;
-    history.reserve(1)?;
+    admit(config, history, &act)?;
     history.append(Entry {
         stamp: moment,
         unit: 0,
@@ -238,6 +249,23 @@ fn history_of(alloc: Global, config: &Config, acts: &[(u64, Asked)]) -> Result<H
     ask_all(alloc, config, history, acts)
 }
 
+/// What an initiator is answered behind a history to an act at a moment.
+fn answered_behind(
+    alloc: Global,
+    config: &Config,
+    history: &History,
+    nexus: u32,
+    moment: u64,
+    act: &Act,
+) -> Result<Answer, Fail>
+    requires one { 1 ≤ length config.now.units }
+    requires within { AreWithin config.now 0 history.now.entries }
+{
+    allowed(config, act)?;
+    let actor = Actor::Nexus(nexus);
+    Ok(plain_answer(alloc, config, history, 0, actor, moment, act)?)
+}
+
 /// What an initiator is answered, after four Writes and these acts of initiator 1, to an act at a moment.
 fn answered(
     alloc: Global,
@@ -247,11 +275,9 @@ fn answered(
     asked: Asked,
 ) -> Result<Answer, Fail> {
     let config = one_unit(alloc)?;
-    let history = history_of(alloc, &config, acts)?;
     let act = act_of(alloc, &config, asked)?;
-    allowed(&config, &act)?;
-    let actor = Actor::Nexus(nexus);
-    Ok(plain_answer(alloc, &config, &history, 0, actor, moment, &act)?)
+    let history = history_of(alloc, &config, acts)?;
+    answered_behind(alloc, &config, &history, nexus, moment, &act)
 }
 
 /// The first byte of the last of four blocks, where that is mapped.

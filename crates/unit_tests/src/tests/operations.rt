@@ -7,7 +7,7 @@ use std::test::Fail;
 /// The second piece would go over the quota: none of it is written, and the operation has failed.
 #[test]
 fn a_write_meets_the_quota(rt: HostRuntime) -> Result<(), Fail> {
-    let other = play(
+    play(
         rt.alloc(),
         Room {
             entries: 16,
@@ -34,15 +34,13 @@ fn a_write_meets_the_quota(rt: HostRuntime) -> Result<(), Fail> {
             (Step::Ask(Asked::Read(1023)), Told::Blocks(0x33, 0)),
             (Step::Mapped, Told::Count(1024)),
         ],
-    )?;
-    assert_eq!(rt; other, None);
-    Ok(())
+    )
 }
 
 /// An operation that was ended or aborted writes nothing more.
 #[test]
 fn operations_are_ended(rt: HostRuntime) -> Result<(), Fail> {
-    let other = play_ample(
+    play_ample(
         rt.alloc(),
         &[
             (
@@ -69,15 +67,13 @@ fn operations_are_ended(rt: HostRuntime) -> Result<(), Fail> {
             (Step::Ask(Asked::Read(0)), Told::Blocks(0, 0)),
             (Step::Runs(false, 2), Told::Runs(false)),
         ],
-    )?;
-    assert_eq!(rt; other, None);
-    Ok(())
+    )
 }
 
 /// A copy runs from its opening to its close.
 #[test]
 fn a_copy_is_closed(rt: HostRuntime) -> Result<(), Fail> {
-    let other = play_ample(
+    play_ample(
         rt.alloc(),
         &[
             (Step::Ask(Asked::Open), Told::Done),
@@ -85,15 +81,13 @@ fn a_copy_is_closed(rt: HostRuntime) -> Result<(), Fail> {
             (Step::Close, Told::Done),
             (Step::Runs(true, 3), Told::Runs(false)),
         ],
-    )?;
-    assert_eq!(rt; other, None);
-    Ok(())
+    )
 }
 
 /// An initiator has to end its copy, and not what the pump writes.
 #[test]
 fn a_copy_is_unended(rt: HostRuntime) -> Result<(), Fail> {
-    let other = play_ample(
+    play_ample(
         rt.alloc(),
         &[
             (
@@ -111,7 +105,5 @@ fn a_copy_is_unended(rt: HostRuntime) -> Result<(), Fail> {
             (Step::Close, Told::Done),
             (Step::Unended, Told::Unended(None)),
         ],
-    )?;
-    assert_eq!(rt; other, None);
-    Ok(())
+    )
 }

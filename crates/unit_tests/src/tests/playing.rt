@@ -165,24 +165,28 @@ fn told(
     }
 }
 
-/// The number of the first step that is answered otherwise, from 0, if there is one.
-fn first_other(
+/// The number of a step, from 0, that is answered otherwise.
+#[derive(Drop, Debug)]
+struct OtherStep(usize);
+
+/// Fails with the first step that is answered otherwise.
+fn play_on(
     alloc: Global,
     config: &Config,
     unit: &mut Unit,
     recorder: &mut MemoryRecorder,
     steps: &[(Step, Told)],
-) -> Result<Option<usize>, Fail>
+) -> Result<(), Fail>
     requires config { unit.old.config ≡ config.now }
     requires unit { unit.old.unit ≡ 0 }
     requires one { length config.now.units ≡ 1 }
 {
     for (number, (step, wanted)) in steps.iter().enumerate() {
         if told(alloc, config, unit, recorder, *step)? != *wanted {
-            return Ok(Some(number));
+            return Err(Fail::from(OtherStep(number)));
         }
     }
-    Ok(None)
+    Ok(())
 }
 
 /// What a unit has room for.
@@ -222,27 +226,26 @@ fn machine(alloc: Global, room: Room) -> Result<Config, Fail>
     Ok(Config::new([0; 32], units))
 }
 
-/// The number of the first step that a new unit answers otherwise, from 0, if there is one.
-fn played(
+/// Plays the steps with a new unit.
+fn play_new(
     alloc: Global,
     config: &Config,
     recorder: &mut MemoryRecorder,
     steps: &[(Step, Told)],
-) -> Result<Option<usize>, Fail>
+) -> Result<(), Fail>
     requires { length config.now.units ≡ 1 }
 {
     let mut unit = Unit::new(alloc, config, 0)?;
-    first_other(alloc, config, &mut unit, recorder, steps)
+    play_on(alloc, config, &mut unit, recorder, steps)
 }
 
-/// The number of the first step that a unit answers otherwise, from 0, if there is one. Of the calls of its recorder
-/// those listed fail.
+/// Fails with the first step that a new unit answers otherwise. Of the calls of its recorder those listed fail.
 pub(crate) fn play(
     alloc: Global,
     room: Room,
     failing: &[u64],
     steps: &[(Step, Told)],
-) -> Result<Option<usize>, Fail>
+) -> Result<(), Fail>
     requires entries { (1 ≤ room.entries) × (room.entries ≤ 1024) }
     requires quota { room.quota ≤ 4096 }
     requires payload { (1 ≤ room.payload) × (room.payload ≤ 4_194_304) }
@@ -250,22 +253,24 @@ pub(crate) fn play(
     let config = machine(alloc, room)?;
     let failing = CallList::copy(alloc, failing)?;
     let mut recorder = MemoryRecorder::new(alloc, failing);
-    played(alloc, &config, &mut recorder, steps)
+    play_new(alloc, &config, &mut recorder, steps)
 }
 
-/// What [`play`] finds of a unit with ample room, no call of whose recorder fails.
-pub(crate) fn play_ample(alloc: Global, steps: &[(Step, Told)]) -> Result<Option<usize>, Fail> {
+/// [`play`] with ample room, and no call of the recorder fails.
+pub(crate) fn play_ample(alloc: Global, steps: &[(Step, Told)]) -> Result<(), Fail> {
     play(alloc, AMPLE, &[], steps)
 }
 
-/// A unit behind these steps.
-fn unit_behind(alloc: Global, config: &Config, steps: &[(Step, Told)]) -> Result<Unit, Fail>
+/// How many entries a new unit hands out behind these steps.
+fn left_by(alloc: Global, config: &Config, steps: &[(Step, Told)]) -> Result<usize, Fail>
     requires { length config.now.units ≡ 1 }
 {
-    let mut recorder = MemoryRecorder::new(alloc, CallList::empty(alloc));
     let mut unit = Unit::new(alloc, config, 0)?;
-    first_other(alloc, config, &mut unit, &mut recorder, steps)?;
-    Ok(unit)
+    let mut recorder = MemoryRecorder::new(alloc, CallList::empty(alloc));
+    let played = play_on(alloc, config, &mut unit, &mut recorder, steps);
+    let left = unit.into_history().len();
+    played?;
+    Ok(left)
 }
 
 /// How many entries a unit hands out behind these steps.
@@ -275,7 +280,5 @@ pub(crate) fn handed_out(alloc: Global, room: Room, steps: &[(Step, Told)]) -> R
     requires payload { (1 ≤ room.payload) × (room.payload ≤ 4_194_304) }
 {
     let config = machine(alloc, room)?;
-    let unit = unit_behind(alloc, &config, steps)?;
-    let history = unit.into_history();
-    Ok(history.len())
+    left_by(alloc, &config, steps)
 }

@@ -7,7 +7,7 @@ use std::test::Fail;
 /// A background write keeps its entries free: others find the record full, and the pump does not.
 #[test]
 fn a_record_is_full_in_entries(rt: HostRuntime) -> Result<(), Fail> {
-    let other = play(
+    play(
         rt.alloc(),
         Room {
             entries: 6,
@@ -42,15 +42,13 @@ fn a_record_is_full_in_entries(rt: HostRuntime) -> Result<(), Fail> {
             (Step::Ask(Asked::Read(0)), Told::Full),
             (Step::Kept, Told::Count(6)),
         ],
-    )?;
-    assert_eq!(rt; other, None);
-    Ok(())
+    )
 }
 
 /// The bytes of writes fill the record's payload; a read still finds room.
 #[test]
 fn a_record_is_full_in_payload(rt: HostRuntime) -> Result<(), Fail> {
-    let other = play(
+    play(
         rt.alloc(),
         Room {
             entries: 6,
@@ -64,9 +62,7 @@ fn a_record_is_full_in_payload(rt: HostRuntime) -> Result<(), Fail> {
             (Step::Ask(Asked::Read(0)), Told::Blocks(0x22, 0x22)),
             (Step::Kept, Told::Count(2)),
         ],
-    )?;
-    assert_eq!(rt; other, None);
-    Ok(())
+    )
 }
 
 /// A record of one entry, and one act more.
@@ -85,8 +81,7 @@ const ONE_ENTRY: Room = Room {
 /// A record of one entry keeps one act, and hands it out.
 #[test]
 fn a_record_is_handed_out(rt: HostRuntime) -> Result<(), Fail> {
-    let other = play(rt.alloc(), ONE_ENTRY, &[], &TWO_READS)?;
-    assert_eq!(rt; other, None);
-    assert_eq!(rt; handed_out(rt.alloc(), ONE_ENTRY, &TWO_READS)?, 1);
+    play(rt.alloc(), ONE_ENTRY, &[], &TWO_READS)?;
+    assert!(rt; handed_out(rt.alloc(), ONE_ENTRY, &TWO_READS)? == 1);
     Ok(())
 }

@@ -63,7 +63,7 @@ fn start(nexus: u32, lba: u64, count: u32) -> Step {
 /// A write-exclusive reservation leaves the reads of others, and bars their writes.
 #[test]
 fn a_reservation_bars_the_writes_of_others(rt: HostRuntime) -> Result<(), Fail> {
-    let other = play_ample(
+    play_ample(
         rt.alloc(),
         &[
             (register(1), Told::Done),
@@ -79,15 +79,13 @@ fn a_reservation_bars_the_writes_of_others(rt: HostRuntime) -> Result<(), Fail> 
             (Step::By(2, Asked::Write(0x44, 7, 1)), Told::Done),
             (Step::Ask(Asked::Read(7)), Told::Blocks(0x44, 0)),
         ],
-    )?;
-    assert_eq!(rt; other, None);
-    Ok(())
+    )
 }
 
 /// An exclusive-access reservation bars another nexus from each act on blocks. The record has those that were barred too.
 #[test]
 fn a_reservation_bars_each_act_on_blocks(rt: HostRuntime) -> Result<(), Fail> {
-    let other = play_ample(
+    play_ample(
         rt.alloc(),
         &[
             (register(1), Told::Done),
@@ -104,15 +102,13 @@ fn a_reservation_bars_each_act_on_blocks(rt: HostRuntime) -> Result<(), Fail> {
             (Step::Live, Told::Count(0)),
             (Step::Mapped, Told::Count(0)),
         ],
-    )?;
-    assert_eq!(rt; other, None);
-    Ok(())
+    )
 }
 
 /// It bars its holder from none.
 #[test]
 fn a_reservation_bars_its_holder_from_no_act(rt: HostRuntime) -> Result<(), Fail> {
-    let other = play_ample(
+    play_ample(
         rt.alloc(),
         &[
             (register(1), Told::Done),
@@ -127,15 +123,13 @@ fn a_reservation_bars_its_holder_from_no_act(rt: HostRuntime) -> Result<(), Fail
             (start(1, 2, 1), Told::Running(0)),
             (Step::Kept, Told::Count(10)),
         ],
-    )?;
-    assert_eq!(rt; other, None);
-    Ok(())
+    )
 }
 
 /// A write that was begun goes on beside a reservation, which still stands when its entries are dropped.
 #[test]
 fn a_reservation_lets_an_operation_go_on(rt: HostRuntime) -> Result<(), Fail> {
-    let other = play_ample(
+    play_ample(
         rt.alloc(),
         &[
             (start(1, 0, 2048), Told::Running(0)),
@@ -146,7 +140,5 @@ fn a_reservation_lets_an_operation_go_on(rt: HostRuntime) -> Result<(), Fail> {
             (Step::Ask(Asked::Report(2)), Told::Running(1024)),
             (Step::Ask(Asked::Read(0)), Told::Conflict),
         ],
-    )?;
-    assert_eq!(rt; other, None);
-    Ok(())
+    )
 }

@@ -7,7 +7,7 @@ use std::test::Fail;
 /// A version goes where no token shows it and the block was written again.
 #[test]
 fn versions_are_kept_while_a_token_shows_them(rt: HostRuntime) -> Result<(), Fail> {
-    let other = play_ample(
+    play_ample(
         rt.alloc(),
         &[
             (Step::Ask(Asked::Write(0x11, 0, 2)), Told::Done),
@@ -33,15 +33,13 @@ fn versions_are_kept_while_a_token_shows_them(rt: HostRuntime) -> Result<(), Fai
             (Step::Ask(Asked::Delete(0)), Told::Done),
             (Step::Stored, Told::Count(3)),
         ],
-    )?;
-    assert_eq!(rt; other, None);
-    Ok(())
+    )
 }
 
 /// The same bytes written again are another version, and a token that is over shows none.
 #[test]
 fn equal_bytes_are_two_versions(rt: HostRuntime) -> Result<(), Fail> {
-    let other = play_ample(
+    play_ample(
         rt.alloc(),
         &[
             (Step::Ask(Asked::Write(0x11, 5, 1)), Told::Done),
@@ -67,15 +65,13 @@ fn equal_bytes_are_two_versions(rt: HostRuntime) -> Result<(), Fail> {
             ),
             (Step::Stored, Told::Count(1)),
         ],
-    )?;
-    assert_eq!(rt; other, None);
-    Ok(())
+    )
 }
 
 /// Tokens of blocks that nobody wrote, or of the same blocks, keep nothing more.
 #[test]
 fn tokens_share_versions(rt: HostRuntime) -> Result<(), Fail> {
-    let other = play_ample(
+    play_ample(
         rt.alloc(),
         &[
             (Step::Ask(Asked::Write(0x11, 0, 4)), Told::Done),
@@ -84,7 +80,5 @@ fn tokens_share_versions(rt: HostRuntime) -> Result<(), Fail> {
             (Step::Live, Told::Count(64)),
             (Step::Stored, Told::Count(4)),
         ],
-    )?;
-    assert_eq!(rt; other, None);
-    Ok(())
+    )
 }

@@ -7,7 +7,7 @@ use std::test::Fail;
 /// A token is over ten seconds after its last use, and stays so whatever the moment.
 #[test]
 fn a_token_expires(rt: HostRuntime) -> Result<(), Fail> {
-    let other = play_ample(
+    play_ample(
         rt.alloc(),
         &[
             (
@@ -33,15 +33,13 @@ fn a_token_expires(rt: HostRuntime) -> Result<(), Fail> {
             ),
             (Step::Live, Told::Count(0)),
         ],
-    )?;
-    assert_eq!(rt; other, None);
-    Ok(())
+    )
 }
 
 /// Where 64 tokens are live, one more takes the place of the one that was used least lately.
 #[test]
 fn the_token_used_least_lately_is_evicted(rt: HostRuntime) -> Result<(), Fail> {
-    let other = play_ample(
+    play_ample(
         rt.alloc(),
         &[
             (Step::Fill(64), Told::Done),
@@ -65,15 +63,13 @@ fn the_token_used_least_lately_is_evicted(rt: HostRuntime) -> Result<(), Fail> {
             (Step::At(166, Asked::Redeem(0)), Told::Rod(0)),
             (Step::Live, Told::Count(64)),
         ],
-    )?;
-    assert_eq!(rt; other, None);
-    Ok(())
+    )
 }
 
 /// The 257th record drops the first.
 #[test]
 fn the_257th_record_drops_the_first(rt: HostRuntime) -> Result<(), Fail> {
-    let other = play_ample(
+    play_ample(
         rt.alloc(),
         &[
             (Step::Fill(256), Told::Done),
@@ -94,7 +90,5 @@ fn the_257th_record_drops_the_first(rt: HostRuntime) -> Result<(), Fail> {
             (Step::Ask(Asked::Report(1)), Told::Ended(1)),
             (Step::Kept, Told::Count(260)),
         ],
-    )?;
-    assert_eq!(rt; other, None);
-    Ok(())
+    )
 }

@@ -11,24 +11,27 @@ fn start_of_four(rt: &HostRuntime) -> Result<Act, Fail> {
     Ok(start(rt.alloc(), ranges, rod)?)
 }
 
+/// A copy of this Start.
+fn copy_of_start(rt: &HostRuntime) -> Result<Act, Fail> {
+    let act = start_of_four(rt)?;
+    Ok(act.copy(rt.alloc())?)
+}
+
 /// The act is a Start of so many blocks.
-fn is_start_of(act: &Act, blocks: u64) -> bool {
-    matches!(act, Act::Start { ranges, rod, .. } if ranges.total() == blocks && rod.list().blocks() == blocks)
+fn is_start_of(act: Act, blocks: u64) -> bool {
+    matches!(&act, Act::Start { ranges, rod, .. } if ranges.total() == blocks && rod.list().blocks() == blocks)
 }
 
 #[test]
 fn acts_are_copied(rt: HostRuntime) -> Result<(), Fail> {
-    let act = start_of_four(&rt)?;
-    let copy = act.copy(rt.alloc())?;
-    assert!(rt; is_start_of(&copy, 4));
+    assert!(rt; is_start_of(copy_of_start(&rt)?, 4));
     Ok(())
 }
 
 #[test]
 fn blocks_of_a_start_move_in_and_out(rt: HostRuntime) -> Result<(), Fail> {
     let list = holes(&rt, 512, 4)?;
-    let rod = RodBlocks::new(rt.alloc(), list)?;
-    assert_eq!(rt; rod.into_list().blocks(), 4);
+    assert!(rt; RodBlocks::new(rt.alloc(), list)?.into_list().blocks() == 4);
     Ok(())
 }
 
@@ -50,12 +53,21 @@ fn is_write_to(act: &Act, block: u64) -> bool {
     matches!(act, Act::Write { lba, list } if *lba == block && list.blocks() == 1)
 }
 
+/// A copy of this entry.
+fn copy_of_write(rt: &HostRuntime) -> Result<Entry, Fail> {
+    let entry = entry_of_write(rt)?;
+    Ok(entry.copy(rt.alloc())?)
+}
+
+/// The entry has what that Write has.
+fn is_of_write(entry: Entry) -> bool {
+    let has_numbers = entry.stamp == 6 && entry.seq == 7 && entry.moment == 8;
+    has_numbers && is_write_to(&entry.act, 3)
+}
+
 #[test]
 fn entries_are_copied(rt: HostRuntime) -> Result<(), Fail> {
-    let entry = entry_of_write(&rt)?;
-    let copy = entry.copy(rt.alloc())?;
-    assert!(rt; copy.stamp == 6 && copy.seq == 7 && copy.moment == 8);
-    assert!(rt; is_write_to(&copy.act, 3));
+    assert!(rt; is_of_write(copy_of_write(&rt)?));
     Ok(())
 }
 

@@ -62,7 +62,7 @@ fn laws_can_be_called(rt: HostRuntime) -> Result<(), Fail> {
     laws_of_a_unit(&config, &history, 0);
     laws_of_the_first_entry(&config, &history);
     laws_of_one_history(&config, &history);
-    assert_eq!(rt; history.len(), 1);
+    assert!(rt; history.len() == 1);
     Ok(())
 }
 
@@ -86,7 +86,6 @@ fn has_number(entry: Option<&Entry>, number: u64) -> bool {
 #[test]
 fn a_history_grows_at_its_end(rt: HostRuntime) -> Result<(), Fail> {
     let mut history = two_reads(&rt)?;
-    assert_eq!(rt; history.len(), 2);
     let last = history.pop();
     assert!(rt; has_number(last.as_ref(), 1));
     assert!(rt; history.len() == 1);
@@ -94,13 +93,18 @@ fn a_history_grows_at_its_end(rt: HostRuntime) -> Result<(), Fail> {
     Ok(())
 }
 
+/// Two Reads with room for two more, of which the first is dropped.
+fn second_read(rt: &HostRuntime) -> Result<History, Fail> {
+    let mut history = two_reads(rt)?;
+    history.reserve(2)?;
+    history.drop_first(1);
+    Ok(history)
+}
+
 /// The other entries stay, and so does the room behind them.
 #[test]
 fn the_first_entries_are_dropped(rt: HostRuntime) -> Result<(), Fail> {
-    let mut history = two_reads(&rt)?;
-    history.reserve(2)?;
-    history.drop_first(1);
-    assert_eq!(rt; history.len(), 1);
-    assert!(rt; history.at(0).seq == 1 && history.spare() == 2);
+    let history = second_read(&rt)?;
+    assert!(rt; history.len() == 1 && history.at(0).seq == 1 && history.spare() == 2);
     Ok(())
 }

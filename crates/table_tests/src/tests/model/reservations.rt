@@ -15,15 +15,22 @@ fn ask(
     reserve(unit, Actor::Nexus(nexus), action, 0, kind, key, action_key)
 }
 
-/// Registers nexus 2 by key A1h, and reserves the unit for its writes.
-fn reserved(alloc: Global) -> Result<PrState, Fail> {
-    let none = PrState::new(alloc);
-    let registered = ask(&none, 2, 0x00, 0, 0, 0xa1)?;
-    let reserved = ask(&registered.reservations, 2, 0x01, 1, 0xa1, 0)?;
-    if !matches!(&reserved.answer, Answer::Done) {
-        return Err(Fail::new("the unit is not reserved"));
+/// What an act left of the reservations, where it was done.
+fn left(outcome: ReserveOutcome) -> Result<PrState, Fail> {
+    match outcome.answer {
+        Answer::Done => Ok(outcome.reservations),
+        _ => Err(Fail::new("it was not done")),
     }
-    Ok(reserved.reservations)
+}
+
+/// Registers nexus 2 by key A1h.
+fn registered(alloc: Global) -> Result<PrState, Fail> {
+    left(ask(&PrState::new(alloc), 2, 0x00, 0, 0, 0xa1)?)
+}
+
+/// Reserves the unit for the writes of nexus 2.
+fn reserved(alloc: Global) -> Result<PrState, Fail> {
+    left(ask(&registered(alloc)?, 2, 0x01, 1, 0xa1, 0)?)
 }
 
 /// The nexus is barred from a Write.
