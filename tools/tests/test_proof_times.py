@@ -52,6 +52,27 @@ class ProofTimes(unittest.TestCase):
         lines, _, _ = self.told("low", "--most", "1")
         self.assertEqual([line.split(" | ")[-1] for line in lines[2:]], ["map::Map::put |", "all 3 |"])
 
+    def test_only_those_of_a_name_are_told_beside_the_sum_of_all(self):
+        lines, said, status = self.told("low", "--those", "^map::(len|get)$")
+        self.assertEqual((said, status), ("", 0))
+        self.assertEqual(
+            lines[2:],
+            [
+                "| 1.5 | 0.0 | 1.5 | 0.0 | 0.0 | map::len |",
+                "| 1.5 | 0.0 | 1.5 | 0.0 | 0.0 | those 1 |",
+                "| 13.0 | 5.0 | 4.5 | 2.0 | 1.5 | all 3 |",
+            ],
+        )
+
+    def test_those_of_no_name_are_none(self):
+        lines, _, status = self.told("low", "--those", "^set::")
+        self.assertEqual((lines[2].split(" | ")[-1], status), ("those 0 |", 0))
+
+    def test_a_name_that_is_no_regular_expression(self):
+        lines, said, status = self.told("low", "--those", "(")
+        self.assertEqual((lines, status), ([], 2))
+        self.assertIn("tools/proof-times: --those (: ", said)
+
     def test_a_crate_that_was_not_checked(self):
         lines, said, status = self.told("high")
         self.assertEqual((lines, status), ([], 2))

@@ -147,17 +147,11 @@ impl PlainUnits {
     {
         let _ = self.config.unit(unit);
         acts::blocks_brought(&act);
-        let count = self.entries.len();
+        self.entries.reserve(1)?;
         let next = self.next_entry(unit, actor, moment, act);
-        self.entries.push(next)?;
         let place = usize::from(unit);
-        let entry = &self.entries[count];
-        match self.units[place].add(alloc, &self.config, unit, entry) {
-            Ok(()) => Ok(()),
-            Err(OutOfMemory) => {
-                self.entries.truncate(count);
-                Err(OutOfMemory)
-            }
-        }
+        self.units[place].add(alloc, &self.config, unit, &next)?;
+        self.entries.push_reserved(next);
+        Ok(())
     }
 }

@@ -68,13 +68,28 @@ const CAPACITY: [u8; 16] = *b"\0\0\0\0\xff\xff\xff\xff\0\0\x10\0\0\0\xc0\0";
 /// The list of one unit.
 const ONE_UNIT: [u8; 16] = *b"\0\0\0\x08\0\0\0\0\0\0\0\0\0\0\0\0";
 
+/// Both forms of READ CAPACITY tell the largest unit.
+fn is_told(config: &Config) -> bool
+    requires { length config.now.units ≡ 1 }
+{
+    read_capacity10(config, 0) == *b"\xff\xff\xff\xff\0\0\x10\0"
+        && read_capacity16(config, 0).starts_with(&CAPACITY)
+}
+
+/// REPORT LUNS tells one unit.
+fn is_listed(alloc: Global, config: &Config) -> Result<bool, OutOfMemory>
+    requires { length config.now.units ≡ 1 }
+{
+    let list = report_luns(alloc, config)?;
+    Ok(list.as_slice() == ONE_UNIT.as_slice())
+}
+
 /// The data of a machine of one unit.
 #[test]
 fn data_of_one_unit(rt: HostRuntime) -> Result<(), OutOfMemory> {
-    let alloc = rt.alloc();
-    assert!(rt; read_capacity10(&one_unit(alloc)?, 0) == *b"\xff\xff\xff\xff\0\0\x10\0");
-    assert!(rt; read_capacity16(&one_unit(alloc)?, 0).starts_with(&CAPACITY));
-    assert!(rt; report_luns(alloc, &one_unit(alloc)?)?.as_slice() == ONE_UNIT.as_slice());
+    let config = one_unit(rt.alloc())?;
+    assert!(rt; is_told(&config));
+    assert!(rt; is_listed(rt.alloc(), &config)?);
     Ok(())
 }
 

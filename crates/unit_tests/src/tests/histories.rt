@@ -152,6 +152,35 @@ impl Player {
         Ok(plain)
     }
 
+    /// The act is within its limits, and the operations that run leave room for it.
+    fn has_room(&mut self, config: &Config, recorder: &mut MemoryRecorder, next: &Entry) -> bool
+        requires player { IsPlayer config.now next.now.unit self.old }
+        requires configured { next.now.unit < length config.now.units }
+        requires may { may_ask next.now.unit next.now.actor next.now.act ≡ true }
+        ensures limits { result ≡ true → within_limits config.now next.now.unit next.now.act ≡ true }
+        ensures player { IsPlayer config.now next.now.unit self.new }
+    {
+        within_limits(config, next.unit, &next.act) && makes_room(&mut self.unit, recorder, next)
+    }
+
+    /// Does an act. Whether it is answered as by the plain model, and the unit then stores so many versions as are
+    /// needed.
+    fn act(&mut self, alloc: Global, config: &Config, next: Entry) -> Result<bool, Fail>
+        requires player { IsPlayer config.now next.unit self.old }
+        requires configured { next.unit < length config.now.units }
+        requires may { may_ask next.unit next.actor next.act ≡ true }
+        requires limits { within_limits config.now next.unit next.act ≡ true }
+        ensures { OnOk result (IsPlayer config.now next.unit self.new) }
+    {
+        let plain = self.note(alloc, config, &next)?;
+        let told = self
+            .unit
+            .act(next.actor, next.seq, 0, next.moment, next.act);
+        let is_same = is_answered_so(told, plain);
+        let is_stored = stores_the_needed(alloc, &self.unit, &self.needed)?;
+        Ok(is_same && is_stored)
+    }
+
     /// Asks for an act. Whether it is answered as by the plain model, and the unit then stores so many versions as are
     /// needed. An act beyond its limits is not asked, nor one for which the operations that run leave no room.
     fn ask(
@@ -166,19 +195,10 @@ impl Player {
         requires may { may_ask next.unit next.actor next.act ≡ true }
         ensures { OnOk result (IsPlayer config.now next.unit self.new) }
     {
-        if !within_limits(config, next.unit, &next.act) {
-            return Ok(true);
+        if self.has_room(config, recorder, &next) {
+            return self.act(alloc, config, next);
         }
-        if !makes_room(&mut self.unit, recorder, &next) {
-            return Ok(true);
-        }
-        let plain = self.note(alloc, config, &next)?;
-        let told = self
-            .unit
-            .act(next.actor, next.seq, 0, next.moment, next.act);
-        let is_same = is_answered_so(told, plain);
-        let is_stored = stores_the_needed(alloc, &self.unit, &self.needed)?;
-        Ok(is_same && is_stored)
+        Ok(true)
     }
 }
 

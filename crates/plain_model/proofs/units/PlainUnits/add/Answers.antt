@@ -1,5 +1,4 @@
-use Rattle.std.proofs.Common.{◌≡◌, ◌<◌, ◌≤◌, ◌^◌, ◌++◌, ◌∷◌, [], ◌∙◌, ap, sym, subst, arith, true, length, slice_index_or, slice_set, List}
-use Rattle.std.proofs.lemmas.List.{get_or_push}
+use Rattle.std.proofs.Common.{◌≡◌, ◌<◌, ◌≤◌, ◌^◌, ◌++◌, ◌∷◌, [], ◌∙◌, ap, sym, subst, arith, true, length, slice_set, List}
 use Rattle.cm_base.specs.Configuration.{Configuration}
 use Rattle.cm_base.specs.declared.config.UnitConfig.{UnitConfig}
 use Rattle.cm_base.specs.Units.{unit_of}
@@ -17,10 +16,7 @@ add-requires-clause-follows c =
     let entries = c.self.inside.entries.items in
     let same = ap (λ (v : PlayedUnits). v.config) c.self.view_is in
     let next : Entry = c.next_entry-next.result in
-    let e : Entry = c.index-entry.result.now in
-    let count : length entries ≡ c.len-count.result = omega (arith, c.len-count.ensures, c.self.inside.entries.ok.0) in
-    let last : e ≡ next = c.index-entry.ensures ∙ ap (λ (l : List Entry). slice_index_or l c.len-count.result e) c.in_ok-push.ensures.items ∙ get_or_push entries next e c.len-count.result count in
-    let act : e.act ≡ c.args.act = ap (λ (x : Entry). x.act) (last ∙ c.next_entry-next.ensures) in
+    let act : next.act ≡ c.args.act = ap (λ (x : Entry). x.act) c.next_entry-next.ensures in
     let limits = c.unit.ensures.limits.blocks in
     let told = ap (λ (u : UnitConfig). u.blocks) c.unit.ensures.told in
     let few : (unit_of config c.args.unit).blocks ≤ 2 ^ 64 = omega (arith, limits.1, told) in
@@ -31,19 +27,16 @@ add-requires-clause-follows c =
       here = c.from-place.ensures;
       value = c.index_mut.ensures.value;
     } in
-    follows-at config entries c.self.inside.units.items c.args.unit c.from-place.result c.index_mut.result.now e found few (subst (Fits config c.args.unit) (sym act) fits)
+    follows-at config entries c.self.inside.units.items c.args.unit c.from-place.result c.index_mut.result.now next found few (subst (Fits config c.args.unit) (sym act) fits)
 
-pub invariant_of-self-in-Ok : goal.invariant_of-self-in-Ok
-invariant_of-self-in-Ok c =
+pub invariant_of-self-3 : goal.invariant_of-self-3
+invariant_of-self-3 c =
     let config = c.self.inside.config in
     let entries = c.self.inside.entries.items in
     let same = ap (λ (v : PlayedUnits). v.config) c.self.view_is in
     let next : Entry = c.next_entry-next.result in
-    let e : Entry = c.index-entry.result.now in
-    let count : length entries ≡ c.len-count.result = omega (arith, c.len-count.ensures, c.self.inside.entries.ok.0) in
-    let last : e ≡ next = c.index-entry.ensures ∙ ap (λ (l : List Entry). slice_index_or l c.len-count.result e) c.in_ok-push.ensures.items ∙ get_or_push entries next e c.len-count.result count in
-    let act : e.act ≡ c.args.act = ap (λ (x : Entry). x.act) (last ∙ c.next_entry-next.ensures) in
-    let mine : e.unit ≡ c.args.unit = ap (λ (x : Entry). x.unit) (last ∙ c.next_entry-next.ensures) in
+    let act : next.act ≡ c.args.act = ap (λ (x : Entry). x.act) c.next_entry-next.ensures in
+    let mine : next.unit ≡ c.args.unit = ap (λ (x : Entry). x.unit) c.next_entry-next.ensures in
     let fits : Fits config c.args.unit c.args.act = record { limits = subst (λ (k : Configuration). within_limits k c.args.unit c.args.act ≡ true) (sym same) c.requires.limits; sized = c.blocks_brought.ensures } in
     let found : IsFound config entries c.self.inside.units.items c.args.unit c.from-place.result c.index_mut.result.now = record {
       have = c.self.invariant;
@@ -51,6 +44,6 @@ invariant_of-self-in-Ok c =
       here = c.from-place.ensures;
       value = c.index_mut.ensures.value;
     } in
-    let items : c.push.new.self.items ≡ entries ++ e ∷ [] = rw (← last) at c.in_ok-push.ensures.items in
+    let items : c.push_reserved.new.self.items ≡ entries ++ next ∷ [] = c.push_reserved.ensures.items ∙ ap (λ (l : List Entry). l ++ next ∷ []) c.in_ok-reserve.ensures.items in
     subst (λ (l : List Entry). HavePlayed config l (slice_set c.self.inside.units.items c.from-place.result c.add.new.self)) (sym items)
-    (grown-at config entries c.self.inside.units.items c.args.unit c.from-place.result c.index_mut.result.now c.add.new.self e found mine (subst (Fits config c.args.unit) (sym act) fits) c.in-Ok.ensures.ok)
+    (grown-at config entries c.self.inside.units.items c.args.unit c.from-place.result c.index_mut.result.now c.add.new.self next found mine (subst (Fits config c.args.unit) (sym act) fits) c.in_ok-add.ensures.ok)
