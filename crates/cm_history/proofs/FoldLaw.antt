@@ -1,6 +1,5 @@
 -- The image of a unit says all that its answers, and its later images, depend on
 use Rattle.cm_history.specs.Image.{FoldPromise}
-use Rattle.cm_history.specs.Legal.{IsLegal}
 use Rattle.std.proofs.Common.{◌≡◌, ℕ, ◌^◌, List, [], ◌∷◌, ◌++◌, length, refl, ap, sym, ◌∙◌, arith, true, false, Bool, inl, inr}
 use Rattle.std.specs.Prelude.{Option, Some, None, ◌⊎◌, ◌&&◌, not, map, find, max, nat_le, option_map, if◌then◌else◌}
 use Rattle.std.proofs.lemmas.Bool.{cases_eq, or_left, or_right}
@@ -239,8 +238,8 @@ images-again config a b unit e same = go (cases_eq e.unit unit)
         ap (image (unit_of config unit)) (past_of-other config unit a e other) ∙ same ∙ sym (ap (image (unit_of config unit)) (past_of-other config unit b e other))
 
 pub fold_law : (config : Configuration) (a b : List Entry) (unit : ℕ) (actor : Actor) (now : ℕ) (act : Act)
-    → IsLegal config a → IsLegal config b → SameImage config unit a b → FoldPromise config a b unit actor now act
-fold_law config a b unit actor now act legal-a legal-b same = record {
+    → SameImage config unit a b → FoldPromise config a b unit actor now act
+fold_law config a b unit actor now act same = record {
   alike = answers-alike config a b unit actor now act same;
-  again = λ e more-a more-b. images-again config a b unit e same;
+  again = λ e. images-again config a b unit e same;
 }

@@ -1,5 +1,6 @@
 -- The lemmas of cm_history that other crates may cite
-pub use Rattle.cm_history.proofs.Lists.{Each, Each-all, Each-append, Each-by, Each-in, Each-map, In, In-append, In-append_right, In-contains, In-filter, In-map, any-none, contains-in, filter-passes, find-in, find-none, find-some, get-in, length-take-short}
+pub use Rattle.cm_history.specs.Members.{Each, In}
+pub use Rattle.cm_history.proofs.Lists.{Each-all, Each-append, Each-by, Each-in, Each-map, In-append, In-append_right, In-contains, In-filter, In-map, any-none, contains-in, filter-passes, find-in, find-none, find-some, get-in, length-take-short}
 pub use Rattle.cm_history.proofs.Counts.{IsBegun, IsPast, apart, begun, earlier, made-after, same_place}
 pub use Rattle.cm_history.proofs.Records.{and_first, kept_in, making_serves, running_kept, served_none, with_room_in}
 pub use Rattle.cm_history.proofs.Made.{Has, IsMade, all-made, past_of-mine, past_of-other, token-kept}

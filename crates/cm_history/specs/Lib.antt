@@ -1,3 +1,4 @@
+pub mod Members
 pub mod Record
 pub mod Bounds
 pub mod Deeds

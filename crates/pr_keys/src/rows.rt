@@ -1,4 +1,4 @@
-// Each service action of PERSISTENT RESERVE OUT in each state of a unit. tools/reservation-rows writes this table.
+// Each service action of PERSISTENT RESERVE OUT in each state of a unit. tools/proofs/reservation-rows writes this table.
 
 /// A state: the steps that lead to it, and what is told of each action that is asked there.
 pub struct Row {
