@@ -106,9 +106,57 @@ fn begin<V: Gated, N: FirstView<V::Entry, V::Kin>>(
     GateSeat { seat }
 }
 
+/// A gate whose memory is had and whose value is still to come. Contracts see the value for which it was made.
+#[derive(Drop)]
+pub struct VacantGate<V: Gated> {
+    table: Table<Option<V>, View<V::Entry, V::Kin>, V, InTurns<V>, Global>,
+    seat: Seat<Option<V>, View<V::Entry, V::Kin>>,
+}
+
+impl<V: Gated> Model for VacantGate<V> {
+    ghost use Rattle.turn_gate.specs.inner.Seats.{IsVacant};
+
+    ghost Value = { V };
+
+    ghost view = { λ g. g.table.shared.key };
+
+    ghost invariant = { λ g. IsVacant g.table.shared.table_id g.seat.table_id g.seat.me };
+}
+
+impl<V: Gated> VacantGate<V> {
+    /// The gate round the value for which it was made, and its first seat. That seat has seen the history that the caller
+    /// names (`opening`), of those that the value stands for. It takes no memory.
+    pub fn fill(self, value: V) -> (Gate<V>, GateSeat<V>)
+        ghost opening: { List V.Entry }
+        requires same { value ≡ self }
+        requires stands { V.stands_for value opening }
+        ensures kin { result.0.kin ≡ Some (V.kin value) }
+        ensures seat { result.1 ≡ first_seat result.0 opening (V.marks value) }
+    {
+        let VacantGate { table, seat } = self;
+        let mut seat = begin::<V, Brand>(&table.shared, seat, &value);
+        let gate = Gate {
+            table,
+            sleepers: Sleepers::none(),
+        };
+        gate.leave(&mut seat, Turn { value });
+        (gate, seat)
+    }
+}
+
 impl<V: Gated> Gate<V> {
-    /// A gate round the value, and its first seat. That seat has seen the history that the caller names (`opening`), of
-    /// those that the value stands for. `OutOfMemory` hands the value back.
+    /// A gate for the value, which is still to come.
+    pub fn vacant(alloc: Global, value: &V) -> Result<VacantGate<V>, OutOfMemory>
+        ensures { IfOk result (λ g. g ≡ value.now) }
+    {
+        let words = [value.length(), 1];
+        match Table::vacant(alloc, &words, 1, value) {
+            Ok((table, seat)) => Ok(VacantGate { table, seat }),
+            Err(_) => Err(OutOfMemory),
+        }
+    }
+
+    /// A gate round the value, and its first seat, as `vacant` and `fill` make them. `OutOfMemory` hands the value back.
     pub fn new(alloc: Global, value: V) -> Result<(Gate<V>, GateSeat<V>), (V, OutOfMemory)>
         ghost opening: { List V.Entry }
         requires { V.stands_for value opening }
@@ -116,18 +164,9 @@ impl<V: Gated> Gate<V> {
         ensures seat { IfOk result (λ r. r.1 ≡ first_seat r.0 opening (V.marks value)) }
         ensures back { IfErr result (λ e. e.0 ≡ value) }
     {
-        let words = [value.length(), 1];
-        match Table::vacant(alloc, &words, 1, &value) {
-            Ok((table, seat)) => {
-                let mut seat = begin::<V, Brand>(&table.shared, seat, &value);
-                let gate = Gate {
-                    table,
-                    sleepers: Sleepers::none(),
-                };
-                gate.leave(&mut seat, Turn { value });
-                Ok((gate, seat))
-            }
-            Err(_) => Err((value, OutOfMemory)),
+        match Gate::vacant(alloc, &value) {
+            Ok(vacant) => Ok(vacant.fill(value)),
+            Err(refused) => Err((value, refused)),
         }
     }
 

@@ -12,7 +12,7 @@ mod sleepers;
 mod turn;
 mod view;
 
-pub use gate::{Gate, GateSeat};
+pub use gate::{Gate, GateSeat, VacantGate};
 pub use gated::Gated;
 pub use turn::Turn;
 pub use view::{Joined, Own, View};

@@ -48,3 +48,9 @@ pub record IsSeated {V E K : Type 0} (table : TableId) (m : Me (Option V) (View 
   pub sound : IsSound (state_of table m.0)
   pub carries : m.1 ≡ carried m.0.holds
   pub fewer : length m.0.joined ≤ m.0.made
+
+-- the table of a gate whose value is still to come, and its first seat, which has taken no step
+pub record IsVacant {V E K : Type 0} (table seat : TableId) (m : Me (Option V) (View E K)) : Type 0 where
+  pub is_table : IsTable table
+  pub seat_is : seat ≡ table
+  pub fresh : m ≡ (unopened, [])
