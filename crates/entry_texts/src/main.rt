@@ -4,7 +4,7 @@
 //     entry_texts writes COUNT BLOCKS buffered    the same, with 64 KiB of them gathered before each write
 //     entry_texts copy                            the entries that standard input has
 //
-// bench/run-records measures the first, and tools/written-entries asks the second.
+// bench/run-records measures the first, and tools/campaigns/written-entries asks the second.
 #![tactic(auto)]
 
 mod copying;

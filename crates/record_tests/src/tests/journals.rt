@@ -13,6 +13,9 @@ use recorder::{RecordRefused, Recorder, has_short_lists};
 use std::alloc::Global;
 use std::test::Fail;
 
+/// The calls of the disk by which a journal is made new and four entries are recorded.
+const CALLS: u64 = 24;
+
 /// A new file of one unit, and a record of 44 bytes.
 const NEW: usize = 86;
 
@@ -29,6 +32,13 @@ enum Outcome {
 fn one_unit(alloc: Global) -> Result<Config, Fail>
     ensures { IfOk result (λ config. length config.units ≡ 1) }
 {
+    one_unit_of(alloc, 7)
+}
+
+/// The unit under a secret of this byte alone.
+fn one_unit_of(alloc: Global, secret: u8) -> Result<Config, Fail>
+    ensures { IfOk result (λ config. length config.units ≡ 1) }
+{
     let only = UnitConfig {
         blocks: 100,
         block_length: 512,
@@ -37,7 +47,7 @@ fn one_unit(alloc: Global) -> Result<Config, Fail>
         payload: 65_536,
         group: 0,
     };
-    Ok(Config::new([7; 32], UnitList::copy(alloc, &[only])?))
+    Ok(Config::new([secret; 32], UnitList::copy(alloc, &[only])?))
 }
 
 /// An entry of a nexus.
@@ -164,6 +174,19 @@ fn empty_disk(alloc: Global, config: &Config) -> MemoryDisk
     MemoryDisk::new(alloc, CallList::empty(alloc))
 }
 
+/// A file of which nothing is bad is opened; the disk of its journal is given back.
+fn reopened(alloc: Global, image: MemoryDisk, config: &Config) -> Result<MemoryDisk, Fail>
+    requires units { length config.now.units ≡ 1 }
+    requires good { IsGood ⟦<MemoryDisk as Disk>⟧.reads ⟦<MemoryDisk as Disk>⟧.may_leave config.now 0 image }
+    ensures { IfOk result (λ d. IsGood ⟦<MemoryDisk as Disk>⟧.reads ⟦<MemoryDisk as Disk>⟧.may_leave config.now 0 d) }
+{
+    match Journal::open(alloc, image, config, 0) {
+        Ok((journal, _)) => Ok(journal.into_disk()),
+        Err((_, OpenFault::BadJournal { .. })) => unreachable!(),
+        Err(_) => Err(Fail::new("not opened")),
+    }
+}
+
 /// A crash leaves a file that is opened; the disk of its journal is given back.
 fn opened_behind(
     alloc: Global,
@@ -176,11 +199,7 @@ fn opened_behind(
     ensures { IfOk result (λ d. IsGood ⟦<MemoryDisk as Disk>⟧.reads ⟦<MemoryDisk as Disk>⟧.may_leave config.now 0 d) }
 {
     let image = disk.crash(pick)?;
-    match Journal::open(alloc, image, config, 0) {
-        Ok((journal, _)) => Ok(journal.into_disk()),
-        Err((_, OpenFault::BadJournal { .. })) => unreachable!(),
-        Err(_) => Err(Fail::new("not opened")),
-    }
+    reopened(alloc, image, config)
 }
 
 /// A journal of two entries.
@@ -195,6 +214,16 @@ fn two_records(alloc: Global, config: &Config) -> Result<MemoryDisk, Fail>
         Ok(journal.into_disk())
     } else {
         Err(Fail::new("not recorded"))
+    }
+}
+
+/// The disk of a journal that is bad at place 1, as it comes back.
+fn refused_disk(alloc: Global, disk: MemoryDisk, config: &Config) -> Result<MemoryDisk, Fail>
+    requires { length config.now.units ≡ 1 }
+{
+    match Journal::open(alloc, disk, config, 0) {
+        Err((disk, OpenFault::BadJournal { place: 1 })) => Ok(disk),
+        _ => Err(Fail::new("not bad at 1")),
     }
 }
 
@@ -246,6 +275,7 @@ fn calls_of_the_disk_fail(rt: HostRuntime) -> Result<(), Fail> {
     let config = one_unit(alloc)?;
     for first in 1..42 {
         let (disk, count) = run(alloc, &config, first)?;
+        assert_eq!(rt; count == 4, first > CALLS, "call {first}");
         for pick in 0..8 {
             assert!(rt;
                 image_opens(alloc, &config, &disk, pick, count)?,
@@ -253,6 +283,20 @@ fn calls_of_the_disk_fail(rt: HostRuntime) -> Result<(), Fail> {
             );
         }
     }
+    Ok(())
+}
+
+/// A journal of another configuration is bad, and stays as it was.
+#[test]
+fn a_bad_journal_is_left(rt: HostRuntime) -> Result<(), Fail> {
+    let alloc = rt.alloc();
+    let config = one_unit(alloc)?;
+    let disk = two_records(alloc, &config)?;
+    let bytes = disk.as_slice().to_vec(alloc)?;
+    let other = one_unit_of(alloc, 8)?;
+    let left = refused_disk(alloc, disk, &other)?;
+    assert!(rt; left.as_slice() == bytes.as_slice());
+    assert!(rt; left.crash(1)?.as_slice() == bytes.as_slice());
     Ok(())
 }
 
