@@ -74,7 +74,7 @@ module _ (config : Configuration) (unit : ℕ) where
 
   module _ {D : Type 0} (reads : D → Option (List ℕ)) (may_leave : D → List ℕ → Type 0) where
     -- from records to entries
-    pub journal-of : (ps : List (List ℕ)) (es : List Entry) (begun : Option (List ℕ)) (tried : Option Entry) (log : Log D) → IsKept reads may_leave (front_bytes config unit) ps begun log
+    abbrev pub journal-of : (ps : List (List ℕ)) (es : List Entry) (begun : Option (List ℕ)) (tried : Option Entry) (log : Log D) → IsKept reads may_leave (front_bytes config unit) ps begun log
         → log.start ≡ length (front_bytes config unit) → AreSpelled config unit 0 ps es → BegunSpells config unit (last_stamp 0 es) begun tried → IsJournal reads may_leave config unit es tried log
     journal-of ps es begun tried log kept start spelled tries = record {
       told = kept.told;

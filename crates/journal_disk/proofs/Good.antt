@@ -67,7 +67,7 @@ module _ {D : Type 0} (reads : D → Option (List ℕ)) (may_leave : D → List 
       behind-sync : (new : D) → SyncsFirst reads may_leave moment left_since old new (λ c. opened config unit c ≡ opened config unit good.told.0) → LeavesOnly moment left_since old new (IsOpened config unit)
       behind-sync new sync =
           joined moment left_since old sync.mid new (IsOpened config unit)
-          (weaker moment left_since old sync.mid (may_leave old) (IsOpened config unit) good.opens sync.before)
+          (weaker moment left_since old sync.mid (may_leave old) (IsOpened config unit) good.opens sync.first.before)
           (weaker moment left_since sync.mid new (λ c. opened config unit c ≡ opened config unit good.told.0) (IsOpened config unit) (λ c same. (file-opened.0, same ∙ file-opened.1)) sync.after)
 
       -- a journal is opened

@@ -67,11 +67,11 @@ module _ {D : Type 0} (reads : D → Option (List ℕ)) (may_leave : D → List 
       behind-shut (front ++ records ps) last n from.0 c (sym kept.begun ∙ begun) (kept.images from.0 from.1) (subst (λ g. Torn (g + 1) n from.0 c) kept.gate from.2)
 
   pub still : (disk : D) → Both IsNoShorter (reads log.disk) (reads disk) → ((c : List ℕ) → may_leave disk c → Behind (front ++ records ps) last c)
-      → IsKept reads may_leave front ps last (record { disk = disk; start = log.start; gate = log.gate; begun = log.begun })
+      → IsKept reads may_leave front ps last (record { disk = disk; start = log.start; gate = log.gate; begun = log.begun; opening = log.opening })
   still disk longer images = record { told = told-still (reads log.disk) (reads disk) longer kept.told; gate = kept.gate; begun = kept.begun; images = images }
 
   pub still-shut : (disk : D) → log.begun ≡ false → Both IsNoShorter (reads log.disk) (reads disk) → ((c : List ℕ) → may_leave disk c → EndsBehind (front ++ records ps) c)
-      → IsKept reads may_leave front ps None (record { disk = disk; start = log.start; gate = log.gate; begun = log.begun })
+      → IsKept reads may_leave front ps None (record { disk = disk; start = log.start; gate = log.gate; begun = log.begun; opening = log.opening })
   still-shut disk begun longer images = record { told = told-still (reads log.disk) (reads disk) longer kept.told; gate = kept.gate; begun = begun; images = images }
 
   pub was-shut : log.begun ≡ false → IsKept reads may_leave front ps None log
@@ -82,7 +82,7 @@ module _ {D : Type 0} (reads : D → Option (List ℕ)) (may_leave : D → List 
   here = kept.images kept.told.0 (reads_left log.disk kept.told.0 kept.told.1)
 
   pub now-shut : (disk : D) → log.begun ≡ true → reads disk ≡ option_map (written log.gate (0 ∷ [])) (reads log.disk) → IsSynced (reads disk) (may_leave disk)
-      → IsKept reads may_leave front ps None (record { disk = disk; start = log.start; gate = log.gate; begun = false })
+      → IsKept reads may_leave front ps None (record { disk = disk; start = log.start; gate = log.gate; begun = false; opening = log.opening })
   now-shut disk begun is synced = record {
     told = told-written log.gate (0 ∷ []) (reads log.disk) (reads disk) kept.told is;
     gate = kept.gate;
@@ -92,7 +92,7 @@ module _ {D : Type 0} (reads : D → Option (List ℕ)) (may_leave : D → List 
   }
 
   pub now-staged : (disk : D) (payload text : List ℕ) → log.begun ≡ false → text ≡ framed payload ++ (0 ∷ []) → reads disk ≡ option_map (written (log.gate + 1) text) (reads log.disk) → IsSynced (reads disk) (may_leave disk)
-      → IsKept reads may_leave front ps (Some payload) (record { disk = disk; start = log.start; gate = log.gate; begun = true })
+      → IsKept reads may_leave front ps (Some payload) (record { disk = disk; start = log.start; gate = log.gate; begun = true; opening = log.opening })
   now-staged disk payload text begun spelled is synced = record {
     told = told-written (log.gate + 1) text (reads log.disk) (reads disk) kept.told is;
     gate = kept.gate;
@@ -106,7 +106,7 @@ module _ {D : Type 0} (reads : D → Option (List ℕ)) (may_leave : D → List 
 pub now-open : {D : Type 0} (reads : D → Option (List ℕ)) (may_leave : D → List ℕ → Type 0) (reads_left : (disk : D) (file : List ℕ) → reads disk ≡ Some file → may_leave disk file)
     (front : List ℕ) (ps : List (List ℕ)) (payload : List ℕ) (log : Log D) (kept : IsKept reads may_leave front ps (Some payload) log) (disk : D) (size : ℕ) → size ≡ 9 + length payload
     → reads disk ≡ option_map (written log.gate (open_gate ∷ [])) (reads log.disk) → IsSynced (reads disk) (may_leave disk)
-    → IsKept reads may_leave front (ps ++ (payload ∷ [])) None (record { disk = disk; start = log.start; gate = log.gate + size; begun = false })
+    → IsKept reads may_leave front (ps ++ (payload ∷ [])) None (record { disk = disk; start = log.start; gate = log.gate + size; begun = false; opening = log.opening })
 now-open reads may_leave reads_left front ps payload log kept disk size counts is synced =
     let done = front ++ records ps in
     let push = records-push front ps payload in

@@ -4,6 +4,7 @@ mod Gates
 mod Kept
 mod Past
 mod Told
+mod Since
 mod Found
 mod Entries
 mod NewFiles

@@ -1,9 +1,9 @@
 -- What a journal has recorded, and what a crash may leave of it
-use Rattle.std.specs.Prelude.{◌≡◌, ◌⊎◌, ◌<◌, ◌^◌, ℕ, List, [], ◌∷◌, ◌++◌, length, Option, Some, None, Ok, true}
+use Rattle.std.specs.Prelude.{◌≡◌, ◌⊎◌, ◌<◌, ◌≤◌, ◌^◌, ℕ, List, [], ◌∷◌, ◌++◌, length, take, Option, Some, None, Ok, true}
 use Rattle.cm_base.specs.Configuration.{Configuration}
 use Rattle.cm_history.specs.declared.act.Entry.{Entry}
 use Rattle.journal_disk.specs.Opened.{front_bytes, entry_in, may_follow, opened}
-use Rattle.journal_disk.specs.Disk.{IsSynced, LeavesOnly}
+use Rattle.journal_disk.specs.Disk.{LeavesOnly, IsSyncedFirst}
 use Rattle.journal_disk.specs.Log.{IsTold, IsKept}
 use Rattle.journal_disk.specs.declared.log.Log.{Log}
 
@@ -78,11 +78,28 @@ pub record StaysGood {D : Type 0} (reads : D → Option (List ℕ)) (may_leave :
   pub good : IsGood reads may_leave config unit new
   pub moments : LeavesOnly moment left_since old new (IsOpened config unit)
 
--- The first of some calls is a sync, before which nothing was written; from its end on each file that a crash may leave
--- has P.
+-- The first of some calls is a sync; from its end on each file that a crash may leave has P.
 pub record SyncsFirst {D : Type 0} (reads : D → Option (List ℕ)) (may_leave : D → List ℕ → Type 0) (moment : D → ℕ) (left_since : D → ℕ → List ℕ → Type 0) (old new : D) (P : List ℕ → Type 0) : Type 0 where
   pub mid : D
-  pub same : reads mid ≡ reads old
-  pub synced : IsSynced (reads mid) (may_leave mid)
-  pub before : LeavesOnly moment left_since old mid (may_leave old)
+  pub first : IsSyncedFirst reads may_leave moment left_since old mid
   pub after : LeavesOnly moment left_since mid new P
+
+-- Whatever a crash left since the disk with this file was handed in is one of those that it might have left then, or is
+-- opened as the file was.
+pub record IsLikeGiven {D : Type 0} (may_leave : D → List ℕ → Type 0) (moment : D → ℕ) (left_since : D → ℕ → List ℕ → Type 0) (config : Configuration) (unit : ℕ) (file : List ℕ) (given now : D) : Type 0 where
+  pub later : moment given ≤ moment now
+  pub each : (c : List ℕ) → left_since now (moment given) c → may_leave given c ⊎ (opened config unit c ≡ opened config unit file)
+
+-- ---- at any moment
+
+-- it is opened as the first of these entries, so many at least
+abbrev pub OpensAsFirst : Configuration → ℕ → ℕ → List Entry → List ℕ → Type 0
+OpensAsFirst config unit least es c = (k : ℕ) × (least ≤ k) × (k ≤ length es) × (opened config unit c ≡ Ok (take k es))
+
+-- At whatever moment a crash comes since the disk was handed in: until its first sync has ended it leaves what it might have
+-- left then, and from then on a file that is opened as the first of these entries, so many at least.
+pub record AlwaysOpens {D : Type 0} (reads : D → Option (List ℕ)) (may_leave : D → List ℕ → Type 0) (moment : D → ℕ) (left_since : D → ℕ → List ℕ → Type 0) (config : Configuration) (unit least : ℕ) (es : List Entry) (given now : D) : Type 0 where
+  pub synced : D
+  pub first : IsSyncedFirst reads may_leave moment left_since given synced
+  pub later : moment synced ≤ moment now
+  pub each : (c : List ℕ) → left_since now (moment synced) c → OpensAsFirst config unit least es c

@@ -1,7 +1,7 @@
 -- Records behind gates: what stands in a file, whatever a crash made of it
-use Rattle.std.specs.Prelude.{◌≡◌, ◌≢◌, ◌⊎◌, ℕ, List, [], ◌∷◌, ◌++◌, length, Option, Some, None, is_some}
+use Rattle.std.specs.Prelude.{◌≡◌, ◌≢◌, ◌⊎◌, ◌≤◌, ℕ, List, [], ◌∷◌, ◌++◌, length, take, Option, Some, None, is_some, true}
 use Rattle.byteorder.specs.Endian.{big_bytes}
-use Rattle.journal_disk.specs.Opened.{open_gate}
+use Rattle.journal_disk.specs.Opened.{open_gate, is_unmade}
 use Rattle.journal_disk.specs.declared.log.Log.{Log}
 
 -- a record without its gates: its length in eight bytes, and its bytes
@@ -54,3 +54,8 @@ HoldsOrOneMore front ps last payload c =
 -- the record whose opening was begun is the one of before, or this one, or there is none
 abbrev pub IsTried : {A : Type 0} → Option A → A → Option A → Type 0
 IsTried {A} last x next = (next ≡ None) ⊎ (next ≡ last) ⊎ (next ≡ Some x)
+
+-- It has the first of these records and no more, so many at least; it may be a file that is made new where none are asked.
+abbrev pub HoldsFirst : List ℕ → ℕ → List (List ℕ) → List ℕ → Type 0
+HoldsFirst front least ps c =
+    ((is_unmade front c ≡ true) × (least ≡ 0)) ⊎ ((k : ℕ) × (least ≤ k) × (k ≤ length ps) × Holds front (take k ps) c)

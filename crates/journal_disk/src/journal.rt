@@ -6,7 +6,7 @@ ghost use Rattle.recorder.specs.Text.{entry_bytes, HasShortLists};
 ghost use Rattle.recorder.specs.declared.recording.RecordRefused.{RecordRefused};
 ghost use Rattle.journal_disk.specs.Disk.{LeavesOnly};
 ghost use Rattle.journal_disk.specs.Log.{IsTried, IsKept};
-ghost use Rattle.journal_disk.specs.inner.Texts.{HasText, IsTriedBy};
+ghost use Rattle.journal_disk.specs.inner.Texts.{HasText, HoldsOrThis, IsTriedBy};
 ghost use Rattle.journal_disk.specs.Journal.{MayFollow, IsJournal, OpensAsOrOneMore, StaysGood};
 
 use crate::{Disk, Log};
@@ -17,7 +17,7 @@ use std::alloc::Global;
 use std::marker::Model;
 
 /// The entries of a unit in a file. Contracts see the disk, where the records begin, and the last gate, with whether its
-/// opening was begun.
+/// opening was begun; and how the journal began.
 #[derive(Drop)]
 pub struct Journal<D: Disk + Drop> {
     alloc: Global,
@@ -46,12 +46,15 @@ impl<D: Disk + Drop> Journal<D> {
         requires short { HasShortLists entry.now.act }
         ensures within { IfSome (D.reads self.new.disk) (λ bytes. self.new.gate < length bytes) }
         ensures start { self.new.start ≡ self.old.start }
+        ensures opening { self.new.opening ≡ self.old.opening }
         ensures untold { D.reads self.old.disk ≡ None → D.reads self.new.disk ≡ None }
         ensures text { OnOk result (HasText entry.now) }
         ensures grown_records { (front : List ℕ) (ps : List (List ℕ)) (last : Option (List ℕ)) → IsKept D.reads D.may_leave front ps last self.old
             → OnOk result (IsKept D.reads D.may_leave front (ps ++ (entry_bytes entry.now ∷ [])) None self.new) }
         ensures kept_records { (front : List ℕ) (ps : List (List ℕ)) (last : Option (List ℕ)) → IsKept D.reads D.may_leave front ps last self.old
             → OnErr result ((next : Option (List ℕ)) × IsTriedBy last entry.now next × IsKept D.reads D.may_leave front ps next self.new) }
+        ensures held_records { (front : List ℕ) (ps : List (List ℕ)) (last : Option (List ℕ)) → IsKept D.reads D.may_leave front ps last self.old
+            → LeavesOnly D.moment D.left_since self.old.disk self.new.disk (HoldsOrThis front ps last entry.now) }
         // After Ok a crash leaves a file that is opened with the entry.
         ensures recorded { (config : Configuration) (unit : ℕ) (es : List Entry) (tried : Option Entry)
             → IsJournal D.reads D.may_leave config unit es tried self.old → MayFollow config unit es entry.now
@@ -122,7 +125,7 @@ impl<D: Disk + Drop> Journal<D> {
 
 impl<D: Disk + Drop> Recorder for Journal<D> {
     ghost use Rattle.std.specs.Prelude.{true, false};
-    ghost use Rattle.journal_disk.specs.Recording.{recorded_in, front_in, IsFit};
+    ghost use Rattle.journal_disk.specs.Recording.{recorded_in, life_in, IsFit};
 
     const EAGER: bool = true;
 
@@ -134,9 +137,9 @@ impl<D: Disk + Drop> Recorder for Journal<D> {
 
     ghost absent = { λ _. false };
 
-    ghost front = { λ j. front_in j.start (D.reads j.disk) };
+    ghost front = { λ j. life_in (D.moment j.opening.synced.value) j.opening.entries.value j.start (D.reads j.disk) };
 
-    ghost fits = { λ j e. IsFit D.reads D.may_leave j e };
+    ghost fits = { λ j e. IsFit D.reads D.may_leave D.moment D.left_since j e };
 
     fn record(&mut self, entry: &Entry) -> Result<(), RecordRefused> {
         self.record_entry(entry)

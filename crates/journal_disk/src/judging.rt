@@ -3,7 +3,8 @@ ghost use Rattle.std.specs.Prelude.{◌≡◌, ◌∷◌, ◌++◌, [], ◌≤�
 ghost use Rattle.recorder.specs.Recording.{Rose};
 ghost use Rattle.cm_base.specs.Configuration.{Configuration};
 ghost use Rattle.journal_disk.specs.Opened.{front_bytes, mark_bytes, begins_open, opened};
-ghost use Rattle.journal_disk.specs.inner.Scanning.{OnlyReads, IsOfShape, IsSafeShape};
+ghost use Rattle.journal_disk.specs.Disk.{OnlyReads};
+ghost use Rattle.journal_disk.specs.inner.Scanning.{IsOfShape, IsSafeShape};
 ghost use Rattle.journal_disk.specs.declared.opening.OpenFault.{OpenFault};
 
 use crate::log::{OPEN, SHUT};

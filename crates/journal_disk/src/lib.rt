@@ -14,7 +14,7 @@ mod writing;
 
 pub use disk::{Disk, DiskFailed};
 pub use journal::Journal;
-pub use log::Log;
+pub use log::{Log, Opening};
 pub use memory::{Call, MemoryDisk};
 pub use opening::OpenFault;
 pub use writing::{write_all_at, write_synced};

@@ -8,6 +8,7 @@ use crate::{Disk, DiskFailed, write_synced};
 use cm_base::{OutOfMemory, set_u64};
 use recorder::RecordRefused;
 use std::alloc::Global;
+use std::snapshot::Snapshot;
 
 pub(crate) const OPEN: u8 = 0xa5;
 
@@ -23,6 +24,13 @@ impl From<DiskFailed> for RecordRefused {
     }
 }
 
+/// How a journal began, for contracts alone: its disk at the end of its first sync, and how many entries it had.
+#[derive(Drop)]
+pub struct Opening<D: Disk> {
+    pub synced: Snapshot<D>,
+    pub entries: Snapshot<u64>,
+}
+
 /// Records in a file, each between two gates. The last gate is not open.
 #[derive(Drop)]
 pub struct Log<D: Disk> {
@@ -30,6 +38,7 @@ pub struct Log<D: Disk> {
     pub start: u64,
     pub gate: u64,
     pub begun: bool,
+    pub opening: Opening<D>,
 }
 
 /// A record and its closed gate.
@@ -59,6 +68,7 @@ impl<D: Disk> Log<D> {
             → LeavesOnly D.moment D.left_since self.old.disk self.new.disk (Behind (front ++ records ps) last) }
         ensures gate { self.new.gate ≡ self.old.gate }
         ensures start { self.new.start ≡ self.old.start }
+        ensures opening { self.new.opening ≡ self.old.opening }
         ensures untold { D.reads self.old.disk ≡ None → D.reads self.new.disk ≡ None }
         ensures shut { OnOk result (self.new.begun ≡ false) }
         ensures failed { OnErr result (Rose (D.disk_faults self.old.disk) (D.disk_faults self.new.disk)) }
@@ -86,6 +96,7 @@ impl<D: Disk> Log<D> {
             → LeavesOnly D.moment D.left_since self.old.disk self.new.disk (Behind (front ++ records ps) None) }
         ensures gate { self.new.gate ≡ self.old.gate }
         ensures start { self.new.start ≡ self.old.start }
+        ensures opening { self.new.opening ≡ self.old.opening }
         ensures untold { D.reads self.old.disk ≡ None → D.reads self.new.disk ≡ None }
         ensures begun { OnOk result (self.new.begun ≡ true) }
         ensures failed { OnErr result (Rose (D.disk_faults self.old.disk) (D.disk_faults self.new.disk)) }
@@ -102,6 +113,7 @@ impl<D: Disk> Log<D> {
         requires fits { self.old.gate + 1 + size < 2 ^ 64 }
         requires begun { self.old.begun ≡ true }
         ensures start { self.new.start ≡ self.old.start }
+        ensures opening { self.new.opening ≡ self.old.opening }
         ensures untold { D.reads self.old.disk ≡ None → D.reads self.new.disk ≡ None }
         ensures within { IfSome (D.reads self.new.disk) (λ bytes. self.new.gate < length bytes) }
         ensures ok { (front : List ℕ) (ps : List (List ℕ)) (payload : List ℕ) → size ≡ 9 + length payload
@@ -126,6 +138,7 @@ impl<D: Disk> Log<D> {
         ensures within { IfSome (D.reads self.new.disk) (λ bytes. self.new.gate < length bytes) }
 
         ensures start { self.new.start ≡ self.old.start }
+        ensures opening { self.new.opening ≡ self.old.opening }
         ensures untold { D.reads self.old.disk ≡ None → D.reads self.new.disk ≡ None }
         ensures short { length payload.now < 2 ^ 64 }
 

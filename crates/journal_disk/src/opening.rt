@@ -1,21 +1,23 @@
 // A journal is opened: its file is made new, or read.
-ghost use Rattle.std.specs.Prelude.{◌≡◌, ◌≢◌, ◌⊎◌, ◌≤◌, ◌<◌, ◌+◌, ℕ, List, Option, Some, None, Ok, Err, length, IfOk, IfErr, IfSome, OnOk, OnErr, false};
+ghost use Rattle.std.specs.Prelude.{◌≡◌, ◌≢◌, ◌⊎◌, ◌∷◌, ◌≤◌, ◌<◌, ◌+◌, ℕ, List, Option, Some, None, Ok, Err, length, IfOk, IfErr, IfSome, OnOk, OnErr, false};
 ghost use Rattle.cm_history.specs.declared.act.Entry.{Entry};
 ghost use Rattle.recorder.specs.Recording.{Rose};
-ghost use Rattle.journal_disk.specs.Disk.{IsSynced, LeavesOnly};
+ghost use Rattle.journal_disk.specs.Disk.{IsSynced, IsSyncedFirst, LeavesOnly, OnlyReads};
 ghost use Rattle.journal_disk.specs.Opened.{front_bytes, opened};
-ghost use Rattle.journal_disk.specs.Journal.{AreInOrder, IsJournal, IsGood, StaysGood, SyncsFirst};
+ghost use Rattle.journal_disk.specs.Journal.{AreInOrder, IsJournal, IsGood, IsLikeGiven, StaysGood, SyncsFirst};
 ghost use Rattle.journal_disk.specs.Log.{IsTold};
+ghost use Rattle.journal_disk.specs.inner.Texts.{IsBegun};
 ghost use Rattle.journal_disk.specs.declared.opening.OpenFault.{OpenFault};
 
 use crate::judging::{Shape, judge, new_file};
 use crate::making::make_new;
 use crate::scanning::{Found, scan};
-use crate::{Disk, DiskFailed, Journal, Log};
+use crate::{Disk, DiskFailed, Journal, Log, Opening};
 use cm_base::{Config, OutOfMemory};
 use cm_history::History;
 use recorder::Recorder;
 use std::alloc::{AllocError, Global};
+use std::snapshot::Snapshot;
 
 /// Why a journal was not opened.
 #[derive(Debug, Drop, Clone, Copy, PartialEq, Eq)]
@@ -60,11 +62,23 @@ impl From<DiskFailed> for OpenFault {
     }
 }
 
-/// What a journal goes on with: its entries, where its records begin, and its last gate.
-struct Opened {
+/// What a journal goes on with: its entries, where its records begin, its last gate, and how it began.
+struct Opened<D: Disk> {
     history: History,
     start: u64,
     gate: u64,
+    opening: Opening<D>,
+}
+
+/// A journal of so many entries, whose disk was this one at the end of its first sync.
+fn opening_of<D: Disk>(synced: Snapshot<D>, entries: u64) -> Opening<D>
+    ensures synced { result.synced ≡ synced }
+    ensures entries { result.entries.value ≡ entries }
+{
+    Opening {
+        synced,
+        entries: Snapshot::of(&entries),
+    }
 }
 
 /// The file is made new, or its records are read. It was synced.
@@ -73,7 +87,7 @@ fn open_synced<D: Disk>(
     disk: &mut D,
     config: &Config,
     unit: u16,
-) -> Result<Opened, OpenFault>
+) -> Result<Opened<D>, OpenFault>
     requires configured { unit < length config.now.units }
     ensures told { IsTold (D.reads disk.old) → IsTold (D.reads disk.new) }
     ensures untold { D.reads disk.old ≡ None → D.reads disk.new ≡ None }
@@ -82,8 +96,11 @@ fn open_synced<D: Disk>(
     ensures opened { (file : List ℕ) → D.reads disk.old ≡ Some file → IsSynced (D.reads disk.old) (D.may_leave disk.old)
         → IfOk result (λ r. opened config.now unit file ≡ Ok r.history.entries) }
     ensures kept { (file : List ℕ) → D.reads disk.old ≡ Some file → IsSynced (D.reads disk.old) (D.may_leave disk.old)
-        → IfOk result (λ r. IsJournal D.reads D.may_leave config.now unit r.history.entries None
-        (record { disk = disk.new; start = r.start; gate = r.gate; begun = false })) }
+        → IfOk result (λ r. IsBegun D.reads D.may_leave D.moment D.left_since config.now unit r.history.entries
+        (record { disk = disk.new; start = r.start; gate = r.gate; begun = false; opening = r.opening })) }
+    ensures began { IfOk result (λ r. r.opening.synced.value ≡ disk.old) }
+    ensures untouched { IfErr result (λ e. (place : ℕ) → e ≡ OpenFault.BadJournal place
+        → OnlyReads D.reads D.may_leave D.moment D.left_since D.disk_faults disk.old disk.new) }
     ensures bad { (file : List ℕ) → D.reads disk.old ≡ Some file
         → IfErr result (λ e. (place : ℕ) → e ≡ OpenFault.BadJournal place → opened config.now unit file ≡ Err place) }
     ensures moments { (file : List ℕ) → D.reads disk.old ≡ Some file → IsSynced (D.reads disk.old) (D.may_leave disk.old)
@@ -91,6 +108,7 @@ fn open_synced<D: Disk>(
     ensures failed { IfErr result (λ e. e ≡ OpenFault.DiskFault → Rose (D.disk_faults disk.old) (D.disk_faults disk.new)) }
     ensures counts { D.disk_faults disk.old ≤ D.disk_faults disk.new }
 {
+    let synced = Snapshot::of(&*disk);
     let new = new_file(alloc, config, unit)?;
     let start = new.len() as u64 - 1;
     match judge(alloc, disk, &new)? {
@@ -100,14 +118,17 @@ fn open_synced<D: Disk>(
                 history: History::empty(alloc),
                 start,
                 gate: start,
+                opening: opening_of(synced, 0),
             })
         }
         Shape::Made { size } => {
             let Found { history, gate } = scan(alloc, disk, config, unit, start, size)?;
+            let entries = history.len() as u64;
             Ok(Opened {
                 history,
                 start,
                 gate,
+                opening: opening_of(synced, entries),
             })
         }
     }
@@ -119,7 +140,7 @@ fn open_disk<D: Disk>(
     disk: &mut D,
     config: &Config,
     unit: u16,
-) -> Result<Opened, OpenFault>
+) -> Result<Opened<D>, OpenFault>
     requires configured { unit < length config.now.units }
     ensures told { IsTold (D.reads disk.old) → IsTold (D.reads disk.new) }
     ensures untold { D.reads disk.old ≡ None → D.reads disk.new ≡ None }
@@ -127,8 +148,11 @@ fn open_disk<D: Disk>(
     ensures order { IfOk result (λ r. AreInOrder config.now unit 0 r.history.entries) }
     ensures opened { (file : List ℕ) → D.reads disk.old ≡ Some file → IfOk result (λ r. opened config.now unit file ≡ Ok r.history.entries) }
     ensures kept { (file : List ℕ) → D.reads disk.old ≡ Some file
-        → IfOk result (λ r. IsJournal D.reads D.may_leave config.now unit r.history.entries None
-        (record { disk = disk.new; start = r.start; gate = r.gate; begun = false })) }
+        → IfOk result (λ r. IsBegun D.reads D.may_leave D.moment D.left_since config.now unit r.history.entries
+        (record { disk = disk.new; start = r.start; gate = r.gate; begun = false; opening = r.opening })) }
+    ensures first { IfOk result (λ r. IsSyncedFirst D.reads D.may_leave D.moment D.left_since disk.old r.opening.synced.value) }
+    ensures untouched { IfErr result (λ e. (place : ℕ) → e ≡ OpenFault.BadJournal place
+        → OnlyReads D.reads D.may_leave D.moment D.left_since D.disk_faults disk.old disk.new) }
     ensures bad { (file : List ℕ) → D.reads disk.old ≡ Some file
         → IfErr result (λ e. (place : ℕ) → e ≡ OpenFault.BadJournal place → opened config.now unit file ≡ Err place) }
     ensures synced { (file : List ℕ) → D.reads disk.old ≡ Some file
@@ -147,7 +171,8 @@ impl<D: Disk + Drop> Journal<D> {
     /// Opens the journal of a unit under a configuration, in which there is the unit, and gives the entries that it has.
     /// First it syncs. A file that is not finished is then made new: one that is shorter than a new one, or as long and
     /// with its first gate closed. At `Err` the disk comes back; `DiskFault` comes only where the disk counted a fault, or
-    /// its count is full, and `BadJournal` exactly where the file is bad, with the place (own profile).
+    /// its count is full, and `BadJournal` exactly where the file is bad, with the place, and with nothing written (own
+    /// profile).
     pub fn open(
         alloc: Global,
         disk: D,
@@ -170,8 +195,11 @@ impl<D: Disk + Drop> Journal<D> {
         ensures recorded { (file : List ℕ) → D.reads disk ≡ Some file
             → IfOk result (λ r. ⟦<Journal<D> as Recorder>⟧.recorded r.0 ≡ Some r.1.entries) }
         ensures fits { IfOk result (λ r. (e : Entry) → ⟦<Journal<D> as Recorder>⟧.fits r.0 e) }
-        ensures front { (file : List ℕ) → D.reads disk ≡ Some file
-            → IfOk result (λ r. ⟦<Journal<D> as Recorder>⟧.front r.0 ≡ Some (front_bytes config.now unit)) }
+        ensures front { (file : List ℕ) → D.reads disk ≡ Some file → IfOk result (λ r. ⟦<Journal<D> as Recorder>⟧.front r.0
+            ≡ Some (D.moment r.0.opening.synced.value ∷ length r.1.entries ∷ front_bytes config.now unit)) }
+
+        // It began with the first call of the disk, a sync.
+        ensures first { IfOk result (λ r. IsSyncedFirst D.reads D.may_leave D.moment D.left_since disk r.0.opening.synced.value) }
         ensures within { IfOk result (λ r. IfSome (D.reads r.0.disk) (λ bytes. r.0.gate < length bytes)) }
         ensures untold { D.reads disk ≡ None → IfOk result (λ r. D.reads r.0.disk ≡ None) }
 
@@ -181,6 +209,15 @@ impl<D: Disk + Drop> Journal<D> {
         ensures refused { (file : List ℕ) → D.reads disk ≡ Some file
             → IfErr result (λ e. LeavesOnly D.moment D.left_since disk e.0 (D.may_leave disk)
             ⊎ SyncsFirst D.reads D.may_leave D.moment D.left_since disk e.0 (λ c. opened config.now unit c ≡ opened config.now unit file)) }
+        ensures like_given { (file : List ℕ) → D.reads disk ≡ Some file
+            → IfOk result (λ r. IsLikeGiven D.may_leave D.moment D.left_since config.now unit file disk r.0.disk) }
+        ensures like_given_refused { (file : List ℕ) → D.reads disk ≡ Some file
+            → IfErr result (λ e. IsLikeGiven D.may_leave D.moment D.left_since config.now unit file disk e.0) }
+
+        // A file that is bad is left as it was.
+        ensures untouched { IfErr result (λ e. (place : ℕ) → e.1 ≡ OpenFault.BadJournal place
+            → OnlyReads D.reads D.may_leave D.moment D.left_since D.disk_faults disk e.0) }
+
         // A disk of which nothing is bad stays so at each moment, and is not refused as bad.
         ensures good { IsGood D.reads D.may_leave config.now unit disk
             → IfOk result (λ r. StaysGood D.reads D.may_leave D.moment D.left_since config.now unit disk r.0.disk) }
@@ -199,12 +236,14 @@ impl<D: Disk + Drop> Journal<D> {
                     history,
                     start,
                     gate,
+                    opening,
                 } = found;
                 let log = Log {
                     disk,
                     start,
                     gate,
                     begun: false,
+                    opening,
                 };
                 Ok((Journal::over(alloc, log), history))
             }

@@ -6,7 +6,8 @@ ghost use Rattle.journal_disk.specs.Journal.{AreInOrder};
 ghost use Rattle.journal_disk.specs.Opened.{begins_open, entry_in, may_follow, allowed, opened};
 ghost use Rattle.cm_history.specs.Limits.{within_limits};
 ghost use Rattle.cm_history.specs.Legal.{may_ask};
-ghost use Rattle.journal_disk.specs.inner.Scanning.{OnlyReads, IfSize, IfNext, IsScanned, IsFound};
+ghost use Rattle.journal_disk.specs.Disk.{OnlyReads};
+ghost use Rattle.journal_disk.specs.inner.Scanning.{IfSize, IfNext, IsScanned, IsFound};
 ghost use Rattle.journal_disk.specs.declared.opening.OpenFault.{OpenFault};
 
 use crate::log::OPEN;

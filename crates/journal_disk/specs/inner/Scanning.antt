@@ -3,7 +3,6 @@ use Rattle.std.specs.Prelude.{◌≡◌, ◌≤◌, ◌<◌, ◌+◌, ℕ, List,
 use Rattle.byteorder.specs.Endian.{big_bytes}
 use Rattle.cm_base.specs.Configuration.{Configuration}
 use Rattle.cm_history.specs.declared.act.Entry.{Entry}
-use Rattle.journal_disk.specs.Disk.{NoMore, LeavesOnly}
 use Rattle.journal_disk.specs.Opened.{front_bytes, mark_bytes, is_unmade, told_size, good_entry}
 use Rattle.journal_disk.specs.Log.{framed, records, Holds}
 use Rattle.journal_disk.specs.Journal.{last_stamp, Spells, AreSpelled}
@@ -11,13 +10,6 @@ use Rattle.journal_disk.specs.inner.NewFile.{MayMake}
 use Rattle.journal_disk.specs.declared.scanning.Next.{Next}
 use Rattle.journal_disk.specs.declared.judging.Shape.{Shape}
 use Rattle.journal_disk.specs.declared.judging.Shape.TheVariants.{Unmade, Made}
-
--- calls that leave what reads give, and no other image than those of before at any moment
-pub record OnlyReads {D : Type 0} (reads : D → Option (List ℕ)) (may_leave : D → List ℕ → Type 0) (moment : D → ℕ) (left_since : D → ℕ → List ℕ → Type 0) (faults : D → ℕ) (old new : D) : Type 0 where
-  pub kept : reads new ≡ reads old
-  pub images : NoMore (may_leave old) (may_leave new)
-  pub moments : LeavesOnly moment left_since old new (may_leave old)
-  pub counts : faults old ≤ faults new
 
 -- an entry that may stand next, and its record behind an open gate: so many bytes of payload, and the closing gate
 pub record IsNext (config : Configuration) (unit last gate size : ℕ) (file : List ℕ) (e : Entry) : Type 0 where

@@ -1,9 +1,7 @@
-use Rattle.std.proofs.Common.{◌≡◌, ◌∙◌, ◌-◌, ◌∷◌, [], ℕ, List, None, Ok, length, drop, false, sym, ap, subst, arith, length-append, length-drop, take_all}
+use Rattle.std.proofs.Common.{◌≡◌, ◌∙◌, ◌-◌, ◌∷◌, [], ℕ, List, Ok, length, drop, sym, ap, subst, arith, length-append, length-drop, take_all}
 use Rattle.std.proofs.lemmas.Result.{err_from_is_err_and}
-use Rattle.cm_history.specs.declared.act.Entry.{Entry}
 use Rattle.journal_disk.specs.Opened.{front_bytes, mark_bytes, opened}
 use Rattle.journal_disk.specs.Log.{IsTold}
-use Rattle.journal_disk.specs.Journal.{IsJournal}
 use Rattle.journal_disk.specs.inner.NewFile.{MayMake}
 use Rattle.journal_disk.specs.inner.Scanning.{IsOfShape, IsScanned}
 use Rattle.journal_disk.specs.declared.judging.Shape.{Shape}
@@ -11,7 +9,7 @@ use Rattle.journal_disk.proofs.Moments.{started, joined}
 use Rattle.journal_disk.proofs.FileReads.{reads-then}
 use Rattle.journal_disk.proofs.Found.{unmade-is}
 use Rattle.journal_disk.proofs.Scans.{found-opens}
-use Rattle.journal_disk.proofs.Openings.{made-journal, found-journal, reading-moments, making-moments}
+use Rattle.journal_disk.proofs.Openings.{made-begun, found-begun, reading-moments, making-moments}
 use Rattle.journal_disk.proofs.opening.open_synced.Goals as goal
 
 pub returns-in_err-new-clause-moments : goal.returns-in_err-new-clause-moments
@@ -58,10 +56,11 @@ returns-in-Unmade-clause-kept g c = λ file told synced.
     let read : IsTold (g.D.Disk.reads c.judge.new.disk) = (file, c.judge.ensures.reads.kept ∙ told) in
     let start : c.len.result - 1 ≡ length (front_bytes config unit) = omega (arith, c.len.ensures, ap length c.in_ok-new.ensures.told, length-append (front_bytes config unit) (0 ∷ [])) in
     let same : c.len.result - 1 ≡ c.len.result - 1 = omega arith in
-    let made = c.in_ok-make_new-in-Unmade.ensures.made (mark_bytes config unit) rest read
-    (λ x now. subst (λ (l : List ℕ). MayMake c.in-Unmade.closes (mark_bytes config unit) l) (sym (synced file told x (c.judge.ensures.reads.images x now))) shape.0) in
-    subst (λ (es : List Entry). IsJournal g.D.Disk.reads g.D.Disk.may_leave config unit es None (record { disk = c.make_new.new.disk; start = c.len.result - 1; gate = c.len.result - 1; begun = false })) (ap (λ h. h.entries) (sym c.empty.ensures))
-    (made-journal config unit g.D.Disk.reads g.D.Disk.may_leave c.make_new.new.disk (c.len.result - 1) (c.len.result - 1) (c.make_new.ensures.told read) start same made)
+    let may : (x : List ℕ) → g.D.Disk.may_leave c.judge.new.disk x → MayMake c.in-Unmade.closes (mark_bytes config unit) x = λ x now.
+    subst (λ (l : List ℕ). MayMake c.in-Unmade.closes (mark_bytes config unit) l) (sym (synced file told x (c.judge.ensures.reads.images x now))) shape.0 in
+    made-begun config unit g.D.Disk.reads g.D.Disk.may_leave g.D.Disk.moment g.D.Disk.left_since c.args.disk.now c.judge.new.disk c.make_new.new.disk c.opening_of.result file (c.len.result - 1) (c.len.result - 1) _ told synced
+    shape.1 c.judge.ensures.reads.moments (c.make_new.ensures.moments (mark_bytes config unit) rest read may) (c.make_new.ensures.told read) start same
+    (c.in_ok-make_new-in-Unmade.ensures.made (mark_bytes config unit) rest read may) (ap (λ s. s.value) c.opening_of.ensures.synced ∙ c.of-synced.ensures) c.opening_of.ensures.entries (ap (λ h. h.entries) c.empty.ensures)
 
 pub returns-in-Unmade-clause-moments : goal.returns-in-Unmade-clause-moments
 returns-in-Unmade-clause-moments g c = λ file told synced.
@@ -108,7 +107,8 @@ returns-clause-kept g c = λ file told synced.
     let start : c.len.result - 1 ≡ length (front_bytes config unit) = omega (arith, c.len.ensures, ap length c.in_ok-new.ensures.told, length-append (front_bytes config unit) (0 ∷ [])) in
     let scanned = subst (λ k. IsScanned config unit file k 0 []) (sym start) shape.1 in
     let both = reads-then g.D.Disk.reads g.D.Disk.may_leave g.D.Disk.moment g.D.Disk.left_since g.D.Disk.disk_faults c.args.disk.now c.judge.new.disk c.scan.new.disk c.judge.ensures.reads c.scan.ensures.reads in
-    found-journal config unit g.D.Disk.reads g.D.Disk.may_leave c.args.disk.now c.scan.new.disk file (c.len.result - 1) _ _ told synced both.kept both.images start (c.in_ok-history-in-Made.ensures.found file (c.judge.ensures.reads.kept ∙ told) scanned)
+    found-begun config unit g.D.Disk.reads g.D.Disk.may_leave g.D.Disk.moment g.D.Disk.left_since c.args.disk.now c.scan.new.disk c.opening_of-in-Made.result file (c.len.result - 1) _ _ told synced both.kept both.images both.moments start
+    (c.in_ok-history-in-Made.ensures.found file (c.judge.ensures.reads.kept ∙ told) scanned) (ap (λ s. s.value) c.opening_of-in-Made.ensures.synced ∙ c.of-synced.ensures) (c.opening_of-in-Made.ensures.entries ∙ c.len-entries.ensures)
 
 pub returns-clause-moments : goal.returns-clause-moments
 returns-clause-moments g c = λ file told synced.

@@ -1,7 +1,8 @@
 use Rattle.std.proofs.Common.{◌≡◌, ◌<◌, ◌-◌, ℕ, List, [], Some, length, drop, IfSome}
 use Rattle.journal_disk.specs.Journal.{AreInOrder, last_stamp}
 use Rattle.journal_disk.specs.Opened.{begins_open}
-use Rattle.journal_disk.specs.inner.Scanning.{OnlyReads, IsScanned}
+use Rattle.journal_disk.specs.Disk.{OnlyReads}
+use Rattle.journal_disk.specs.inner.Scanning.{IsScanned}
 use Rattle.journal_disk.proofs.scanning.scan.Given as goal
 
 abbrev pub invariant-loop-opens : goal.invariant-loop-opens
