@@ -96,7 +96,7 @@ redeem-formed config unit past now text target asked = go (named_token past text
         → HasForm config unit (Act.Redeem text target) (if not a then Answer.Refused remote_token_usage_not_supported else if not b then Answer.Refused token_corrupt else answer_by_fate (unit_of config unit) t f)
     by_fate t there false b e f = tt
     by_fate t there true false e f = tt
-    by_fate t there true true e Live = record { size = size t e; count = shown t there }
+    by_fate t there true true e Live = record { own = refl; size = size t e; count = shown t there }
     by_fate t there true true e Expired = tt
     by_fate t there true true e Evicted = tt
     by_fate t there true true e Deleted = tt

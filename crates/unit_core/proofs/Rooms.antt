@@ -23,7 +23,7 @@ use Rattle.unit_core.proofs.Keeping.{made-jobs, same-jobs, serving-jobs, found-o
 use Rattle.unit_core.proofs.Reserving.{reserved-is, keep-reserves, change-reserves, serving-reserves}
 use Rattle.unit_core.proofs.Planned.{IsKnown, own-of}
 
-no_bytes : (act : Act) → is_write act ≡ false → bytes_in act ≡ 0
+pub no_bytes : (act : Act) → is_write act ≡ false → bytes_in act ≡ 0
 no_bytes (Act.Write lba list) e = cc
 no_bytes _ e = refl
 

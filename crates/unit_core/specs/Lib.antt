@@ -4,5 +4,6 @@ pub mod UnitState
 pub mod Acting
 pub mod Keys
 pub mod Unended
+pub mod Serving
 pub mod Unfolded
 pub mod inner

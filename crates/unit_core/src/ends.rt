@@ -1,8 +1,9 @@
 // The ends of operations, which take no memory, and what a unit shows of its tables.
-ghost use Rattle.std.specs.Prelude.{List, ◌≡◌, ◌<◌, ◌+◌, ◌-◌, ◌^◌, ◌++◌, ◌∷◌, ℕ, [], length, max, IfSome, true};
+ghost use Rattle.std.specs.Prelude.{List, ◌≡◌, ◌<◌, ◌≤◌, ◌+◌, ◌-◌, ◌^◌, ◌++◌, ◌∷◌, ℕ, [], length, max, IfSome, true};
 ghost use Rattle.cm_history.specs.declared.act.Act.{Act};
 ghost use Rattle.cm_history.specs.declared.act.Actor.{Actor};
 ghost use Rattle.cm_history.specs.declared.act.Entry.{Entry};
+ghost use Rattle.cm_history.specs.Bounds.{live_tokens};
 ghost use Rattle.cm_history.specs.History.{answer};
 ghost use Rattle.cm_history.specs.Limits.{within_limits};
 ghost use Rattle.cm_history.specs.Legal.{may_ask};
@@ -120,7 +121,8 @@ where
 
     /// How many tokens are live, at most 64. It takes no memory.
     pub fn live(&self) -> u32
-        ensures { (h : List Entry) → Stands self.now h → result ≡ live_at self.now h }
+        ensures most { result ≤ live_tokens }
+        ensures live { (h : List Entry) → Stands self.now h → result ≡ live_at self.now h }
     {
         standing_law(&self.core.config, self.core.unit);
         self.core.tables.tokens.live()

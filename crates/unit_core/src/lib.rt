@@ -8,6 +8,7 @@ mod folding;
 mod inner;
 mod job_change;
 mod job_plans;
+mod laws;
 mod perform;
 mod plan;
 mod plans;
@@ -20,5 +21,6 @@ mod token_plans;
 mod unit;
 
 pub use folding::FoldEnd;
+pub use laws::serving_law;
 pub use sharing::SharedVersions;
 pub use unit::{Unit, UnitOver};

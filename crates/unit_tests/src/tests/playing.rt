@@ -22,6 +22,9 @@ pub(crate) enum Step {
     By(u32, Asked),
     /// Tokens of so many blocks, one each, made a second after each other from 100 on.
     Fill(u32),
+    /// Sixty-four tokens of all blocks, made a second after each other from 100 on, each behind a Write of one more block.
+    /// Done where after each no more versions are kept than the unit has blocks, with one for each Write behind a token.
+    Freeze,
     /// Begins to write the two blocks of the token 0 from block 10 on.
     StartRedeemed,
     Pump,
@@ -105,6 +108,32 @@ fn fill(alloc: Global, config: &Config, unit: &mut Unit, count: u32) -> Result<T
     Ok(Told::Done)
 }
 
+/// Tokens of all blocks, each behind a Write of one more block; the number of versions, where it is another one.
+fn freeze(alloc: Global, config: &Config, unit: &mut Unit) -> Result<Told, Fail>
+    requires config { unit.old.config ≡ config.now }
+    requires unit { unit.old.unit ≡ 0 }
+    requires one { length config.now.units ≡ 1 }
+    ensures config { unit.new.config ≡ unit.old.config }
+    ensures unit { unit.new.unit ≡ unit.old.unit }
+{
+    for block in 0..64u32 {
+        let moment = 100 + u64::from(block);
+        let write = Asked::Write(0x22, u64::from(block), 1);
+        asked(alloc, config, unit, 1, moment, write)?;
+        let populate = Asked::Populate {
+            id: block,
+            timeout: 300,
+            lba: 0,
+            count: 4096,
+        };
+        asked(alloc, config, unit, 1, moment, populate)?;
+        if unit.stored() != 4096 + u64::from(block) {
+            return Ok(Told::Count(unit.stored()));
+        }
+    }
+    Ok(Told::Done)
+}
+
 /// The two blocks of the token 0.
 fn redeemed(alloc: Global, config: &Config, unit: &mut Unit) -> Result<BlockList, Fail>
     requires config { unit.old.config ≡ config.now }
@@ -154,6 +183,7 @@ fn told(
         Step::At(moment, act) => asked(alloc, config, unit, 1, moment, act),
         Step::By(nexus, act) => asked(alloc, config, unit, nexus, 0, act),
         Step::Fill(count) => fill(alloc, config, unit, count),
+        Step::Freeze => freeze(alloc, config, unit),
         Step::StartRedeemed => start_redeemed(alloc, config, unit),
         Step::Pump => Ok(pump(unit)),
         Step::End => Ok(end(unit)),

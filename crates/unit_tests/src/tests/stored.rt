@@ -82,3 +82,20 @@ fn tokens_share_versions(rt: HostRuntime) -> Result<(), Fail> {
         ],
     )
 }
+
+/// Sixty-four tokens of a full unit, each of another state of its blocks, keep its blocks and one version for each block
+/// that was written behind a token.
+#[test]
+fn sixty_four_tokens_of_a_full_unit(rt: HostRuntime) -> Result<(), Fail> {
+    play_ample(
+        rt.alloc(),
+        &[
+            (Step::Ask(Asked::Write(0x11, 0, 2048)), Told::Done),
+            (Step::Ask(Asked::Write(0x11, 2048, 2048)), Told::Done),
+            (Step::Stored, Told::Count(4096)),
+            (Step::Freeze, Told::Done),
+            (Step::Live, Told::Count(64)),
+            (Step::Stored, Told::Count(4159)),
+        ],
+    )
+}

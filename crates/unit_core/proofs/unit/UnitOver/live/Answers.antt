@@ -14,8 +14,8 @@ use Rattle.rod_store.proofs.PublicLaws.{count-with}
 use Rattle.token_pins.specs.Pinning.{rods_of, rod_shown}
 use Rattle.unit_core.proofs.unit.UnitOver.live.Goals as goal
 
-pub returns : goal.returns
-returns g c = λ h s.
+pub returns-clause-live : goal.returns-clause-live
+returns-clause-live g c = λ h s.
     let u = c.self.inside in
     let o = u.core in
     let w = c.self.invariant.0 in
