@@ -1,6 +1,6 @@
 -- Lemmas on the elements of lists
 use Rattle.std.proofs.Common.{◌≡◌, zero, suc, List, [], ◌∷◌, ◌++◌, refl, ap, sym, ◌∙◌, subst, arith, true, false, Bool, inl, inr}
-use Rattle.std.specs.Prelude.{AllPairs, ◌⊎◌, filter, cond, ⊤}
+use Rattle.std.specs.Prelude.{AllPairs, Contains, ◌⊎◌, filter, cond, ⊤}
 use Rattle.cm_history.proofs.PublicLaws.{In, Each, Each-all}
 
 pub In-append : {X : Type 0} (xs ys : List X) (x : X) → In x xs → In x (xs ++ ys)
@@ -30,6 +30,11 @@ in-filter p (y ∷ ys) x i e = go (p y) refl i (λ j. in-filter p ys x j e)
     go true is (inr j) later = inr (later j)
     go false is (inl same) later = let no = sym is ∙ ap p same ∙ e in cc
     go false is (inr j) later = later j
+
+pub in-contains : {X : Type 0} (xs : List X) (x : X) → In x xs → Contains xs x
+in-contains [] x i = absurd i
+in-contains (y ∷ xs) x (inl e) = (0, omega arith, e)
+in-contains (y ∷ xs) x (inr i) = let c = in-contains xs x i in (suc c.0, omega (arith, c.1), c.2)
 
 -- R of each element and each later one
 abbrev pub Pairs : {X : Type 0} → (X → X → Type 0) → List X → Type 0

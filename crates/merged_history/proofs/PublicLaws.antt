@@ -1,5 +1,5 @@
 -- The lemmas of merged_history that other crates may cite
-pub use Rattle.merged_history.proofs.Members.{In-append, In-split}
+pub use Rattle.merged_history.proofs.Members.{In-append, In-split, in-contains}
 pub use Rattle.merged_history.proofs.Sorted.{in-merged}
 pub use Rattle.merged_history.proofs.OfActor.{rises-append}
 pub use Rattle.merged_history.proofs.Whole.{all-in, unit-stands}

@@ -1,6 +1,6 @@
 -- The merged history of a resumed world
 use Rattle.std.proofs.Common.{◌<◌, ◌≡◌, ℕ, zero, suc, List, [], ◌∷◌, length, take, drop, refl, ap, sym, subst, ◌∙◌, arith, inl, inr}
-use Rattle.std.specs.Prelude.{◌⊎◌, ◌≢◌, slice_index, All, AllPairs, IsTrue}
+use Rattle.std.specs.Prelude.{◌⊎◌, ◌≢◌, slice_index, All, AllPairs, Contains, IsTrue}
 use Rattle.std.proofs.lemmas.List.{take-append-drop}
 use Rattle.cm_base.specs.Configuration.{Configuration}
 use Rattle.cm_history.specs.declared.act.Actor.{Actor}
@@ -10,14 +10,14 @@ use Rattle.cm_history.specs.History.{on}
 use Rattle.cm_history.specs.Legal.{may_ask}
 use Rattle.cm_history.specs.Limits.{within_limits}
 use Rattle.cm_history.proofs.PublicLaws.{Each, Each-in, Each-by, Each-all, In, In-filter, filter-passes, same_actor-is, same_actor-self}
-use Rattle.merged_history.proofs.Members.{In-append_right, In-split, Pairs, Pairs-all, in-filter}
-use Rattle.merged_history.proofs.OfActor.{rises-sorted}
+use Rattle.merged_history.proofs.Members.{in-contains, In-append_right, In-split, Pairs, Pairs-all, in-filter}
+use Rattle.merged_history.proofs.OfActor.{rises-one, rises-sorted}
 use Rattle.merged_history.specs.Merged.{all_of, fronts, merged, rests}
 use Rattle.merged_history.specs.Resumed.{IsNewTo, IsOrdered, IsResumed}
 use Rattle.merged_history.specs.Own.{by, IsAsked}
 use Rattle.pass_register.specs.Passes.{Joined, own_of}
 use Rattle.merged_history.specs.Passes.{AreJoined, of_unit}
-use Rattle.merged_history.proofs.Sorted.{Before, Sorted, in-merged, sorted-filter, sorted-same}
+use Rattle.merged_history.proofs.Sorted.{Before, Sorted, before-not, in-merged, sorted-filter, sorted-pairs, sorted-same}
 use Rattle.merged_history.proofs.Whole.{all-in, of_actor, part, sorted, stands-on}
 use Rattle.merged_history.proofs.Steps.{rises-drop, each-drop}
 use Rattle.merged_history.proofs.Given.{AreHistories}
@@ -112,6 +112,31 @@ module _ (config : Configuration) (openings : List ℕ) (hs : List (List Entry))
       go (inl j) = inl j
       go (inr j) = inr (Each-in (λ (o : Entry). In o (own_of o.actor joined)) (of_unit (rests openings hs) e.unit) e (made.made e.unit) j)
 
+  abbrev first : List Entry
+  first = all_of (fronts openings hs)
+
+  abbrev Behind : Entry → Entry → Type 0
+  Behind a b = a.actor ≡ b.actor → Contains first a ⊎ Contains first b ⊎ (a.stamp < b.stamp)
+
+  -- two entries of one actor, of which neither is one of the first
+  behind : (a b : Entry) → In a (merged hs) → In b (merged hs) → Before a b → Behind a b
+  behind a b i j before = λ actors. go (made-by a i) (made-by b j) before actors
+    where
+      go : In a first ⊎ In a (own_of a.actor joined) → In b first ⊎ In b (own_of b.actor joined) → Before a b → a.actor ≡ b.actor → Contains first a ⊎ Contains first b ⊎ (a.stamp < b.stamp)
+      go (inl x) y before actors = inl (in-contains first a x)
+      go (inr x) (inl y) before actors = inr (inl (in-contains first b y))
+      go (inr x) (inr y) (inl less) actors = inr (inr less)
+      go (inr x) (inr y) (inr same) actors =
+          let mine : In a (own_of b.actor joined) = subst (λ z. In a (own_of z joined)) actors x in
+          let one = rises-one 0 (own_of b.actor joined) a b (passes b.actor).rising mine y same.0 in
+          let twice : Before b b = subst (λ z. Before z b) one (inr same) in
+          absurd (before-not b b twice twice)
+
+  behind-pairs : (xs : List Entry) → Sorted xs → ((e : Entry) → In e xs → In e (merged hs)) → Pairs Behind xs
+  behind-pairs [] s all = tt
+  behind-pairs (x ∷ xs) s all =
+      (Each-by (Behind x) xs (λ e i. behind x e (all x (inl refl)) (all e (inr i)) (Each-in (Before x) xs e s.0 i)), behind-pairs xs s.1 (λ e i. all e (inr i)))
+
   module _ (actor : Actor) (new : IsNewTo (all_of (fronts openings hs)) actor) where
     new-sound : (e : Entry) → In e (by actor (merged hs)) → In e (own_of actor joined)
     new-sound e i = go (made-by e (In-filter (λ (o : Entry). same_actor o.actor actor) (merged hs) e i))
@@ -143,6 +168,8 @@ module _ (config : Configuration) (openings : List ℕ) (hs : List (List Entry))
       asked = Each-all _ (merged hs) (Each-by _ (merged hs) (λ e i. (asked e i).asked));
       rising = Pairs-all _ (merged hs) (rising-pairs (merged hs) (sorted config hs are));
     };
+    sorted = sorted-pairs (merged hs) (sorted config hs are);
+    apart = Pairs-all Behind (merged hs) (behind-pairs (merged hs) (sorted config hs are) (λ e i. i));
     parts = part config hs are;
     actors = of_actor config (rests openings hs) (rests-histories config openings hs are) joined passes record { stands = made.stands; made = made.made };
     rising = are.rising;

@@ -1,11 +1,12 @@
 -- Entries in order of their stamps and units
 use Rattle.std.proofs.Common.{◌<◌, ◌≤◌, ◌≡◌, ℕ, List, [], ◌∷◌, refl, sym, ◌∙◌, subst, arith, true, false, Bool, inl, inr}
-use Rattle.std.specs.Prelude.{◌⊎◌, ◌==◌, ◌&&◌, ◌||◌, nat_lt, nat_le, filter, fold, cond, ⊤, if◌then◌else◌}
+use Rattle.std.specs.Prelude.{◌⊎◌, ◌==◌, ◌&&◌, ◌||◌, nat_lt, nat_le, IsTrue, filter, fold, cond, ⊤, if◌then◌else◌}
 use Rattle.std.proofs.lemmas.Bool.{cases_lt}
 use Rattle.std.proofs.lemmas.Bool.Decides.{nat_tests}
 use Rattle.cm_history.specs.declared.act.Entry.{Entry}
 use Rattle.cm_history.proofs.PublicLaws.{Each-in, Each-by, In-filter, In, Each}
-use Rattle.merged_history.specs.Merged.{is_earlier, put_in_order, all_of, merged}
+use Rattle.merged_history.proofs.Members.{Pairs, Pairs-all}
+use Rattle.merged_history.specs.Merged.{IsSorted, is_earlier, put_in_order, all_of, merged}
 
 -- by stamp, and at one stamp by unit
 abbrev pub Before : Entry → Entry → Type 0
@@ -64,8 +65,23 @@ earlier-before a b differs h = go (test-earlier a.stamp b.stamp a.unit b.unit h)
     go (inl less) = inl less
     go (inr same) = let apart : (a.unit ≡ b.unit) → ⊥ = λ e. differs same.0 e in inr (same.0, omega (arith, same.1, apart))
 
+earlier-of : (s t u v : ℕ) → (s < t) ⊎ ((s ≡ t) × (u < v)) → (nat_lt s t || ((s == t) && nat_le u v)) ≡ true
+earlier-of s t u v (inl less) = grind (arith, nat_tests)
+earlier-of s t u v (inr same) = let at = same.0 in let less = same.1 in grind (arith, nat_tests, at, less)
+
+before-earlier : (a b : Entry) → Before a b → is_earlier a b ≡ true
+before-earlier a b before = earlier-of a.stamp b.stamp a.unit b.unit before
+
 later-before : (a b : Entry) → is_earlier a b ≡ false → Before b a
 later-before a b h = test-later a.stamp b.stamp a.unit b.unit h
+
+-- each two entries of it are in order
+pub sorted-pairs : (xs : List Entry) → Sorted xs → IsSorted xs
+sorted-pairs xs s = Pairs-all (λ (a b : Entry). IsTrue (is_earlier a b)) xs (go xs s)
+  where
+    go : (ys : List Entry) → Sorted ys → Pairs (λ (a b : Entry). IsTrue (is_earlier a b)) ys
+    go [] s = tt
+    go (y ∷ ys) s = (Each-by (λ (b : Entry). IsTrue (is_earlier y b)) ys (λ e i. before-earlier y e (Each-in (Before y) ys e s.0 i)), go ys s.1)
 
 -- what a list in order has besides a new entry
 pub put-in : (e : Entry) (xs : List Entry) (y : Entry) → In y (put_in_order xs e) → (e ≡ y) ⊎ In y xs

@@ -10,11 +10,11 @@ use Rattle.cm_history.specs.History.{on}
 use Rattle.cm_history.specs.Legal.{IsLegal, comes_before}
 use Rattle.cm_history.proofs.PublicLaws.{same_actor-self, Each-in, Each-by, Each-append, Each-all, In-filter, filter-passes, same_actor-is, In, Each}
 use Rattle.merged_history.proofs.Members.{In-append, In-append_right, In-split, in-filter, Pairs, Pairs-all}
-use Rattle.merged_history.specs.Merged.{all_of, merged}
+use Rattle.merged_history.specs.Merged.{RiseByActor, all_of, merged}
 use Rattle.merged_history.specs.Own.{by, Rises, IsAsked}
 use Rattle.pass_register.specs.Passes.{Joined, own_of}
 use Rattle.merged_history.specs.Passes.{AreJoined, of_unit, AreFrom, IsWhole}
-use Rattle.merged_history.proofs.Sorted.{Before, Differs, Sorted, Apart, before-not, merged-sorted, merged-in, in-merged, sorted-same, sorted-filter}
+use Rattle.merged_history.proofs.Sorted.{Before, Differs, Sorted, Apart, before-not, merged-sorted, merged-in, in-merged, sorted-pairs, sorted-same, sorted-filter}
 use Rattle.merged_history.proofs.OfActor.{rises-above, rises-sorted, rises-one, numbered-lower, lower, count-filter}
 use Rattle.merged_history.proofs.Given.{AreHistories, AreMadeBy}
 
@@ -159,6 +159,22 @@ module _ (config : Configuration) (hs : List (List Entry)) (are : AreHistories c
     stamp-pairs (x ∷ xs) s all =
         (Each-by (OtherStamp x) xs (λ e i. other-stamp x e (all x (inl refl)) (all e (inr i)) (Each-in (Before x) xs e s.0 i)), stamp-pairs xs s.1 (λ e i. all e (inr i)))
 
+    abbrev RisesBy : Entry → Entry → Type 0
+    RisesBy a b = a.actor ≡ b.actor → a.stamp < b.stamp
+
+    rises-by : (a b : Entry) → In a (merged hs) → In b (merged hs) → Before a b → RisesBy a b
+    rises-by a b i j (inl less) = λ actors. less
+    rises-by a b i j (inr same) = λ actors. absurd (other-stamp a b i j (inr same) (ap (λ x. same_actor x b.actor) actors ∙ same_actor-self b.actor) same.0)
+
+    by-pairs : (xs : List Entry) → Sorted xs → ((e : Entry) → In e xs → In e (merged hs)) → Pairs RisesBy xs
+    by-pairs [] s all = tt
+    by-pairs (x ∷ xs) s all =
+        (Each-by (RisesBy x) xs (λ e i. rises-by x e (all x (inl refl)) (all e (inr i)) (Each-in (Before x) xs e s.0 i)), by-pairs xs s.1 (λ e i. all e (inr i)))
+
+    -- the entries of one actor have rising stamps
+    pub apart : RiseByActor (merged hs)
+    apart = Pairs-all RisesBy (merged hs) (by-pairs (merged hs) sorted (λ e i. i))
+
     counted : (e : Entry) → In e (merged hs) → e.seq ≡ count_by (comes_before e) (merged hs)
     counted e i =
         let own = passes e.actor in
@@ -177,4 +193,4 @@ module _ (config : Configuration) (hs : List (List Entry)) (are : AreHistories c
     }
 
     pub whole : IsWhole config hs joined (merged hs)
-    whole = record { legal = legal; parts = part; actors = of_actor }
+    whole = record { legal = legal; sorted = sorted-pairs (merged hs) sorted; apart = apart; parts = part; actors = of_actor }

@@ -7,6 +7,7 @@ use Rattle.cm_history.specs.History.{on}
 use Rattle.cm_history.specs.Legal.{IsLegal}
 use Rattle.cm_history.proofs.PublicLaws.{Each}
 use Rattle.pass_register.specs.Passes.{Joined, own_of}
+use Rattle.merged_history.specs.Merged.{IsSorted, RiseByActor}
 use Rattle.merged_history.specs.Own.{by, Rises, IsOwn}
 
 -- the joined passes of each actor go on where the earlier ones ended
@@ -22,8 +23,10 @@ abbrev pub AreFrom : ℕ → List (List Entry) → Type 0
 AreFrom unit [] = ⊤
 AreFrom unit (h ∷ hs) = Each (λ (e : Entry). e.unit ≡ unit) h × Rises 0 h × AreFrom (suc unit) hs
 
--- the merged history is legal; its part on each unit is the unit's history; the entries of each actor are what its joined passes made
+-- the merged history is legal and in order; its part on each unit is the unit's history; the entries of each actor are what its joined passes made
 pub record IsWhole (config : Configuration) (histories : List (List Entry)) (joined : List Joined) (merged : List Entry) : Type 0 where
   pub legal : IsLegal config merged
+  pub sorted : IsSorted merged
+  pub apart : RiseByActor merged
   pub parts : (unit : ℕ) → on unit merged ≡ of_unit histories unit
   pub actors : (actor : Actor) → by actor merged ≡ own_of actor joined

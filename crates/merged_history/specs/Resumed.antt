@@ -7,7 +7,7 @@ use Rattle.cm_history.specs.History.{on}
 use Rattle.cm_history.specs.Legal.{may_ask}
 use Rattle.cm_history.specs.Limits.{within_limits}
 use Rattle.cm_history.proofs.PublicLaws.{Each, In}
-use Rattle.merged_history.specs.Merged.{all_of, fronts, merged, rests}
+use Rattle.merged_history.specs.Merged.{IsSorted, RiseBehind, all_of, fronts, merged, rests}
 use Rattle.merged_history.specs.Own.{by, Rises}
 use Rattle.merged_history.specs.Passes.{of_unit}
 use Rattle.pass_register.specs.Passes.{Joined, own_of}
@@ -27,6 +27,8 @@ IsNewTo entries actor = Each (λ (e : Entry). e.actor ≢ actor) entries
 -- part on each unit is the unit's history; of the later entries those of each actor are what its joined passes made.
 pub record IsResumed (config : Configuration) (openings : List ℕ) (histories : List (List Entry)) (joined : List Joined) : Type 0 where
   pub ordered : IsOrdered config (merged histories)
+  pub sorted : IsSorted (merged histories)
+  pub apart : RiseBehind (all_of (fronts openings histories)) (merged histories)
   pub parts : (unit : ℕ) → on unit (merged histories) ≡ of_unit histories unit
   pub actors : (actor : Actor) → by actor (merged (rests openings histories)) ≡ own_of actor joined
   -- the stamps of each unit rise, and are above 0

@@ -13,7 +13,7 @@ use Rattle.cm_history.specs.Deeds.{Deed, moment, last_stamp}
 use Rattle.cm_history.specs.History.{past_of}
 use Rattle.cm_history.specs.Operations.{Operation, Form, OfToken, OfCopy, form_of, id_of, running}
 use Rattle.cm_history.specs.Room.{is_full}
-use Rattle.cm_history.proofs.PublicLaws.{Each}
+use Rattle.cm_history.specs.Members.{Each}
 use Rattle.merged_history.specs.Own.{IsAsked}
 use Rattle.merged_history.specs.PassRules.{IsHistory}
 use Rattle.unit_core.specs.Unended.{is_by_initiator}

@@ -8,6 +8,7 @@ ghost use Rattle.cm_history.specs.Legal.{may_ask};
 ghost use Rattle.cm_history.specs.Limits.{within_limits};
 ghost use Rattle.recorder.specs.Recording.{FirstFits};
 ghost use Rattle.turn_gate.specs.Marks.{AtMost};
+ghost use Rattle.unit_core.specs.UnitState.{Stands};
 ghost use Rattle.unit_core.specs.declared.folding.FoldEnd.{FoldEnd};
 ghost use Rattle.unit_gate.specs.Asking.{IsAtLastStamp, ends_one, is_full_at, past, serves_operation};
 ghost use Rattle.unit_gate.specs.Recorded.{HasRecorded, StandsFor, facts, kin_of, marks_of, without_last};
@@ -110,20 +111,33 @@ impl<R: Recorder + Drop> RecordedUnit<R> {
         ensures kin { IfOk result (λ u. kin_of u
             ≡ record { config = config.now; unit = unit; opening = facts R.recorded R.record_faults R.absent R.front recorder; folded = 0 }) }
         ensures marks { IfOk result (λ u. marks_of u ≡ R.record_faults recorder ∷ 0 ∷ 0 ∷ []) }
+        ensures recorder { IfOk result (λ u. u.recorder ≡ facts R.recorded R.record_faults R.absent R.front recorder) }
         ensures back { IfErr result (λ e. e.0 ≡ recorder) }
     {
         match Unit::new(alloc, config, unit) {
-            Ok(unit) => {
-                let opening = Snapshot::of(&recorder);
-                Ok(RecordedUnit {
-                    unit,
-                    recorder,
-                    opening,
-                    folded_then: 0,
-                    late: 0,
-                })
-            }
+            Ok(unit) => Ok(RecordedUnit::fresh(unit, recorder)),
             Err(refused) => Err((recorder, refused)),
+        }
+    }
+
+    /// A unit that nothing was asked of yet, with its recorder. It takes no memory.
+    pub fn fresh(unit: Unit, recorder: R) -> RecordedUnit<R>
+        requires fits { (e : Entry) → R.fits recorder e }
+        requires stands { Stands unit [] }
+        requires folded { unit.folded ≡ 0 }
+        ensures stands { StandsFor result [] }
+        ensures kin { kin_of result
+            ≡ record { config = unit.config; unit = unit.unit; opening = facts R.recorded R.record_faults R.absent R.front recorder; folded = 0 } }
+        ensures marks { marks_of result ≡ R.record_faults recorder ∷ 0 ∷ 0 ∷ [] }
+        ensures recorder { result.recorder ≡ facts R.recorded R.record_faults R.absent R.front recorder }
+    {
+        let opening = Snapshot::of(&recorder);
+        RecordedUnit {
+            unit,
+            recorder,
+            opening,
+            folded_then: 0,
+            late: 0,
         }
     }
 
@@ -140,6 +154,7 @@ impl<R: Recorder + Drop> RecordedUnit<R> {
           folded = unit.folded;
         } }
         ensures marks { marks_of result ≡ R.record_faults recorder ∷ unit.folded ∷ 0 ∷ [] }
+        ensures recorder { result.recorder ≡ facts R.recorded R.record_faults R.absent R.front recorder }
     {
         let opening = Snapshot::of(&recorder);
         let folded_then = unit.folded();
