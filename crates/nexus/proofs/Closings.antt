@@ -21,11 +21,13 @@ use Rattle.unit_gate.specs.SeatActs.{UnitSeat}
 use Rattle.nexus.specs.Worlds.{UnitGate}
 use Rattle.nexus.specs.inner.Gates.{IsGateOf, config_of}
 use Rattle.nexus.specs.Roots.{AreAtMost}
-use Rattle.nexus.specs.Closing.{AreNone, HasNoRecorder, IsLeftOf, AreLeftOf, kept_of, marks_left, WasClosed, WasHandedBack}
-use Rattle.nexus.specs.inner.Keeping.{AreGates, IsOpened, KeepsRoot, gates_of, openings, seens, kepts, entries_joined, root_view}
+use Rattle.nexus.specs.Closing.{AreNone, HasNoRecorder, IsLeftOf, AreLeftOf, kept_of, marks_left, WasClosed, WasEnded, WasHandedBack}
+use Rattle.nexus.specs.inner.Keeping.{AreAbove, AreGates, IsAbove, IsOpened, KeepsRoot, gates_of, openings, seens, kepts, entries_joined, root_view}
+use Rattle.nexus.specs.inner.Rooms.{Room, HasRoom}
 use Rattle.nexus.specs.inner.Closing.{IsAlone, AreAlone, IsReady, AreReady, AreEntered, AreHeld, AreClosed, given_back}
 use Rattle.nexus.proofs.Entering.{map-entered, each-entered, entered-gates, entered-held, entered-long, entered-longer, entered-above, entered-from, kept_in}
 use Rattle.merged_history.proofs.PublicLaws.{AreHistories}
+use Rattle.nexus.proofs.Safe.{above-more}
 use Rattle.nexus.proofs.Opened.{each-parts, opened-longer}
 
 -- ---- the root's seats, with no pass out
@@ -122,8 +124,16 @@ module _ (made : ℕ) (seqs : List ℕ) (root : RootState) (old now : List UnitS
     seqs_are = rw long-back keeps.seqs_are;
   }
 
+  -- the rooms are as large as before
+  pub room-back : (room : Room) → HasRoom (length old) room → HasRoom (length back) room
+  room-back room has = rw long-back has
+
   pub keeps-back : KeepsRoot (config_of (gates_of back)) made seqs root back
   keeps-back = subst (λ g. KeepsRoot (config_of g) made seqs root back) (sym gates-back) keeps-back-old
+
+  pub above-back : AreAbove old → AreAbove back
+  above-back above = each-back IsAbove IsAbove (λ s is. is) now
+      (each-entered IsAbove IsAbove (λ b a u has is. above-more b a (ap (λ (s : UnitSeat). s.gate) has.taken.seat) has.taken.marks is) old now units entered above)
 
   pub handed-back : WasHandedBack (root_view config made root old) (root_view (config_of (gates_of back)) made root back)
   handed-back = record {
@@ -233,9 +243,8 @@ module _ (made : ℕ) (seqs : List ℕ) (root : RootState) (old now : List UnitS
         Each-by (IsAsked config) (of_unit (kepts now) unit) (λ e i.
         Each-in (IsAsked config) (own_of e.actor root.joined) e (is.passes e.actor).asked (Each-in (λ (x : Entry). In x (own_of x.actor root.joined)) (of_unit (kepts now) unit) e (is.covered unit) i))
 
-    pub was-closed : (left : List (ClosedUnit R)) (merged_kept : Record) → root.out ≡ [] → AreClosed facts fits now units left → merged_kept.entries ≡ merged (kept_in units)
-        → WasClosed facts fits (root_view config made root old) left merged_kept
-    was-closed left merged_kept none closed is = record {
+    pub was-ended : (left : List (ClosedUnit R)) → root.out ≡ [] → AreClosed facts fits now units left → WasEnded facts fits (root_view config made root old) left
+    was-ended left none closed = record {
       histories = seens now;
       longer = entered-longer old now units entered;
       resumed = subst (λ ns. IsResumed config ns (seens now) root.joined) openings-now
@@ -244,6 +253,13 @@ module _ (made : ℕ) (seqs : List ℕ) (root : RootState) (old now : List UnitS
       whole = λ nothing. root-closes config made (seens now) (kepts now) root.joined (looks none) histories (closed-whole now units left closed (subst AreNone (sym openings-now) nothing));
       left = subst (λ g. AreLeftOf facts fits g (seens now) left) gates-now (closed-left now units left held closed);
       marks = rw (closed-marks now units left held closed) (entered-above old now units entered);
+    }
+
+    pub was-closed : (left : List (ClosedUnit R)) (merged_kept : Record) → root.out ≡ [] → AreClosed facts fits now units left → merged_kept.entries ≡ merged (kept_in units)
+        → WasClosed facts fits (root_view config made root old) left merged_kept
+    unfolding was-ended
+    was-closed left merged_kept none closed is = record {
+      ended = was-ended left none closed;
       merged_is = is ∙ sym (ap merged (closed-kept now units left closed));
       merged_whole = λ nothing. is ∙ sym (ap merged (closed-kept now units left closed)) ∙ ap merged (kept-whole now units left held closed (subst (Each HasNoRecorder) (sym gates-now) nothing));
     }

@@ -21,8 +21,9 @@ use Rattle.nexus.specs.Worlds.{UnitGate}
 use Rattle.nexus.specs.inner.Gates.{config_of}
 use Rattle.nexus.specs.Roots.{AreAtMost, WasTaken}
 use Rattle.nexus.specs.inner.Seats.{AllFree, WasJoined, AreJoinedTo}
-use Rattle.nexus.specs.inner.Keeping.{IsOpened, gates_of, entries_of, entries_joined, openings, owns, seens, kepts, pass_view, root_view, KeepsPass, KeepsRoot, AreSeqs, seqs_after}
+use Rattle.nexus.specs.inner.Keeping.{AreAbove, IsAbove, IsOpened, gates_of, entries_of, entries_joined, openings, owns, seens, kepts, pass_view, root_view, KeepsPass, KeepsRoot, AreSeqs, seqs_after}
 use Rattle.nexus.proofs.Members.{In-right}
+use Rattle.nexus.proofs.Safe.{above-more}
 use Rattle.nexus.proofs.Opened.{opened-longer}
 
 map-joined : {Y : Type 0} (f : UnitSeat → Y) → ((b p a : UnitSeat) → WasJoined b p a → f a ≡ f b) → (old passed now : List UnitSeat) → AreJoinedTo old passed now 0 → map f now ≡ map f old
@@ -229,6 +230,9 @@ module _ (made : ℕ) (seqs : List ℕ) (root after : RootState) (pass : PassSta
 
   pub root-takes : KeepsRoot (config_of (gates_of now)) made (seqs_after actor seq seqs) after now
   root-takes = subst (λ g. KeepsRoot (config_of g) made (seqs_after actor seq seqs) after now) (sym gates-now) root-takes-old
+
+  pub above-joined : AreAbove old → AreAbove now
+  above-joined above = each-joined IsAbove IsAbove (λ b p a was is. above-more b a (ap (λ (s : UnitSeat). s.gate) was.into) was.above is) old passed now joined above
 
   pub was-taken : WasTaken (root_view config made root old) (root_view (config_of (gates_of now)) made after now) (pass_view (config_of (gates_of passed)) pass passed)
   was-taken = record {

@@ -12,6 +12,7 @@ pub mod NotDone
 pub mod Staying
 pub mod Keeping
 pub mod Opening
+pub mod GivenBack
 pub mod Resumed
 pub mod Made
 pub mod Entering
@@ -19,3 +20,4 @@ pub mod Leaving
 pub mod Closings
 pub mod Sent
 pub mod PublicLaws
+pub mod Safe

@@ -18,7 +18,7 @@ record IsMade (history : List Entry) (p : ℕ) (made : List Entry) : Type 0 wher
   pub at : slice_get history p ≡ Some entry
   pub in_made : In entry made
 
-get-left : (xs ys : List Entry) (p : ℕ) (e : Entry) → slice_get xs p ≡ Some e → slice_get (xs ++ ys) p ≡ Some e
+pub get-left : (xs ys : List Entry) (p : ℕ) (e : Entry) → slice_get xs p ≡ Some e → slice_get (xs ++ ys) p ≡ Some e
 get-left [] ys p e is = cc
 get-left (x ∷ xs) ys zero e is = is
 get-left (x ∷ xs) ys (suc p) e is = get-left xs ys p e is

@@ -1,5 +1,5 @@
 -- A pass is made
-use Rattle.std.proofs.Common.{◌≡◌, ℕ, suc, ◌+◌, List, [], ◌∷◌, ◌++◌, length, map, refl, ap, sym, ◌∙◌, subst, arith, true, false, length-append, add-one}
+use Rattle.std.proofs.Common.{◌≡◌, ℕ, suc, ◌+◌, List, [], ◌∷◌, ◌++◌, length, map, refl, ap, sym, ◌∙◌, subst, arith, true, false, length-append, add-one, Bool, inl}
 use Rattle.std.specs.Prelude.{fold}
 use Rattle.std.proofs.lemmas.List.{length-map}
 use Rattle.cm_base.specs.Configuration.{Configuration}
@@ -18,9 +18,9 @@ use Rattle.nexus.specs.Worlds.{UnitGate}
 use Rattle.nexus.specs.inner.Gates.{config_of}
 use Rattle.nexus.specs.Roots.{WasMade}
 use Rattle.nexus.specs.inner.Seats.{AreSplit}
-use Rattle.nexus.specs.inner.Keeping.{gates_of, entries_of, entries_joined, openings, owns, seens, kepts, pass_view, root_view, IsOpened, IsPumpOf, KeepsPass, KeepsRoot, AreSeqs}
+use Rattle.nexus.specs.inner.Keeping.{AreAbove, AreSafe, IsAbove, IsSafeSeat, gates_of, entries_of, entries_joined, openings, owns, seens, kepts, pass_view, root_view, IsOpened, IsPumpOf, KeepsPass, KeepsRoot, AreSeqs}
 use Rattle.nexus.proofs.Opened.{opened-longer, prefix-same}
-use Rattle.nexus.proofs.Splitting.{map-now, map-fresh, split-long, each-now}
+use Rattle.nexus.proofs.Splitting.{map-now, map-fresh, split-long, each-now, each-fresh}
 
 nothing-from : (unit : ℕ) (seats : List UnitSeat) → AreFrom unit (map (λ (s : UnitSeat). []) seats)
 nothing-from unit [] = tt
@@ -91,6 +91,13 @@ module _ (made : ℕ) (seqs : List ℕ) (root : RootState) (old now fresh : List
 
   one-out : length (root.out ++ ticket ∷ []) ≡ length root.out + 1
   one-out = length-append root.out (ticket ∷ [])
+
+  -- a new pass is safe, since it has made nothing
+  pub fresh-safe : (eager : Bool) → AreAbove old → AreSafe eager fresh
+  fresh-safe eager above = each-fresh IsAbove (IsSafeSeat eager) (λ b a x was is. subst (IsSafeSeat eager) (sym was.new) (record { above = is; safe = λ on kin has some. inl tt })) old now fresh split above
+
+  pub above-now : AreAbove old → AreAbove now
+  above-now above = each-now IsAbove IsAbove (λ b a x was is. subst IsAbove (sym was.seat) is) old now fresh split above
 
   module _ (may : MayPass actor made root.out) (pump : IsPumpOf config actor) (seq : ℕ) (seq_is : seq ≡ length (own_of actor root.joined)) where
     pass-keeps-old : KeepsPass config ticket fresh actor seq 0

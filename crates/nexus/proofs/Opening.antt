@@ -11,6 +11,7 @@ use Rattle.merged_history.proofs.PublicLaws.{root-new}
 use Rattle.pass_register.specs.Passes.{RootState}
 use Rattle.atomic_table.specs.Seated.{TableId}
 use Rattle.turn_gate.specs.inner.Seats.{first_seat}
+use Rattle.unit_core.specs.UnitState.{UnitState, Stands}
 use Rattle.unit_gate.specs.declared.kin.RecorderFacts.{RecorderFacts}
 use Rattle.unit_gate.specs.declared.kin.UnitKin.{UnitKin}
 use Rattle.unit_gate.specs.Opening.{opening_entries}
@@ -21,10 +22,11 @@ use Rattle.nexus.specs.Worlds.{UnitGate, WorldView}
 use Rattle.nexus.specs.Roots.{RootView}
 use Rattle.nexus.specs.inner.Gates.{IsGateOf, config_of, config_in}
 use Rattle.nexus.specs.Opening.{kins_from, IsBegun, StoredUnit, kins_stored, entries_stored, GoesOn}
-use Rattle.nexus.specs.inner.Building.{BegunState, entries_begun, IsBegunUnit, AreBegunUnits, IsBegunOf, AreBegunOf, BegunSoFar, NewSoFar, IsSeatOf, AreSeatsOf, BuiltSoFar, IsBegunWith}
-use Rattle.nexus.specs.inner.Keeping.{AreGates, IsOpened, KeepsWorld, KeepsRoot, gates_of, kepts, openings, seens, entries_joined, root_view}
+use Rattle.nexus.specs.inner.Rooms.{Room, HasRoom}
+use Rattle.nexus.specs.inner.Building.{BegunState, entries_begun, units_in, IsBegunUnit, AreBegunUnits, IsBegunOf, AreBegunOf, BegunSoFar, IsNewUnit, AreNewUnits, NewSoFar, IsSeatOf, AreSeatsOf, BuiltSoFar, FilledSoFar, IsVacantWorld, IsBegunWith}
+use Rattle.nexus.specs.inner.Keeping.{AreAbove, AreGates, IsAbove, IsOpened, KeepsWorld, KeepsRoot, gates_of, kepts, openings, seens, entries_joined, root_view}
 
-map-push : {X Y : Type 0} (f : X → Y) (xs : List X) (x : X) → map f (xs ++ x ∷ []) ≡ map f xs ++ f x ∷ []
+pub map-push : {X Y : Type 0} (f : X → Y) (xs : List X) (x : X) → map f (xs ++ x ∷ []) ≡ map f xs ++ f x ∷ []
 map-push f [] x = refl
 map-push f (y ∷ ys) x = ap (λ l. f y ∷ l) (map-push f ys x)
 
@@ -107,6 +109,21 @@ seated-opened config n (h ∷ gs) (t ∷ ss) (c ∷ bs) low units all =
       seated-opened config (suc n) gs ss bs (omega (arith, low)) units.1 all.1,
     )
 
+seated-above : (config : Configuration) (n : ℕ) (gs : List UnitGate) (ss : List UnitSeat) (bs : List BegunState) → AreBegunUnits config n bs → AreSeatsOf gs ss bs → AreAbove ss
+seated-above config n [] [] bs units all = tt
+seated-above config n [] (t ∷ ss) bs units all = absurd all
+seated-above config n (h ∷ gs) [] bs units all = absurd all
+seated-above config n (h ∷ gs) (t ∷ ss) [] units all = absurd all
+seated-above config n (h ∷ gs) (t ∷ ss) (c ∷ bs) units all = (subst IsAbove (sym all.0.seat_is) first, seated-above config (suc n) gs ss bs units.1 all.1)
+  where
+    first : IsAbove (first_seat h (entries_begun c) (marks_of c.unit))
+    first = λ kin has.
+        let both : Some (kin_of c.unit) ≡ Some kin = sym all.0.kin ∙ has in
+        let same : kin_of c.unit ≡ kin = cc in
+        let there : c.unit.opening.faults ≡ kin.opening.faults = ap (λ (k : UnitKin). k.opening.faults) same in
+        let faults = units.0.faults in
+        omega (arith, there, faults)
+
 seated-are : (config : Configuration) (n : ℕ) (gs : List UnitGate) (ss : List UnitSeat) (bs : List BegunState) → AreBegunUnits config n bs → AreSeatsOf gs ss bs
     → (i : ℕ) (g : UnitGate) → slice_get gs i ≡ Some g → IsGateOf config (n + i) g
 seated-are config n [] ss bs units all i g at = cc
@@ -153,6 +170,68 @@ module _ (all : List BegunState) where
     seated = seats-push gates seats so.gone g s b so.seated (record { kin = kin; seat_is = seat });
     seqs_are = ap (λ l. l ++ 0 ∷ []) so.seqs_are ∙ sym (map-push (λ (x : UnitGate). 0) gates g);
   }
+
+-- ---- the gates are filled, one after the other
+
+module _ (all : List BegunState) where
+  pub filled-none : (vacant : List RecordedState) (register : TableId) (slip : RootState) (gates : List UnitGate) (seats : List UnitSeat) (seqs : List ℕ) (gate_room seat_room seq_room : ℕ) (rooms : Room)
+      → IsVacantWorld (length vacant) register slip gates seats seqs gate_room seat_room seq_room rooms → vacant ≡ units_in all → FilledSoFar all all vacant gates seats seqs 0 gate_room seat_room seq_room
+  filled-none vacant register slip gates seats seqs gate_room seat_room seq_room rooms is same =
+      let long : length vacant ≡ length all = ap length same ∙ length-map all (λ (b : BegunState). b.unit) in
+      let gates_fit = is.gates_fit in
+      let seats_fit = is.seats_fit in
+      let seqs_fit = is.seqs_fit in
+      record {
+        built = rw (is.no_gate, is.no_seat, is.no_seq) (built-none all);
+        vacant_are = sym same;
+        gates_fit = omega (arith, long, gates_fit);
+        seats_fit = omega (arith, long, seats_fit);
+        seqs_fit = omega (arith, long, seqs_fit);
+      }
+
+  module _ (rest more : List BegunState) (vacant : List RecordedState) (gates : List UnitGate) (seats : List UnitSeat) (seqs : List ℕ) (n gate_room seat_room seq_room : ℕ)
+      (so : FilledSoFar all rest vacant gates seats seqs n gate_room seat_room seq_room) (b : BegunState) (next : rest ≡ b ∷ more) where
+    -- the next unit has a vacant gate
+    pub vacant-left : vacant ≡ [] → ⊥
+    vacant-left none = let e : (b.unit ∷ units_in more) ≡ [] = ap units_in (sym next) ∙ so.vacant_are ∙ none in cc
+
+    module _ (left : List RecordedState) (v : RecordedState) (is : vacant ≡ v ∷ left) where
+      both : (b.unit ∷ units_in more) ≡ v ∷ left
+      both = ap units_in (sym next) ∙ so.vacant_are ∙ is
+
+      pub vacant-same : b.unit ≡ v
+      vacant-same = let e = both in cc
+
+      pub filled-more : (g : UnitGate) (s : UnitSeat) (gates_now seats_now seqs_now : ℕ) → g.kin ≡ Some (kin_of b.unit) → s ≡ first_seat g (entries_begun b) (marks_of b.unit)
+          → gates_now ≡ gate_room → seats_now ≡ seat_room → seqs_now ≡ seq_room → FilledSoFar all more left (gates ++ g ∷ []) (seats ++ s ∷ []) (seqs ++ 0 ∷ []) (suc n) gates_now seats_now seqs_now
+      filled-more g s gates_now seats_now seqs_now kin seat one two three = record {
+        built = built-more all rest more gates seats seqs n b g s so.built next kin seat;
+        vacant_are = let e = both in cc;
+        gates_fit = rw one so.gates_fit;
+        seats_fit = rw two so.seats_fit;
+        seqs_fit = rw three so.seqs_fit;
+      }
+
+    gone-less : length so.built.gone < length all
+    gone-less =
+        let whole = ap length so.built.whole in
+        let sum = length-append so.built.gone rest in
+        let some = ap length next in
+        omega (arith, whole, sum, some)
+
+    pub gates-low : length gates < gate_room
+    gates-low = let long = (seated-long gates seats so.built.gone so.built.seated).0 in let fit = so.gates_fit in let less = gone-less in omega (arith, long, fit, less)
+
+    pub seats-low : length seats < seat_room
+    seats-low = let long = (seated-long gates seats so.built.gone so.built.seated).1 in let fit = so.seats_fit in let less = gone-less in omega (arith, long, fit, less)
+
+    pub seqs-low : length seqs < seq_room
+    seqs-low =
+        let long = (seated-long gates seats so.built.gone so.built.seated).0 in
+        let zeros = ap length so.built.seqs_are ∙ length-map gates (λ (g : UnitGate). 0) in
+        let fit = so.seqs_fit in
+        let less = gone-less in
+        omega (arith, long, zeros, fit, less)
 
 units-next : (config : Configuration) (n : ℕ) (gone more : List BegunState) (b : BegunState) → AreBegunUnits config n (gone ++ b ∷ more) → StandsFor b.unit (entries_begun b)
 units-next config n [] more b all = all.0.stands
@@ -212,6 +291,12 @@ module _ (config : Configuration) (all rest : List BegunState) (gates : List Uni
     };
   }
 
+  pub root-above : AreAbove seats
+  root-above = seated-above config 0 gates seats all units seated
+
+  pub root-room : (count : ℕ) (room : Room) → count ≡ length all → HasRoom count room → HasRoom (length seats) room
+  root-room count room same has = subst (λ k. HasRoom k room) (same ∙ sym (seated-long gates seats all seated).1) has
+
   pub root-keeps : KeepsRoot (config_of (gates_of seats)) made seqs slip seats
   root-keeps = subst (λ c. KeepsRoot c made seqs slip seats) (sym (ap config_of gates-same ∙ config-here)) root-keeps-here
 
@@ -237,6 +322,7 @@ begun-units config n (s ∷ ss) (b ∷ bs) all = (
     config_is = ap (λ (k : UnitKin). k.config) all.0.kin;
     unit_is = ap (λ (k : UnitKin). k.unit) all.0.kin;
     stands = subst (StandsFor b.unit) (sym (entries-are config n s b all.0)) all.0.stands;
+    faults = ap (λ (m : List ℕ). slice_index m 0) all.0.marks ∙ sym (ap (λ (k : UnitKin). k.opening.faults) all.0.kin);
   },
   begun-units config (suc n) ss bs all.1,
 )
@@ -274,6 +360,16 @@ module _ {X : Type 0} (store_of : X → StoredUnit) (config : Configuration) (al
   pub begun-all : (rest : List X) (begun : List BegunState) (n : ℕ) → BegunSoFar store_of config all rest begun n → n ≡ length all → AreBegunOf config 0 (map store_of all) begun
   begun-all rest begun n so last = subst (λ l. AreBegunOf config 0 (map store_of l) begun) (none-left so.gone rest all so.whole (so.count ∙ last)) so.are
 
+  -- as long as one is left, not all are
+  pub begun-low : (rest more : List X) (begun : List BegunState) (n : ℕ) (x : X) → BegunSoFar store_of config all rest begun n → rest ≡ x ∷ more → length begun < length all
+  begun-low rest more begun n x so next =
+      let a = ap length so.whole in
+      let b = length-append so.gone rest in
+      let c = ap length next in
+      let d = begun-long config 0 (map store_of so.gone) begun so.are in
+      let e = length-map so.gone store_of in
+      omega (arith, a, b, c, d, e)
+
   -- while not all are, one is left
   pub some-left : (rest : List X) (begun : List BegunState) (n : ℕ) → BegunSoFar store_of config all rest begun n → n < length all → rest ≡ [] → ⊥
   some-left rest begun n so low none =
@@ -291,25 +387,50 @@ each-left P rest more x next all = let both : Each P (x ∷ more) = subst (Each 
 abbrev pub fresh : {R : Type 0} → (R → RecorderFacts) → R → StoredUnit
 fresh facts r = record { history = []; recorder = facts r }
 
+pub new-push : (config : Configuration) (n : ℕ) (us : List UnitState) (u : UnitState) → AreNewUnits config n us → IsNewUnit config (n + length us) u → AreNewUnits config n (us ++ u ∷ [])
+new-push config n [] u all is = let e : n + 0 ≡ n = omega arith in (subst (λ k. IsNewUnit config k u) e is, tt)
+new-push config n (v ∷ us) u all is =
+    let e : n + suc (length us) ≡ suc n + length us = omega arith in (all.0, new-push config (suc n) us u all.1 (subst (λ k. IsNewUnit config k u) e is))
+
 module _ {R : Type 0} (facts : R → RecorderFacts) (P : R → Type 0) (config : Configuration) (all : List R) where
-  pub new-none : Each P all → NewSoFar (fresh facts) P config all all [] 0
-  new-none fits = record { begun_are = begun-none (fresh facts) config all; fits_rest = fits }
+  pub new-none : (units : List UnitState) → Each P all → AreNewUnits config 0 units → length units ≡ length all → NewSoFar (fresh facts) P config all all units [] 0
+  new-none units fits new long = record { begun_are = begun-none (fresh facts) config all; new = new; one_each = long; fits_rest = fits }
 
-  pub new-fits : (rest more : List R) (begun : List BegunState) (n : ℕ) (r : R) → NewSoFar (fresh facts) P config all rest begun n → rest ≡ r ∷ more → P r
-  new-fits rest more begun n r so next = (each-left P rest more r next so.fits_rest).0
+  -- as long as a recorder is left, a unit is
+  pub new-left : (rest more : List R) (units : List UnitState) (begun : List BegunState) (n : ℕ) (r : R) → NewSoFar (fresh facts) P config all rest units begun n → rest ≡ r ∷ more → units ≡ [] → ⊥
+  new-left rest more units begun n r so next none = let a = so.one_each in let b = ap length next in let c = ap length none in omega (arith, a, b, c)
 
-  pub new-more : (rest more : List R) (begun : List BegunState) (n : ℕ) (r : R) (b : BegunState) → NewSoFar (fresh facts) P config all rest begun n → rest ≡ r ∷ more
-      → StandsFor b.unit [] → kin_of b.unit ≡ record { config = config; unit = n; opening = facts r; folded = 0 } → marks_of b.unit ≡ (facts r).faults ∷ 0 ∷ 0 ∷ [] → b.history ≡ []
-      → NewSoFar (fresh facts) P config all more (begun ++ b ∷ []) (suc n)
-  new-more rest more begun n r b so next stands kin marks none = record {
-    begun_are = begun-more (fresh facts) config all rest more begun n r b so.begun_are next record {
-      kin = kin ∙ ap (λ (o : RecorderFacts). record { config = config; unit = n; opening = o; folded = 0 }) (sym (without-none (facts r)));
-      history_is = none;
-      stands = stands;
-      marks = marks;
-    };
-    fits_rest = (each-left P rest more r next so.fits_rest).1;
-  }
+  module _ (rest more : List R) (units left : List UnitState) (begun : List BegunState) (n : ℕ) (r : R) (u : UnitState) (so : NewSoFar (fresh facts) P config all rest units begun n) (next : rest ≡ r ∷ more) (unit : units ≡ u ∷ left) where
+    pub new-fits : P r
+    new-fits = (each-left P rest more r next so.fits_rest).0
+
+    is-new : IsNewUnit config n u × AreNewUnits config (suc n) left
+    is-new = let both : AreNewUnits config n (u ∷ left) = subst (AreNewUnits config n) unit so.new in (both.0, both.1)
+
+    pub new-stands : Stands u []
+    new-stands = is-new.0.stands
+
+    pub new-folded : u.folded ≡ 0
+    new-folded = is-new.0.folded
+
+    pub new-more : (b : BegunState) → StandsFor b.unit [] → kin_of b.unit ≡ record { config = u.config; unit = u.unit; opening = facts r; folded = 0 } → marks_of b.unit ≡ (facts r).faults ∷ 0 ∷ 0 ∷ []
+        → b.unit.recorder ≡ facts r → b.history ≡ [] → NewSoFar (fresh facts) P config all more left (begun ++ b ∷ []) (suc n)
+    new-more b stands kin marks recorder none = record {
+      begun_are = begun-more (fresh facts) config all rest more begun n r b so.begun_are next record {
+        kin =
+            kin
+            ∙ ap (λ c. record { config = c; unit = u.unit; opening = facts r; folded = 0 }) is-new.0.config_is
+            ∙ ap (λ (k : ℕ). record { config = config; unit = k; opening = facts r; folded = 0 }) is-new.0.unit_is
+            ∙ ap (λ (o : RecorderFacts). record { config = config; unit = n; opening = o; folded = 0 }) (sym (without-none (facts r)));
+        history_is = none;
+        stands = stands;
+        marks = marks;
+        recorder_is = recorder;
+      };
+      new = is-new.1;
+      one_each = let a = so.one_each in let b = ap length next in let c = ap length unit in omega (arith, a, b, c);
+      fits_rest = (each-left P rest more r next so.fits_rest).1;
+    }
 
 -- ---- what contracts see of the world
 

@@ -125,9 +125,9 @@ module _ {X : Type 0} (store_of : X → StoredUnit) (P : X → Type 0) (config :
 
     pub recorders-more : (b : BegunState) → ((h : List Entry) → HasRecorded u (store_of x).recorder.recorded h → StandsFor b.unit h)
         → kin_of b.unit ≡ record { config = u.config; unit = u.unit; opening = without_last u.folded (store_of x).recorder; folded = u.folded }
-        → marks_of b.unit ≡ (store_of x).recorder.faults ∷ u.folded ∷ 0 ∷ [] → b.history ≡ (store_of x).history
+        → marks_of b.unit ≡ (store_of x).recorder.faults ∷ u.folded ∷ 0 ∷ [] → b.unit.recorder ≡ (store_of x).recorder → b.history ≡ (store_of x).history
         → RecordersSoFar store_of P config all more left (begun ++ b ∷ []) (suc n)
-    recorders-more b stands kin marks history = record {
+    recorders-more b stands kin marks recorder history = record {
       begun_are = begun-more store_of config all rest more begun n x b so.begun_are next record {
         kin =
             kin
@@ -137,6 +137,7 @@ module _ {X : Type 0} (store_of : X → StoredUnit) (P : X → Type 0) (config :
         history_is = history;
         stands = stands (opening_entries config n (store_of x).history) has-recorded;
         marks = marks ∙ ap (λ k. (store_of x).recorder.faults ∷ k ∷ 0 ∷ []) has.0.folded;
+        recorder_is = recorder;
       };
       have = has.1;
       stored = stored-here.1;

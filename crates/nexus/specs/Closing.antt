@@ -6,7 +6,7 @@ use Rattle.cm_history.specs.Blocks.{mapped}
 use Rattle.cm_history.specs.Folding.{live_in}
 use Rattle.cm_history.specs.History.{past_of}
 use Rattle.cm_history.specs.Record.{Record}
-use Rattle.cm_history.proofs.PublicLaws.{Each}
+use Rattle.cm_history.specs.Members.{Each}
 use Rattle.merged_history.specs.Merged.{merged}
 use Rattle.merged_history.specs.Passes.{IsWhole}
 use Rattle.merged_history.specs.Resumed.{IsResumed}
@@ -57,19 +57,23 @@ module _ {R : Type 0} (facts : R → RecorderFacts) (fits : R → Entry → Type
   abbrev pub kept_of : List (ClosedUnit R) → List (List Entry)
   kept_of units = map (λ (u : ClosedUnit R). u.history.entries) units
 
-  -- The world is closed. The histories of its units, merged, are one legal history: its part on each unit is the unit's,
+  -- The world is ended. The histories of its units, merged, are one legal history: its part on each unit is the unit's,
   -- and the entries of each actor in it are those of its joined passes, in the order of joining. Where units had entries
   -- at the opening, this is so of the later ones, and the history is legal but for the numbers of one actor's entries.
-  pub record WasClosed (root : RootView) (units : List (ClosedUnit R)) (merged_kept : Record) : Type 0 where
+  pub record WasEnded (root : RootView) (units : List (ClosedUnit R)) : Type 0 where
     pub histories : List (List Entry)
     pub longer : AreLonger root.seen histories
     pub resumed : IsResumed root.config root.openings histories root.joined
     pub whole : AreNone root.openings → IsWhole root.config histories root.joined (merged histories)
     pub left : AreLeftOf root.gates histories units
     pub marks : AreAtMost root.marks (marks_left units)
+
+  -- the world is closed: it is ended, and what its units have kept is merged
+  pub record WasClosed (root : RootView) (units : List (ClosedUnit R)) (merged_kept : Record) : Type 0 where
+    pub ended : WasEnded root units
     pub merged_is : merged_kept.entries ≡ merged (kept_of units)
     -- where no unit has a recorder, it is the merged history of all
-    pub merged_whole : Each HasNoRecorder root.gates → merged_kept.entries ≡ merged histories
+    pub merged_whole : Each HasNoRecorder root.gates → merged_kept.entries ≡ merged ended.histories
 
 -- want of memory: the root has seen the units' histories, and nothing else changed
 pub record WasHandedBack (before after : RootView) : Type 0 where

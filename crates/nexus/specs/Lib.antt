@@ -1,5 +1,6 @@
 pub mod Worlds
 pub mod Roots
+pub mod Safe
 pub mod Opening
 pub mod Holding
 pub mod Closing

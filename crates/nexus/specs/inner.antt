@@ -1,5 +1,6 @@
 pub mod Gates
 pub mod Seats
+pub mod Rooms
 pub mod Keeping
 pub mod Building
 pub mod Closing

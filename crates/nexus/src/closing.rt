@@ -3,11 +3,12 @@ ghost use Rattle.std.specs.Prelude.{◌≡◌, ◌≤◌, [], length, map, vec_c
 ghost use Rattle.unit_gate.specs.Recorded.{facts};
 ghost use Rattle.unit_gate.specs.SeatActs.{IsHeldBy};
 ghost use Rattle.nexus.specs.Roots.{IsRootOf};
-ghost use Rattle.nexus.specs.Closing.{WasClosed, WasHandedBack};
+ghost use Rattle.nexus.specs.Closing.{WasClosed, WasEnded, WasHandedBack};
 ghost use Rattle.nexus.specs.inner.Keeping.{gates_of};
 ghost use Rattle.nexus.specs.inner.Closing.{IsReady, AreReady, AreAlone, AreHeld, AreEntered};
 ghost use Rattle.nexus.specs.inner.Closing.{AreClosed, IsClosed, given_back};
 
+use crate::rooms::Rooms;
 use crate::root::Root;
 use crate::world::World;
 use cm_history::History;
@@ -58,7 +59,8 @@ pub(crate) fn enter_all<R: Recorder + Drop>(
     requires alone { AreAlone seats.old.items }
     requires none { turns.old.items ≡ [] }
     requires room { length gates.now ≤ vec_capacity turns.old }
-    ensures { AreEntered seats.old.items seats.new.items turns.new.items (length seats.old.items) }
+    ensures entered { AreEntered seats.old.items seats.new.items turns.new.items (length seats.old.items) }
+    ensures room { vec_capacity turns.old ≤ vec_capacity turns.new }
 {
     for index in 0..gates.len() {
         let Some(turn) = hold(&gates[index], &mut seats[index]) else {
@@ -72,19 +74,19 @@ pub(crate) fn enter_all<R: Recorder + Drop>(
 pub(crate) fn leave_all<R: Recorder + Drop>(
     gates: &[Gate<RecordedUnit<R>>],
     seats: &mut Vec<GateSeat<RecordedUnit<R>>>,
-    turns: Vec<HeldUnit<R>>,
+    turns: &mut Vec<HeldUnit<R>>,
 )
     requires gates { gates_of seats.old.items ≡ gates.now }
-    requires held { AreHeld seats.old.items turns.items }
-    ensures { seats.new.items ≡ map given_back seats.old.items }
+    requires held { AreHeld seats.old.items turns.old.items }
+    ensures back { seats.new.items ≡ map given_back seats.old.items }
+    ensures none { turns.new.items ≡ [] }
+    ensures room { vec_capacity turns.new ≡ vec_capacity turns.old }
 {
-    let mut turns = turns;
     while let Some(held) = turns.pop() {
         let index = turns.len();
         let HeldUnit { turn } = held;
         release(&gates[index], &mut seats[index], turn);
     }
-    turns.destroy_empty();
 }
 
 /// Closes the gate of a unit, whose turn the root holds. It takes no memory.
@@ -132,9 +134,30 @@ pub(crate) fn close_all<R: Recorder + Drop>(
 }
 
 impl<R: Recorder + Drop> World<R> {
+    /// Ends the world, whose passes are all joined: what is left of each unit, in the order of the units. It takes no
+    /// memory.
+    pub fn end(self, root: Root<R>) -> Vec<ClosedUnit<R>>
+        requires root { IsRootOf self root }
+        requires none { length root.out ≡ 0 }
+        ensures { WasEnded (facts R.recorded R.record_faults R.absent R.front) R.fits root result.items }
+    {
+        let World { gates, register: _ } = self;
+        let Root {
+            slip: _,
+            made: _,
+            seqs: _,
+            mut seats,
+            rooms,
+        } = root;
+        let (mut turns, mut units) = rooms.into_lists();
+        enter_all(&gates, &mut seats, &mut turns);
+        close_all(gates, seats, turns, &mut units);
+        units
+    }
+
     /// Closes the world, whose passes are all joined: what is left of each unit, and the merged history of the
-    /// entries that they have kept. All memory is taken before a gate is closed: where it is wanted, the world and
-    /// the root are handed back.
+    /// entries that they have kept. Only the merging takes memory: where it is wanted, the world and the root are handed
+    /// back.
     pub fn close(self, alloc: Global, root: Root<R>) -> Result<Closed<R>, (World<R>, Root<R>)>
         requires root { IsRootOf self root }
         requires none { length root.out ≡ 0 }
@@ -143,28 +166,31 @@ impl<R: Recorder + Drop> World<R> {
         ensures world { IfErr result (λ b. b.0 ≡ self) }
         ensures root { IfErr result (λ b. WasHandedBack root b.1) }
     {
-        let mut root = root;
-        let Ok(mut units) = Vec::with_capacity(alloc, self.gates.len()) else {
-            return Err((self, root));
-        };
-        let Ok(mut turns) = Vec::with_capacity(alloc, self.gates.len()) else {
-            return Err((self, root));
-        };
-        enter_all(&self.gates, &mut root.seats, &mut turns);
+        let Root {
+            slip,
+            made,
+            seqs,
+            mut seats,
+            rooms,
+        } = root;
+        let (mut turns, mut units) = rooms.into_lists();
+        enter_all(&self.gates, &mut seats, &mut turns);
         match merge(alloc, turns.as_slice()) {
             Ok(merged) => {
                 let World { gates, register: _ } = self;
-                let Root {
-                    slip: _,
-                    made: _,
-                    seqs: _,
-                    seats,
-                } = root;
                 close_all(gates, seats, turns, &mut units);
                 Ok(Closed { units, merged })
             }
             Err(_) => {
-                leave_all(&self.gates, &mut root.seats, turns);
+                leave_all(&self.gates, &mut seats, &mut turns);
+                let rooms = Rooms::of(turns, units);
+                let root = Root {
+                    slip,
+                    made,
+                    seqs,
+                    seats,
+                    rooms,
+                };
                 Err((self, root))
             }
         }

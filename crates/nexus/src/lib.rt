@@ -8,6 +8,7 @@ mod closing;
 mod holding;
 mod pass;
 mod resuming;
+mod rooms;
 mod root;
 mod seats;
 mod world;

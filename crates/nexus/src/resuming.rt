@@ -1,17 +1,17 @@
 // A world goes on with histories that were recorded before.
-ghost use Rattle.std.specs.Prelude.{◌≡◌, ◌≢◌, ◌≤◌, ◌<◌, length, map, None, Some, IfOk, IfErr, OnOk, false};
+ghost use Rattle.std.specs.Prelude.{◌≡◌, ◌≢◌, ◌≤◌, [], length, map, vec_capacity, None, Some, IfOk, IfErr, OnOk, false};
 ghost use Rattle.cm_history.specs.declared.act.Entry.{Entry};
 ghost use Rattle.cm_history.proofs.PublicLaws.{Each};
 ghost use Rattle.unit_gate.specs.declared.resuming.ResumeRefused.{ResumeRefused};
 ghost use Rattle.unit_gate.specs.Opening.{has_late_number};
 ghost use Rattle.unit_gate.specs.Recorded.{facts};
 ghost use Rattle.nexus.specs.Opening.{AreStored, GoesOn, bad_history, next_nexus, number_after, numbers_after, stored};
-ghost use Rattle.nexus.specs.inner.Building.{AreBegunOf, HaveGoneOn};
+ghost use Rattle.nexus.specs.inner.Building.{AreBegunOf, HaveGoneOn, store_in};
 
 use crate::beginning::{Begun, begin};
 use crate::root::Root;
 use crate::world::World;
-use cm_base::{Config, OutOfMemory};
+use cm_base::Config;
 use cm_history::{Actor, History};
 use recorder::Recorder;
 use std::alloc::Global;
@@ -87,21 +87,22 @@ fn units_of<R: Recorder + Drop>(
     Ok(units)
 }
 
-/// The units with the recorders of the stores, in order.
-fn begun_of<R: Recorder + Drop>(
-    alloc: Global,
+/// Gives each unit its store, in order, in a list that has room for them. It takes no memory.
+fn give_stores<R: Recorder + Drop>(
     config: &Config,
     units: Vec<Unit>,
     stores: Vec<Store<R>>,
-) -> Result<Vec<Begun<R>>, OutOfMemory>
+    begun: &mut Vec<Begun<R>>,
+)
     requires one_each { length stores.items ≡ length config.now.units }
     requires stores { AreStored config.now 0 (map (stored (facts R.recorded R.record_faults R.absent R.front)) stores.items) }
     requires fits { Each (λ s. (e : Entry) → R.fits s.recorder e) stores.items }
     requires units { HaveGoneOn config.now 0 (map (stored (facts R.recorded R.record_faults R.absent R.front)) stores.items) units.items }
-    ensures { IfOk result (λ begun. AreBegunOf config.now 0
-        (map (stored (facts R.recorded R.record_faults R.absent R.front)) stores.items) begun.items) }
+    requires none { begun.old.items ≡ [] }
+    requires room { length stores.items ≤ vec_capacity begun.old }
+    ensures { AreBegunOf config.now 0
+        (map (stored (facts R.recorded R.record_faults R.absent R.front)) stores.items) begun.new.items }
 {
-    let mut begun = Vec::new(alloc);
     let mut stores = stores.into_iter();
     let mut units = units.into_iter();
     for _ in 0..config.units() {
@@ -113,16 +114,30 @@ fn begun_of<R: Recorder + Drop>(
         };
         let Store { history, recorder } = store;
         let unit = RecordedUnit::over(unit, recorder);
-        begun.push(Begun { unit, history })?;
+        begun.push_reserved(Begun { unit, history });
     }
-    Ok(begun)
+}
+
+/// Takes the units' stores back, in order, into a list that has room for them. It takes no memory.
+fn take_stores<R: Recorder + Drop>(units: Vec<Begun<R>>, stores: &mut Vec<Store<R>>)
+    requires none { stores.old.items ≡ [] }
+    requires room { length units.items ≤ vec_capacity stores.old }
+    ensures { map (stored (facts R.recorded R.record_faults R.absent R.front)) stores.new.items ≡ map store_in units.items }
+{
+    let mut units = units.into_iter();
+    while let Some(begun) = units.next() {
+        let Begun { unit, history } = begun;
+        let recorder = unit.into_closed().recorder;
+        stores.push_reserved(Store { history, recorder });
+    }
 }
 
 impl<R: Recorder + Drop> World<R> {
     /// A world whose units go on with the histories of their stores, in the order of the units, and its root. Each unit
     /// begins with its history and the ends of the operations that their initiators had still to end. New passes of nexuses
     /// have numbers above those of the histories. `BadHistory` comes exactly where an entry is refused, with the first of
-    /// the least unit that has one, and hands the stores back; where memory is wanted they may be let go.
+    /// the least unit that has one. The stores are handed back, in their order, and where memory is wanted each with its
+    /// history and a recorder of which contracts see the same.
     pub fn resume(
         alloc: Global,
         config: &Config,
@@ -140,18 +155,27 @@ impl<R: Recorder + Drop> World<R> {
         ensures bad { IfErr result (λ e. e.1 ≢ ResumeRefused.OutOfMemory → bad_history config.now 0
             (map (stored (facts R.recorded R.record_faults R.absent R.front)) stores.items) ≡ Some e.1) }
         ensures back { IfErr result (λ e. e.1 ≢ ResumeRefused.OutOfMemory → e.0.items ≡ stores.items) }
+        ensures handed_back { IfErr result (λ e. map (stored (facts R.recorded R.record_faults R.absent R.front)) e.0.items
+            ≡ map (stored (facts R.recorded R.record_faults R.absent R.front)) stores.items) }
     {
         let units = match units_of(alloc, config, &stores) {
             Ok(units) => units,
             Err(refused) => return Err((stores, refused)),
         };
         let made = next_nexus(&stores);
-        let Ok(units) = begun_of(alloc, config, units, stores) else {
-            return Err((Vec::new(alloc), ResumeRefused::OutOfMemory));
+        let Ok(mut begun) = Vec::with_capacity(alloc, stores.len()) else {
+            return Err((stores, ResumeRefused::OutOfMemory));
         };
-        match begin(alloc, config, units, made) {
+        let Ok(mut back) = Vec::with_capacity(alloc, stores.len()) else {
+            return Err((stores, ResumeRefused::OutOfMemory));
+        };
+        give_stores(config, units, stores, &mut begun);
+        match begin(alloc, config, begun, made) {
             Ok(made) => Ok(made),
-            Err(OutOfMemory) => Err((Vec::new(alloc), ResumeRefused::OutOfMemory)),
+            Err(begun) => {
+                take_stores(begun, &mut back);
+                Err((back, ResumeRefused::OutOfMemory))
+            }
         }
     }
 }

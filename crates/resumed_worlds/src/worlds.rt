@@ -101,26 +101,21 @@ fn answered<W: Wait>(
     }
 }
 
-/// What is left of the unit when its world is closed.
-fn closed(
-    alloc: Global,
+/// What is left of the unit when its world is ended.
+fn left_of(
     world: World<MemoryJournal>,
     root: Root<MemoryJournal>,
 ) -> Result<ClosedUnit<MemoryJournal>, Fail>
     requires root { IsRootOf world root }
     requires none { length root.out ≡ 0 }
 {
-    let Ok(closed) = world.close(alloc, root) else {
-        return Err("no memory for the merged history".into());
-    };
-    let mut units = closed.units;
-    match units.pop() {
+    match world.end(root).pop() {
         Some(unit) => Ok(unit),
         None => Err("no unit is left".into()),
     }
 }
 
-/// What came of one act in a world, which is closed.
+/// What came of one act in a world, which is ended.
 #[derive(Drop)]
 struct Outcome {
     /// Whose act it was.
@@ -145,7 +140,7 @@ fn outcome_of<W: Wait>(
     let mut pass = world.pass(alloc, &mut root)?;
     let answer = answered(rt, &world, config, nexus, &mut pass, act)?;
     world.join(&mut root, pass);
-    let left = closed(alloc, world, root)?;
+    let left = left_of(world, root)?;
     Ok(Outcome {
         nexus,
         answer,
@@ -211,7 +206,7 @@ fn an_open_copy_is_ended(rt: HostRuntime) -> Result<(), Fail> {
     let config = one_unit(alloc, 100)?;
     let disk = disk_with(alloc, &config, Act::Open { id: 3 })?;
     let (world, root) = resumed(alloc, &config, disk)?;
-    let left = closed(alloc, world, root)?;
+    let left = left_of(world, root)?;
     assert!(rt; left.count.steps == 2 && left.folded == 1 && left.history.len() == 1);
     assert_eq!(rt; entries_on(alloc, &config, left.recorder.into_disk())?, 1);
     Ok(())

@@ -1,12 +1,14 @@
-ghost use Rattle.std.specs.Prelude.{◌≡◌, ◌<◌, [], ◌∷◌, length, map, IfOk, true};
+ghost use Rattle.std.specs.Prelude.{◌≡◌, ◌<◌, ℕ, [], ◌∷◌, length, map, IfOk, true};
 ghost use Rattle.cm_history.specs.declared.act.Act.{Act};
 ghost use Rattle.cm_history.specs.declared.act.Actor.{Actor};
+ghost use Rattle.cm_history.specs.Legal.{may_ask};
 ghost use Rattle.cm_history.specs.Limits.{within_limits};
 ghost use Rattle.nexus.specs.Opening.{AreStored, no_recorder, stored};
 ghost use Rattle.nexus.specs.Worlds.{IsFreePass};
 
-use cm_base::{Config, UnitConfig, UnitList};
+use cm_base::{Config, OutOfMemory, Payload, UnitConfig, UnitList};
 use cm_history::{Act, Actor, Entry, History, within_limits};
+use lba_ranges::BlockList;
 use nexus::{Pass, Store, World};
 use recorder::NoRecorder;
 use std::alloc::Global;
@@ -40,6 +42,39 @@ enum Told {
     Refused,
 }
 
+/// A WRITE of one block.
+fn writing(alloc: Global) -> Result<Act, OutOfMemory>
+    ensures { IfOk result (λ act. (unit number : ℕ) → may_ask unit (Actor.Nexus number) act ≡ true) }
+{
+    let bytes = Payload::copy_from_slice(alloc, &[0x5a; 512])?;
+    let list = BlockList::from_payload(alloc, 512, 1, bytes)?;
+    Ok(Act::Write { lba: 0, list })
+}
+
+/// Has an act done on a unit by the pass of a nexus, if the unit's turn is free.
+fn ask(
+    world: &World<NoRecorder>,
+    config: &Config,
+    number: u32,
+    pass: &mut Pass<NoRecorder>,
+    unit: u16,
+    act: Act,
+) -> Told
+    requires config { config.now ≡ world.now.config }
+    requires pass { IsFreePass world.now number pass.old }
+    requires asked { may_ask unit (Actor.Nexus number) act ≡ true }
+    ensures { IsFreePass world.now number pass.new }
+{
+    if unit >= config.units() || !within_limits(config, unit, &act) {
+        return Told::Refused;
+    }
+    match world.try_act(pass, unit, 0, act) {
+        Ok(_) => Told::Done,
+        Err(TryRefused::Held(_)) => Told::Held,
+        Err(TryRefused::Act(_)) => Told::Refused,
+    }
+}
+
 /// Has one block of a unit read by the pass of a nexus, if the unit's turn is free.
 fn read(
     world: &World<NoRecorder>,
@@ -52,15 +87,14 @@ fn read(
     requires pass { IsFreePass world.now number pass.old }
     ensures { IsFreePass world.now number pass.new }
 {
-    let act = Act::Read { lba: 0, count: 1 };
-    if unit >= config.units() || !within_limits(config, unit, &act) {
-        return Told::Refused;
-    }
-    match world.try_act(pass, unit, 0, act) {
-        Ok(_) => Told::Done,
-        Err(TryRefused::Held(_)) => Told::Held,
-        Err(TryRefused::Act(_)) => Told::Refused,
-    }
+    ask(
+        world,
+        config,
+        number,
+        pass,
+        unit,
+        Act::Read { lba: 0, count: 1 },
+    )
 }
 
 /// The units and the stamps of a history, in its order.
@@ -131,34 +165,38 @@ fn one_stamp_on_two_units_is_merged_by_unit(rt: HostRuntime) -> Result<(), Fail>
     Ok(())
 }
 
-/// Reads of both units, by a pass of another thread.
-fn read_both(
+/// A READ on the first unit and a WRITE on the second, by a pass of another thread.
+fn ask_both(
     world: &World<NoRecorder>,
     config: &Config,
     pass: Pass<NoRecorder>,
+    write: Act,
 ) -> (Told, Told, Pass<NoRecorder>)
     requires config { config.now ≡ world.now.config }
     requires pass { IsFreePass world.now 1 pass }
+    requires asked { may_ask 1 (Actor.Nexus 1) write ≡ true }
     ensures { IsFreePass world.now 1 result.2 }
 {
     let mut pass = pass;
     let first = read(world, config, 1, &mut pass, 0);
-    let second = read(world, config, 1, &mut pass, 1);
+    let second = ask(world, config, 1, &mut pass, 1, write);
     (first, second, pass)
 }
 
-/// What comes of reads of both units in another thread while a pass holds the first one.
+/// What comes of a READ on the first unit and of a WRITE on the second in another thread, while a pass holds the first one.
 fn beside_a_hold<R: Threads + Sync>(
     rt: &R,
     world: &World<NoRecorder>,
     config: &Config,
     holder: &mut Pass<NoRecorder>,
     other: Pass<NoRecorder>,
+    write: Act,
 ) -> Result<(Told, Told, Pass<NoRecorder>), Fail>
     requires config { config.now ≡ world.now.config }
     requires some { 0 < length config.now.units }
     requires holder { IsFreePass world.now 0 holder.old }
     requires other { IsFreePass world.now 1 other }
+    requires asked { may_ask 1 (Actor.Nexus 1) write ≡ true }
     ensures holder { IsFreePass world.now 0 holder.new }
     ensures other { IfOk result (λ r. IsFreePass world.now 1 r.2) }
 {
@@ -171,21 +209,23 @@ fn beside_a_hold<R: Threads + Sync>(
         || -> (Told, Told, Pass<NoRecorder>)
             requires config { config.now ≡ world.now.config }
             requires pass { IsFreePass world.now 1 other }
+            requires asked { may_ask 1 (Actor.Nexus 1) write ≡ true }
             ensures { IsFreePass world.entry.now 1 result.2 }
-        { read_both(world, config, other) },
+        { ask_both(world, config, other, write) },
     );
     world.release(holder, hold);
     Ok(told)
 }
 
-/// What comes of reads of both units while a pass holds the first one, of one of the first behind that, and how many
-/// entries the merged history has.
+/// What comes of a READ on the first unit and of a WRITE on the second while a pass holds the first one, of a READ on the
+/// first behind that, and how many entries the merged history has.
 fn held<R: Threads + Sync>(rt: &R, alloc: Global) -> Result<(Told, Told, Told, usize), Fail> {
     let config = machine(alloc)?;
     let (world, mut root) = World::new(alloc, &config)?;
     let mut holder = world.pass(alloc, &mut root)?;
     let other = world.pass(alloc, &mut root)?;
-    let (first, second, other) = beside_a_hold(rt, &world, &config, &mut holder, other)?;
+    let write = writing(alloc)?;
+    let (first, second, other) = beside_a_hold(rt, &world, &config, &mut holder, other, write)?;
     let mut other = other;
     let later = read(&world, &config, 1, &mut other, 0);
     world.join(&mut root, holder);
@@ -292,6 +332,26 @@ fn refused(alloc: Global, first: u32, second: u32) -> Result<Option<(ResumeRefus
         Ok(_) => Ok(None),
         Err((stores, refused)) => Ok(Some((refused, stores.len()))),
     }
+}
+
+/// How many units are left of a world with these recorders, or how many recorders come back where memory is wanted.
+fn recorders_of(alloc: Global, config: &Config) -> Result<usize, Fail> {
+    let mut recorders = Vec::new(alloc);
+    for _ in 0..config.units() {
+        recorders.push(NoRecorder)?;
+    }
+    match World::with(alloc, config, recorders) {
+        Ok((world, root)) => Ok(world.end(root).len()),
+        Err((recorders, OutOfMemory)) => Ok(recorders.len()),
+    }
+}
+
+/// Where there is no memory for a world the recorders come back: `rt try --test --fail-alloc` shows it.
+#[test]
+fn no_recorder_is_lost(rt: HostRuntime) -> Result<(), Fail> {
+    let config = machine(rt.alloc())?;
+    assert_eq!(rt; recorders_of(rt.alloc(), &config)?, 2);
+    Ok(())
 }
 
 /// A history that is bad is told with its unit and its entry, and the stores come back.

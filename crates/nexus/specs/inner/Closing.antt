@@ -1,7 +1,7 @@
 -- The root's seats when the world is closed
 use Rattle.std.specs.Prelude.{◌≡◌, ◌≤◌, ℕ, zero, suc, ⊤, List, [], ◌∷◌, ◌++◌, length, map, drop, true, false}
 use Rattle.cm_history.specs.declared.act.Entry.{Entry}
-use Rattle.cm_history.proofs.PublicLaws.{Each, In}
+use Rattle.cm_history.specs.Members.{Each, In}
 use Rattle.merged_history.specs.PassRules.{IsHistory}
 use Rattle.unit_gate.specs.declared.kin.RecorderFacts.{RecorderFacts}
 use Rattle.unit_gate.specs.declared.recorded_unit.ClosedUnit.{ClosedUnit}

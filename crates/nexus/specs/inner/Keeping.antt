@@ -1,20 +1,22 @@
 -- What a world, a pass and the root keep from call to call
-use Rattle.std.specs.Prelude.{◌≡◌, ℕ, ◌+◌, ◌<◌, ◌≤◌, ⊤, List, [], ◌∷◌, ◌++◌, length, map, take, slice_get, slice_set, slice_index, Some}
+use Rattle.std.specs.Prelude.{◌≡◌, ◌⊎◌, ℕ, ◌+◌, ◌<◌, ◌≤◌, ⊤, List, [], ◌∷◌, ◌++◌, length, map, take, slice_get, slice_set, slice_index, Some, Bool, true, false}
 use Rattle.atomic_table.specs.Seated.{TableId}
 use Rattle.cm_base.specs.Configuration.{Configuration}
 use Rattle.cm_history.specs.declared.act.Actor.{Actor}
 use Rattle.cm_history.specs.declared.act.Actor.TheVariants.{Nexus, Pump}
 use Rattle.cm_history.specs.declared.act.Entry.{Entry}
-use Rattle.cm_history.proofs.PublicLaws.{Each}
+use Rattle.cm_history.specs.Members.{Each}
 use Rattle.merged_history.specs.Merged.{merged}
 use Rattle.merged_history.specs.Own.{Rises, IsAsked}
 use Rattle.merged_history.specs.PassRules.{IsPass, IsRoot}
 use Rattle.pass_register.specs.declared.known.Ticket.{Ticket}
 use Rattle.pass_register.specs.Passes.{Joined, RootState, PassState, own_of}
+use Rattle.recorder.specs.Recording.{Rose}
 use Rattle.turn_gate.specs.declared.view.Own.{Own}
 use Rattle.turn_gate.specs.declared.view.Joined.{Joined as JoinedSeat}
 use Rattle.turn_gate.specs.Seats.{SeatState}
-use Rattle.unit_gate.specs.SeatActs.{UnitSeat}
+use Rattle.unit_gate.specs.declared.kin.UnitKin.{UnitKin}
+use Rattle.unit_gate.specs.SeatActs.{UnitSeat, faults_of, folded_of, late_of}
 use Rattle.nexus.specs.Worlds.{UnitGate, PassView, last_stamp_of}
 use Rattle.nexus.specs.inner.Gates.{IsGateOf, config_of}
 use Rattle.nexus.specs.Roots.{RootView}
@@ -98,6 +100,31 @@ pub record KeepsPass (config : Configuration) (ticket : Ticket) (seats : List Un
   pub seq_is : seq ≡ length ticket.before + length (merged (owns seats))
   pub last_is : last ≡ last_stamp_of (merged (owns seats))
   pub rising : Rises 0 ticket.before
+
+-- ---- what is recorded of a pass's entries
+
+-- the own entries stand among the first n
+abbrev pub StandWithin : List Entry → ℕ → List (Own Entry) → Type 0
+StandWithin seen n own = Each (λ (o : Own Entry). (slice_get seen o.place ≡ Some o.entry) × (o.place < n)) own
+
+-- no fewer records had failed than at the opening
+abbrev pub IsAbove : UnitSeat → Type 0
+IsAbove s = (kin : UnitKin) → s.gate.kin ≡ Some kin → kin.opening.faults ≤ faults_of s
+
+-- the own entries are recorded and dropped, or a record has failed since the opening, or memory for one was wanted
+abbrev pub IsSafeFrom : ℕ → UnitSeat → Type 0
+IsSafeFrom faults s = StandWithin s.seen (folded_of s) s.own ⊎ Rose faults (faults_of s) ⊎ (0 < late_of s)
+
+-- it is so where entries are recorded as soon as they are made, and there is a recorder
+pub record IsSafeSeat (eager : Bool) (s : UnitSeat) : Type 0 where
+  pub above : IsAbove s
+  pub safe : eager ≡ true → (kin : UnitKin) → s.gate.kin ≡ Some kin → kin.opening.absent ≡ false → IsSafeFrom kin.opening.faults s
+
+abbrev pub AreSafe : Bool → List UnitSeat → Type 0
+AreSafe eager seats = Each (IsSafeSeat eager) seats
+
+abbrev pub AreAbove : List UnitSeat → Type 0
+AreAbove seats = Each IsAbove seats
 
 -- ---- what the root keeps
 

@@ -1,7 +1,7 @@
 -- Seats that are split off the root's, one at each gate, and joined into them again
 use Rattle.std.specs.Prelude.{◌≡◌, ℕ, zero, suc, ◌+◌, ◌≤◌, List, [], ◌∷◌, ◌++◌, length, true, false}
 use mathlib.Core.List.{IsPrefix}
-use Rattle.cm_history.proofs.PublicLaws.{Each}
+use Rattle.cm_history.specs.Members.{Each}
 use Rattle.turn_gate.specs.Marks.{AtMost, greatest}
 use Rattle.turn_gate.specs.Seats.{SeatState, split_off}
 

@@ -7,6 +7,7 @@ use Rattle.nexus.specs.Holding.{HoldView, IsHeldAt}
 use Rattle.nexus.specs.inner.Gates.{config_of}
 use Rattle.nexus.specs.inner.Keeping.{gates_of, pass_view}
 use Rattle.nexus.proofs.Keeping.{gate-low, gave-keeps, gave-back, seat-holds}
+use Rattle.nexus.proofs.Safe.{gave-safe, set-safe}
 use Rattle.nexus.proofs.Places.{gate-at}
 use Rattle.nexus.proofs.world.World.release.Goals as goal
 
@@ -18,8 +19,10 @@ invariant_of-pass g c =
     let at = ap (λ (v : PassView). slice_get v.gates index) c.pass.view_is ∙ ap (λ n. slice_get c.args.pass.now.gates n) same ∙ c.requires.held.at in
     let few = gate-low (gates_of seats) index c.requires.held.gate at in
     let long = length-map seats (λ (s : UnitSeat). s.gate) in
-    let low : index < length seats = omega (arith, few, long) in
-    gave-keeps c.pass.inside.slip seats c.pass.inside.actor c.pass.inside.seq c.pass.inside.last_stamp c.pass.invariant index c.index_mut-seat.result.now c.release.new.seat low c.index_mut-seat.ensures.value c.release.ensures
+    let low : index < length seats = omega (arith, few, long) in (
+      gave-keeps c.pass.inside.slip seats c.pass.inside.actor c.pass.inside.seq c.pass.inside.last_stamp c.pass.invariant.0 index c.index_mut-seat.result.now c.release.new.seat low c.index_mut-seat.ensures.value c.release.ensures,
+      set-safe _ seats index c.index_mut-seat.result.now c.release.new.seat low c.index_mut-seat.ensures.value (gave-safe _ c.index_mut-seat.result.now c.release.new.seat c.release.ensures) c.pass.invariant.1,
+    )
 
 pub returns : goal.returns
 returns g c =
@@ -30,7 +33,7 @@ returns g c =
     let few = gate-low (gates_of seats) index c.requires.held.gate at in
     let long = length-map seats (λ (s : UnitSeat). s.gate) in
     let low : index < length seats = omega (arith, few, long) in
-    gave-back c.pass.inside.slip seats c.pass.inside.actor c.pass.inside.seq c.pass.inside.last_stamp c.pass.invariant index c.index_mut-seat.result.now c.release.new.seat low c.index_mut-seat.ensures.value c.release.ensures
+    gave-back c.pass.inside.slip seats c.pass.inside.actor c.pass.inside.seq c.pass.inside.last_stamp c.pass.invariant.0 index c.index_mut-seat.result.now c.release.new.seat low c.index_mut-seat.ensures.value c.release.ensures
     ∙ ap (λ (v : PassView). record v { holds = slice_set v.holds index false }) c.pass.view_is
     ∙ ap (λ n. record c.args.pass.now { holds = slice_set c.args.pass.now.holds n false }) same
 
@@ -52,4 +55,4 @@ release-requires-clause-held g c =
     (subst (λ (h : HoldView). IsHeldAt (pass_view (config_of (gates_of seats)) c.pass.inside.slip seats) h) (sym c.hold.view_is)
     (subst (λ (v : PassView). IsHeldAt v c.args.hold) (sym c.pass.view_is) c.requires.held)) in
     subst (λ (gate : UnitGate). IsHeldBy gate.kin c.index_mut-seat.result.now turn) gate_is
-    (seat-holds c.pass.inside.slip seats c.pass.inside.actor c.pass.inside.seq c.pass.inside.last_stamp c.pass.invariant index c.index_mut-seat.result.now c.index_mut-seat.result.now low c.index_mut-seat.ensures.value turn held)
+    (seat-holds c.pass.inside.slip seats c.pass.inside.actor c.pass.inside.seq c.pass.inside.last_stamp c.pass.invariant.0 index c.index_mut-seat.result.now c.index_mut-seat.result.now low c.index_mut-seat.ensures.value turn held)
