@@ -13,7 +13,7 @@ use Rattle.scsi_cdb.specs.Decoded.{decoded}
 use Rattle.cm_frame.specs.declared.frame.Request.{Request}
 use Rattle.cm_frame.specs.declared.frame.Reply.{Reply}
 use Rattle.cmd_program.specs.declared.step.Outcome.{Outcome}
-use Rattle.cmd_program.specs.Stepping.{gave_up}
+use Rattle.cmd_program.specs.Stepping.{gave_up, given_up_reply, EndsWith, GivesUpBy}
 use Rattle.cmd_program.proofs.Stepping.{IsBusyAtEnd, EndsBusy}
 use Rattle.cmd_program.specs.Program.{Ask, Program, Ends, Asks, GivesUp, next, moved, give_up, go_on_by, refused, done}
 use Rattle.cmd_program.specs.Judging.{step, program, judged_cdb, judged_out}
@@ -117,3 +117,33 @@ pub ends-busy : EndsBusy step
 ends-busy config nexus r before after none =
     subst (λ p. IsBusyAtEnd (next p)) (sym (fold-append (program config r) before (Outcome.NoMemory ∷ after)))
     (no-memory-busy (fold moved (program config r) before) after (stays-open (program config r) before (program-open config r) none))
+
+-- ---- the first outcome at which it gives up decides the reply
+
+-- once it gave up, its reply stands
+gone-with : (last : Option Ask) (reply : Reply) (outcomes : List Outcome) → EndsWith reply (next (fold moved (GivesUp last reply) outcomes))
+gone-with (Some ask) reply [] = tt
+gone-with None reply [] = refl
+gone-with last reply (Outcome.Answered a ∷ os) = gone-with None reply os
+gone-with last reply (Outcome.Full ∷ os) = gone-with None reply os
+gone-with last reply (Outcome.NoMemory ∷ os) = gone-with None reply os
+
+gives-up-with : (p : Program) (given : Reply) (outcomes : List Outcome) → IsOpen p → EndsWith given (next (fold moved (give_up p given) outcomes))
+gives-up-with (Ends reply) given outcomes opens = gone-with None given outcomes
+gives-up-with (Asks ask last go_on) given outcomes opens = gone-with last given outcomes
+gives-up-with (GivesUp last reply) given outcomes opens = absurd opens
+
+gives-up-first : (p : Program) (outcomes : List Outcome) (reply : Reply) → IsOpen p → given_up_reply outcomes ≡ Some reply → EndsWith reply (next (fold moved p outcomes))
+gives-up-first p [] reply opens is = cc
+gives-up-first (Ends ended) (Outcome.Answered a ∷ os) reply opens is = gives-up-first (Ends ended) os reply tt is
+gives-up-first (Asks ask last go_on) (Outcome.Answered a ∷ os) reply opens is = gives-up-first (go_on a) os reply (opens a) is
+gives-up-first (GivesUp last first) (Outcome.Answered a ∷ os) reply opens is = absurd opens
+gives-up-first p (Outcome.Full ∷ os) reply opens is =
+    let same : Reply.Full ≡ reply = cc in
+    subst (λ r. EndsWith r (next (fold moved (give_up p Reply.Full) os))) same (gives-up-with p Reply.Full os opens)
+gives-up-first p (Outcome.NoMemory ∷ os) reply opens is =
+    let same : Reply.Busy ≡ reply = cc in
+    subst (λ r. EndsWith r (next (fold moved (give_up p Reply.Busy) os))) same (gives-up-with p Reply.Busy os opens)
+
+pub gives-up-by : GivesUpBy step
+gives-up-by config nexus r outcomes reply is = gives-up-first (program config r) outcomes reply (program-open config r) is

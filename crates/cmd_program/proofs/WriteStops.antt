@@ -37,11 +37,11 @@ use Rattle.cmd_program.specs.Stepping.{gave_up}
 use Rattle.cmd_program.specs.Program.{Ask, Program, Ends, Asks, GivesUp, next, moved, refused, ask_then}
 use Rattle.cmd_program.specs.TokenWrite.{TokenWrite, wanted, started, starting, rod_part, redeemed, zero_rod, write_by, write_using_token}
 use Rattle.cmd_program.specs.Judging.{program, judged_cdb, judged_out, step}
-use Rattle.cmd_program.specs.InHistory.{RunsIn}
+use Rattle.cmd_program.specs.InHistory.{Lacking, LacksAny, RunsIn}
 use Rattle.cmd_program.specs.WriteEnds.{IsWriteNow, has_started, was_stopped, EndsWell, IsNotStopped, WritesAreNotStopped}
 use Rattle.cmd_program.proofs.Open.{IsOpen}
 use Rattle.cmd_program.proofs.Busy.{program-open}
-use Rattle.cmd_program.proofs.WriteEnds.{nothing-more, writes-end-well}
+use Rattle.cmd_program.proofs.WriteEnds.{nothing-more, ends-well}
 
 -- ---- senses
 
@@ -128,87 +128,87 @@ gave-up-fine (GivesUp last reply) (Outcome.NoMemory ∷ os) open_so_far some = a
 
 -- ---- where it was not started
 
-abbrev FineAt : Configuration → ℕ → Program → List Entry → Type 0
-FineAt config nexus p h = (os : List Outcome) → RunsIn config nexus p h os → gave_up os ≡ false → has_started os ≡ false → IsNotStopped (next (fold moved p os))
+abbrev FineAt : Configuration → ℕ → Lacking → Program → List Entry → Type 0
+FineAt config nexus Lacks p h = (os : List Outcome) → RunsIn config nexus Lacks p h os → gave_up os ≡ false → has_started os ≡ false → IsNotStopped (next (fold moved p os))
 
-ended-fine : (config : Configuration) (nexus : ℕ) (reply : Reply) (h : List Entry) → reply ≢ Reply.Check copy_aborted → FineAt config nexus (Ends reply) h
-ended-fine config nexus reply h fine os run none no_start =
-    subst (λ l. IsNotStopped (next (fold moved (Ends reply) l))) (sym (nothing-more config nexus reply h os run none)) fine
+ended-fine : (config : Configuration) (nexus : ℕ) (Lacks : Lacking) (reply : Reply) (h : List Entry) → reply ≢ Reply.Check copy_aborted → FineAt config nexus Lacks (Ends reply) h
+ended-fine config nexus Lacks reply h fine os run none no_start =
+    subst (λ l. IsNotStopped (next (fold moved (Ends reply) l))) (sym (nothing-more config nexus Lacks reply h os run none)) fine
 
-refused-fine : (config : Configuration) (nexus : ℕ) (sense : SenseCode) (h : List Entry) → sense.key ≡ 5 → FineAt config nexus (refused sense) h
-refused-fine config nexus sense h five = ended-fine config nexus (Reply.Check sense) h (other-key sense five)
+refused-fine : (config : Configuration) (nexus : ℕ) (Lacks : Lacking) (sense : SenseCode) (h : List Entry) → sense.key ≡ 5 → FineAt config nexus Lacks (refused sense) h
+refused-fine config nexus Lacks sense h five = ended-fine config nexus Lacks (Reply.Check sense) h (other-key sense five)
 
-started-fine : (config : Configuration) (nexus : ℕ) (w : TokenWrite) (immed : Bool) (rod : HeldBlocks) (told : Answer) (h : List Entry)
-    → HasKind (Act.Start w.id immed w.list.ranges rod) told → IsPlain told → (os : List Outcome) → RunsIn config nexus (started w immed told) h os → gave_up os ≡ false
+started-fine : (config : Configuration) (nexus : ℕ) (Lacks : Lacking) (w : TokenWrite) (immed : Bool) (rod : HeldBlocks) (told : Answer) (h : List Entry)
+    → HasKind (Act.Start w.id immed w.list.ranges rod) told → IsPlain told → (os : List Outcome) → RunsIn config nexus Lacks (started w immed told) h os → gave_up os ≡ false
     → has_started (Outcome.Answered told ∷ os) ≡ false → IsNotStopped (next (fold moved (started w immed told) os))
-started-fine config nexus w true rod (Answer.Refused sense) h kind plain os run none no_start = refused-fine config nexus sense h plain os run none no_start
-started-fine config nexus w false rod (Answer.Refused sense) h kind plain os run none no_start = refused-fine config nexus sense h plain os run none no_start
-started-fine config nexus w true rod Answer.Conflict h kind plain os run none no_start = ended-fine config nexus Reply.Conflict h (not-check Reply.Conflict refl) os run none no_start
-started-fine config nexus w false rod Answer.Conflict h kind plain os run none no_start = ended-fine config nexus Reply.Conflict h (not-check Reply.Conflict refl) os run none no_start
-started-fine config nexus w immed rod (Answer.Progress state count) h kind plain os run none no_start = cc
-started-fine config nexus w immed rod _ h kind plain os run none no_start = absurd kind
+started-fine config nexus Lacks w true rod (Answer.Refused sense) h kind plain os run none no_start = refused-fine config nexus Lacks sense h plain os run none no_start
+started-fine config nexus Lacks w false rod (Answer.Refused sense) h kind plain os run none no_start = refused-fine config nexus Lacks sense h plain os run none no_start
+started-fine config nexus Lacks w true rod Answer.Conflict h kind plain os run none no_start = ended-fine config nexus Lacks Reply.Conflict h (not-check Reply.Conflict refl) os run none no_start
+started-fine config nexus Lacks w false rod Answer.Conflict h kind plain os run none no_start = ended-fine config nexus Lacks Reply.Conflict h (not-check Reply.Conflict refl) os run none no_start
+started-fine config nexus Lacks w immed rod (Answer.Progress state count) h kind plain os run none no_start = cc
+started-fine config nexus Lacks w immed rod _ h kind plain os run none no_start = absurd kind
 
-starting-fine : (config : Configuration) (nexus : ℕ) (w : TokenWrite) (rod : HeldBlocks) (h : List Entry) → FineAt config nexus (starting w rod) h
-starting-fine config nexus w rod h [] run none no_start = tt
-starting-fine config nexus w rod h (Outcome.Full ∷ os) run none no_start = cc
-starting-fine config nexus w rod h (Outcome.NoMemory ∷ os) run none no_start = cc
-starting-fine config nexus w rod h (Outcome.Answered told ∷ os) run none no_start =
-    started-fine config nexus w w.list.immed rod told (h ++ run.0 ++ run.1 ∷ [])
+starting-fine : (config : Configuration) (nexus : ℕ) (Lacks : Lacking) (w : TokenWrite) (rod : HeldBlocks) (h : List Entry) → FineAt config nexus Lacks (starting w rod) h
+starting-fine config nexus Lacks w rod h [] run none no_start = tt
+starting-fine config nexus Lacks w rod h (Outcome.Full ∷ os) run none no_start = cc
+starting-fine config nexus Lacks w rod h (Outcome.NoMemory ∷ os) run none no_start = cc
+starting-fine config nexus Lacks w rod h (Outcome.Answered told ∷ os) run none no_start =
+    started-fine config nexus Lacks w w.list.immed rod told (h ++ run.0 ++ run.1 ∷ [])
     (subst (HasKind (Act.Start w.id w.list.immed w.list.ranges rod)) (sym run.2.answered)
     (answer-kind config (h ++ run.0) w.unit (Actor.Nexus nexus) run.1.moment (Act.Start w.id w.list.immed w.list.ranges rod)))
     (subst IsPlain (sym run.2.answered) (start-plain config w.unit (h ++ run.0) (Actor.Nexus nexus) run.1.moment w.id w.list.immed w.list.ranges rod)) os run.3 none no_start
 
-redeemed-fine : (config : Configuration) (nexus : ℕ) (w : TokenWrite) (told : Answer) (h : List Entry)
-    → HasKind (Act.Redeem w.list.token w.unit) told → IsPlain told → (os : List Outcome) → RunsIn config nexus (redeemed w told) h os → gave_up os ≡ false
+redeemed-fine : (config : Configuration) (nexus : ℕ) (Lacks : Lacking) (w : TokenWrite) (told : Answer) (h : List Entry)
+    → HasKind (Act.Redeem w.list.token w.unit) told → IsPlain told → (os : List Outcome) → RunsIn config nexus Lacks (redeemed w told) h os → gave_up os ≡ false
     → has_started (Outcome.Answered told ∷ os) ≡ false → IsNotStopped (next (fold moved (redeemed w told) os))
-redeemed-fine config nexus w (Answer.Rod rod) h kind plain = go (nat_lt (length rod.items) (w.list.offset + wanted w))
+redeemed-fine config nexus Lacks w (Answer.Rod rod) h kind plain = go (nat_lt (length rod.items) (w.list.offset + wanted w))
   where
-    go : (short : Bool) → (os : List Outcome) → RunsIn config nexus (cond short (refused invalid_field_in_parameter_list) (starting w (rod_part w rod))) h os → gave_up os ≡ false
+    go : (short : Bool) → (os : List Outcome) → RunsIn config nexus Lacks (cond short (refused invalid_field_in_parameter_list) (starting w (rod_part w rod))) h os → gave_up os ≡ false
         → has_started os ≡ false → IsNotStopped (next (fold moved (cond short (refused invalid_field_in_parameter_list) (starting w (rod_part w rod))) os))
-    go true = refused-fine config nexus invalid_field_in_parameter_list h refl
-    go false = starting-fine config nexus w (rod_part w rod) h
-redeemed-fine config nexus w (Answer.Refused sense) h kind plain = refused-fine config nexus sense h plain
-redeemed-fine config nexus w Answer.Conflict h kind plain = cc
-redeemed-fine config nexus w _ h kind plain = absurd kind
+    go true = refused-fine config nexus Lacks invalid_field_in_parameter_list h refl
+    go false = starting-fine config nexus Lacks w (rod_part w rod) h
+redeemed-fine config nexus Lacks w (Answer.Refused sense) h kind plain = refused-fine config nexus Lacks sense h plain
+redeemed-fine config nexus Lacks w Answer.Conflict h kind plain = cc
+redeemed-fine config nexus Lacks w _ h kind plain = absurd kind
 
-redeem-fine : (config : Configuration) (nexus : ℕ) (w : TokenWrite) (creator : ℕ) (h : List Entry)
-    → FineAt config nexus (ask_then creator (Act.Redeem w.list.token w.unit) (redeemed w)) h
-redeem-fine config nexus w creator h [] run none no_start = tt
-redeem-fine config nexus w creator h (Outcome.Full ∷ os) run none no_start = cc
-redeem-fine config nexus w creator h (Outcome.NoMemory ∷ os) run none no_start = cc
-redeem-fine config nexus w creator h (Outcome.Answered told ∷ os) run none no_start =
-    redeemed-fine config nexus w told (h ++ run.0 ++ run.1 ∷ [])
+redeem-fine : (config : Configuration) (nexus : ℕ) (Lacks : Lacking) (w : TokenWrite) (creator : ℕ) (h : List Entry)
+    → FineAt config nexus Lacks (ask_then creator (Act.Redeem w.list.token w.unit) (redeemed w)) h
+redeem-fine config nexus Lacks w creator h [] run none no_start = tt
+redeem-fine config nexus Lacks w creator h (Outcome.Full ∷ os) run none no_start = cc
+redeem-fine config nexus Lacks w creator h (Outcome.NoMemory ∷ os) run none no_start = cc
+redeem-fine config nexus Lacks w creator h (Outcome.Answered told ∷ os) run none no_start =
+    redeemed-fine config nexus Lacks w told (h ++ run.0 ++ run.1 ∷ [])
     (subst (HasKind (Act.Redeem w.list.token w.unit)) (sym run.2.answered)
     (answer-kind config (h ++ run.0) creator (Actor.Nexus nexus) run.1.moment (Act.Redeem w.list.token w.unit)))
     (subst IsPlain (sym run.2.answered) (redeem-plain config creator (h ++ run.0) (Actor.Nexus nexus) run.1.moment w.list.token w.unit)) os run.3 none no_start
 
-kind-fine : (config : Configuration) (nexus : ℕ) (w : TokenWrite) (kind : TokenKind) (h : List Entry) → FineAt config nexus (write_by config w kind) h
-kind-fine config nexus w TokenKind.BadLength h = refused-fine config nexus invalid_token_length h refl
-kind-fine config nexus w TokenKind.BadType h = refused-fine config nexus unsupported_token_type h refl
-kind-fine config nexus w TokenKind.Zero h = starting-fine config nexus w (zero_rod config w) h
-kind-fine config nexus w (TokenKind.Names creator serial) h = go (is_configured config creator)
+kind-fine : (config : Configuration) (nexus : ℕ) (Lacks : Lacking) (w : TokenWrite) (kind : TokenKind) (h : List Entry) → FineAt config nexus Lacks (write_by config w kind) h
+kind-fine config nexus Lacks w TokenKind.BadLength h = refused-fine config nexus Lacks invalid_token_length h refl
+kind-fine config nexus Lacks w TokenKind.BadType h = refused-fine config nexus Lacks unsupported_token_type h refl
+kind-fine config nexus Lacks w TokenKind.Zero h = starting-fine config nexus Lacks w (zero_rod config w) h
+kind-fine config nexus Lacks w (TokenKind.Names creator serial) h = go (is_configured config creator)
   where
-    go : (there : Bool) → FineAt config nexus (cond there (ask_then creator (Act.Redeem w.list.token w.unit) (redeemed w)) (refused token_unknown)) h
-    go true = redeem-fine config nexus w creator h
-    go false = refused-fine config nexus token_unknown h refl
+    go : (there : Bool) → FineAt config nexus Lacks (cond there (ask_then creator (Act.Redeem w.list.token w.unit) (redeemed w)) (refused token_unknown)) h
+    go true = redeem-fine config nexus Lacks w creator h
+    go false = refused-fine config nexus Lacks token_unknown h refl
 
-command-fine : (config : Configuration) (nexus : ℕ) (r : Request) (h : List Entry) → IsWriteNow r → FineAt config nexus (program config r) h
-command-fine config nexus r h is = whole (is_configured config r.unit)
+command-fine : (config : Configuration) (nexus : ℕ) (Lacks : Lacking) (r : Request) (h : List Entry) → IsWriteNow r → FineAt config nexus Lacks (program config r) h
+command-fine config nexus Lacks r h is = whole (is_configured config r.unit)
   where
-    read : FineAt config nexus (write_using_token config r.unit is.id (write_token_read r.out)) h
-    read = subst (λ l. FineAt config nexus (write_using_token config r.unit is.id l) h) (sym is.read)
-        (kind-fine config nexus (record { unit = r.unit; id = is.id; list = is.list }) (classify is.list.token) h)
+    read : FineAt config nexus Lacks (write_using_token config r.unit is.id (write_token_read r.out)) h
+    read = subst (λ l. FineAt config nexus Lacks (write_using_token config r.unit is.id l) h) (sym is.read)
+        (kind-fine config nexus Lacks (record { unit = r.unit; id = is.id; list = is.list }) (classify is.list.token) h)
 
-    out : (right : Bool) → FineAt config nexus (judged_out config r (Cdb.WriteUsingToken is.id is.length) (if right then None else Some parameter_list_length_error)) h
+    out : (right : Bool) → FineAt config nexus Lacks (judged_out config r (Cdb.WriteUsingToken is.id is.length) (if right then None else Some parameter_list_length_error)) h
     out true = read
-    out false = refused-fine config nexus parameter_list_length_error h refl
+    out false = refused-fine config nexus Lacks parameter_list_length_error h refl
 
-    command : FineAt config nexus (judged_cdb config r (decoded r.cdb)) h
-    command = subst (λ c. FineAt config nexus (judged_cdb config r c) h) (sym is.command) (out (length r.out == is.length))
+    command : FineAt config nexus Lacks (judged_cdb config r (decoded r.cdb)) h
+    command = subst (λ c. FineAt config nexus Lacks (judged_cdb config r c) h) (sym is.command) (out (length r.out == is.length))
 
-    whole : (b : Bool) → FineAt config nexus (cond b (judged_cdb config r (decoded r.cdb)) (refused logical_unit_not_supported)) h
+    whole : (b : Bool) → FineAt config nexus Lacks (cond b (judged_cdb config r (decoded r.cdb)) (refused logical_unit_not_supported)) h
     whole true = command
-    whole false = refused-fine config nexus logical_unit_not_supported h refl
+    whole false = refused-fine config nexus Lacks logical_unit_not_supported h refl
 
 -- ---- all
 
@@ -220,10 +220,14 @@ well-fine os (Step.Done reply) well = go well
     go (inl good) = not-check reply (ap key_of good.1)
     go (inr stop) = λ same. over-key (sym stop.1 ∙ same)
 
-pub writes-are-not-stopped : (config : Configuration) → WritesAreNotStopped config
-writes-are-not-stopped config nexus r before os is run = go (gave_up os) (has_started os) refl refl
+pub not-stopped : (config : Configuration) (nexus : ℕ) (Lacks : Lacking) (r : Request) (before : List Entry) (os : List Outcome)
+    → IsWriteNow r → RunsIn config nexus Lacks (program config r) before os → IsNotStopped (step config nexus r os)
+not-stopped config nexus Lacks r before os is run = go (gave_up os) (has_started os) refl refl
   where
     go : (a b : Bool) → gave_up os ≡ a → has_started os ≡ b → IsNotStopped (step config nexus r os)
     go true b gave started_so = gave-up-fine (program config r) os (program-open config r) gave
-    go false true gave started_so = well-fine os (step config nexus r os) (writes-end-well config nexus r before os is run gave started_so)
-    go false false gave started_so = command-fine config nexus r before is os run gave started_so
+    go false true gave started_so = well-fine os (step config nexus r os) (ends-well config nexus Lacks r before os is run gave started_so)
+    go false false gave started_so = command-fine config nexus Lacks r before is os run gave started_so
+
+pub writes-are-not-stopped : (config : Configuration) → WritesAreNotStopped config
+writes-are-not-stopped config nexus r before os is run = not-stopped config nexus LacksAny r before os is run

@@ -12,5 +12,7 @@ pub mod Honest
 pub mod Short
 pub mod InHistory
 pub mod WriteEnds
+pub mod WriteStarts
 pub mod Exchanges
 pub mod Conversations
+pub mod Asking

@@ -6,8 +6,8 @@ mod runs;
 mod step;
 
 pub use laws::{
-    busy_at_once_law, conversation_law, honest_law, short_law, write_ends_well_law,
-    write_is_not_stopped_law,
+    asks_law, busy_at_once_law, conversation_law, give_up_law, honest_law, short_law, started_law,
+    write_ends_well_law, write_is_not_stopped_law,
 };
-pub use runs::Runs;
+pub use runs::{Runs, Unsettled};
 pub use step::{Outcome, Step};

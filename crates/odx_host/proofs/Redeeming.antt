@@ -56,7 +56,7 @@ pub rod-shown : (config : Configuration) (all front behind front_r behind_r : Li
 rod-shown config all front behind front_r behind_r e r unit id timeout serial target ranges text list legal whole on act made named low whole_r on_r act_r rod =
     let taken = take-whole front (e ∷ behind) all whole in
     let taken_r = take-whole front_r (r ∷ behind_r) all whole_r in
-    let promise = token_law config all (length front_r) r text target list legal (record {
+    let promise = token_law config all (length front_r) r text target list (record {
       at = at-whole front_r behind_r all r whole_r;
       redeems = act_r;
       answered =

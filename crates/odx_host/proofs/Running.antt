@@ -81,6 +81,7 @@ module _ (config : Configuration) (all more : List Entry) where
     folded = f.folded;
     folds = f.folds;
     full = f.full;
+    serving = f.serving;
   }
 
   grows-more : (c : Call) (outcome : Outcome) (before : List Entry) (L M : List Entry → Type 0) → ((h : List Entry) → L h → M h)

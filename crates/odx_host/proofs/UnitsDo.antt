@@ -1,6 +1,6 @@
 -- One more act of a port's units
-use Rattle.std.proofs.Common.{◌≡◌, ℕ, ◌+◌, ◌<◌, List, [], ◌∷◌, ◌++◌, length, refl, ap, sym, ◌∙◌, subst, arith, true, false, Bool, append-nil, append_assoc, slice_set, slice_get}
-use Rattle.std.specs.Prelude.{cond, ◌==◌, Some, map, filter, max, slice_index_or}
+use Rattle.std.proofs.Common.{◌≡◌, ℕ, ◌+◌, ◌-◌, ◌^◌, ◌<◌, List, [], ◌∷◌, ◌++◌, length, refl, ap, sym, ◌∙◌, subst, arith, true, false, Bool, append-nil, append_assoc, slice_set, slice_get}
+use Rattle.std.specs.Prelude.{cond, ◌==◌, is_some, Some, map, filter, max, slice_index_or}
 use Rattle.std.proofs.lemmas.List.{length-map, get_or_read}
 use Rattle.std.proofs.lemmas.List.Elements.{filter-append}
 use Rattle.std.proofs.lemmas.Option.{slice_get_read}
@@ -12,6 +12,7 @@ use Rattle.cm_history.specs.declared.act.Entry.{Entry}
 use Rattle.cm_history.specs.declared.answer.Answer.{Answer}
 use Rattle.cm_history.specs.Answers.{answer_after}
 use Rattle.cm_history.specs.Deeds.{last_stamp, same_actor}
+use Rattle.cm_history.specs.Operations.{would_serve}
 use Rattle.cm_history.specs.Forms.{HasForm}
 use Rattle.cm_history.specs.History.{on, past_of, answer}
 use Rattle.cm_history.specs.Legal.{may_ask}
@@ -108,9 +109,20 @@ module _ (config : Configuration) (h : List Entry) (s : UnitsAt) (items : List U
   same-list place y is same =
       ap (λ i. map unfolded (slice_set items i y)) is ∙ ap (λ z. map unfolded (slice_set items u z)) same ∙ ap (map unfolded) (set-same items u x at) ∙ sym shown
 
+  -- where it serves an operation, no stamp is left
+  serving-by : actor ≡ Actor.Nexus host → (whole.serves_operation x x.kept actor act ≡ true → max s.stamp x.image.last_stamp ≡ 2 ^ 64 - 1)
+      → x.image.last_stamp ≡ last_stamp (whole.past x x.kept) → is_some (would_serve (past_of config u (on u h)) (Actor.Nexus host) act) ≡ true
+      → max (last_stamp_of (entries_by host h)) (last_stamp (past_of config u (on u h))) ≡ 2 ^ 64 - 1
+  serving-by by serves shown serving =
+      ap (λ n. max n (last_stamp (past_of config u (on u h)))) (sym after.stamp)
+      ∙ ap (max s.stamp) (sym (shown ∙ ap last_stamp (past-is ∙ sym (past_of-on config u h))))
+      ∙ serves (subst (λ a. is_some (would_serve (past (unfolded x)) a act) ≡ true) (sym by)
+      (subst (λ p. is_some (would_serve p (Actor.Nexus host) act) ≡ true) (past_of-on config u h ∙ sym past-is) serving))
+
   pub full-by : actor ≡ Actor.Nexus host → whole.is_full_at x x.kept actor s.stamp act ≡ true
+      → (whole.serves_operation x x.kept actor act ≡ true → max s.stamp x.image.last_stamp ≡ 2 ^ 64 - 1) → x.image.last_stamp ≡ last_stamp (whole.past x x.kept)
       → IsFullBy config MayFold h host (entries_by host h) (call u act Outcome.Full)
-  full-by by full = record {
+  full-by by full serves last = record {
     seen = on u h;
     later = [];
     begins = append-nil (on u h);
@@ -121,6 +133,7 @@ module _ (config : Configuration) (h : List Entry) (s : UnitsAt) (items : List U
         subst (λ a. is_full (unit_of config u) 0 (past_of config u (on u h)) a (last_stamp_of (entries_by host h)) act ≡ true) by
         (ap (λ p. is_full (unit_of config u) 0 p actor (last_stamp_of (entries_by host h)) act) (past_of-on config u h)
         ∙ ap (λ n. is_full (unit_of config u) 0 (past_of config u h) actor n act) (sym after.stamp) ∙ sym (full-of s.stamp) ∙ full);
+    serving = serving-by by serves last;
   }
 
   pub next-of : actor ≡ Actor.Nexus host → (stamp n : ℕ) (found : Answer) → found ≡ answer x.config x.kept x.unit actor 0 act

@@ -3,7 +3,7 @@ ghost use Rattle.unit_runs.specs.Places.{IsFirst};
 
 use cm_base::{Config, OutOfMemory};
 use cm_history::{Act, ActRefused, Actor, Answer};
-use cmd_program::Runs;
+use cmd_program::{Runs, Unsettled};
 use std::alloc::Global;
 use std::marker::Model;
 use unit_core::Unit;
@@ -68,6 +68,11 @@ impl Runs for UnitRuns {
 
     ghost StandsFor = { StandsFor };
 
+    // Its units lie in memory alone, and nothing of them is to outlive it.
+    ghost Settled = { λ _. Unit {0} };
+
+    ghost unsettled = { λ _. 0 };
+
     fn nexus(&self) -> u32 {
         self.nexus
     }
@@ -79,5 +84,9 @@ impl Runs for UnitRuns {
         self.stamp = latest + 1;
         self.seq += 1;
         Ok(answer)
+    }
+
+    fn settle(&mut self) -> Result<(), Unsettled> {
+        Ok(())
     }
 }

@@ -26,11 +26,13 @@ fn are_read(config: &Config, unit: u16, count: u32, list: &BlockList) -> bool
         && list.blocks() == u64::from(count)
 }
 
-/// The blocks may be what a token is redeemed for.
-fn is_rod(config: &Config, target: u16, rod: &BlockList) -> bool
-    ensures { result ≡ true → IsRod config.now target rod.now }
+/// The blocks may be what a token of a unit is redeemed for.
+fn is_rod(config: &Config, unit: u16, target: u16, rod: &BlockList) -> bool
+    ensures { result ≡ true → IsRod config.now unit target rod.now }
 {
-    config.is_configured(target)
+    config.is_configured(unit)
+        && config.unit(unit).block_length == rod.block_length()
+        && config.is_configured(target)
         && config.unit(target).block_length == rod.block_length()
         && rod.blocks() <= 1_048_576
 }
@@ -93,7 +95,7 @@ fn has_form(config: &Config, unit: u16, act: &Act, answer: &Answer) -> bool
             are_read(config, unit, *count, list)
         }
         (Act::MapStatus { .. }, Answer::Status(runs)) => runs.len() <= 64,
-        (Act::Redeem { target, .. }, Answer::Rod(rod)) => is_rod(config, *target, rod),
+        (Act::Redeem { target, .. }, Answer::Rod(rod)) => is_rod(config, unit, *target, rod),
         (Act::Report { .. }, Answer::Report(report)) => is_made(report),
         (Act::PrKeys, Answer::Keys { keys, .. }) => keys.len() <= 64,
         _ => has_kind(act, answer),

@@ -149,6 +149,7 @@ returns-in-Err-Full-clause-done c = λ config history h.
     let have = subst (AreAfter config history) (sym c.self.view_is) h in
     let same = one-config c.requires.config config c.requires.stand.history history s c.args.unit after have c.requires.askable.configured in
     let y = c.act.new.self in (
-      full-by config history s items c.args.unit x by c.args.act have refl at own refl (c.in-Err-Full.ensures.full c.in-Err-Full.field-0-is x.kept own.stands),
+      full-by config history s items c.args.unit x by c.args.act have refl at own refl (c.in-Err-Full.ensures.full c.in-Err-Full.field-0-is x.kept own.stands)
+          (c.in-Err-Full.ensures.serves c.in-Err-Full.field-0-is x.kept own.stands) (sym c.last_stamp.ensures.shown ∙ c.last_stamp.ensures.told x.kept own.stands),
       after-same config history s _ (ap (λ l. record s { units = l }) (same-list config history s items c.args.unit x by c.args.act have refl at own c.from.result y c.from.ensures c.in-Err-Full.ensures.refused)) have,
     )
