@@ -8,7 +8,7 @@ ghost use Rattle.refusing_runs.specs.Refusals.{is_refused, takes_memory, refused
 
 use cm_base::CallList;
 use cm_history::{Act, ActRefused, Answer};
-use cmd_program::Runs;
+use cmd_program::{Runs, Unsettled};
 use std::marker::Model;
 
 /// A nexus over another one, which is refused memory at the calls whose numbers are listed (own profile).
@@ -71,6 +71,10 @@ impl<R: Runs> Runs for Refusing<R> {
 
     ghost StandsFor = { λ n calls. (done : List Call) × R.StandsFor n.inner done × HasRefusals done calls };
 
+    ghost Settled = { λ n. R.Settled n.inner };
+
+    ghost unsettled = { λ n. R.unsettled n.inner };
+
     fn nexus(&self) -> u32 {
         self.inner.nexus()
     }
@@ -82,6 +86,7 @@ impl<R: Runs> Runs for Refusing<R> {
         ensures made { (calls : List Call) → ⟦<Refusing<R> as Runs>⟧.StandsFor self.old calls
             → ⟦<Refusing<R> as Runs>⟧.StandsFor self.new (called calls unit moment act result) }
         ensures form { IfOk result (λ a. HasForm (R.config self.old.inner) unit act a) }
+        ensures unsettled { R.unsettled self.new.inner ≡ R.unsettled self.old.inner }
         ensures config { R.config self.new.inner ≡ R.config self.old.inner }
         ensures number { R.number self.new.inner ≡ R.number self.old.inner }
         ensures refused { is_refused self.old.failing self.old.calls act ≡ true
@@ -98,5 +103,10 @@ impl<R: Runs> Runs for Refusing<R> {
             return Err(ActRefused::OutOfMemory);
         }
         self.inner.run(unit, moment, act)
+    }
+
+    /// Settles the inner nexus.
+    fn settle(&mut self) -> Result<(), Unsettled> {
+        self.inner.settle()
     }
 }

@@ -10,20 +10,22 @@ use Rattle.std.proofs.lemmas.List.{map-append}
 use Rattle.std.proofs.lemmas.List.Elements.{All-append, All-from_recursion}
 use Rattle.std.proofs.lemmas.Bool.Decides.{nat_tests}
 use Rattle.cm_base.specs.Configuration.{Configuration}
-use Rattle.cm_base.specs.Outside.{IsBeginning}
+use Rattle.cm_base.specs.Outside.{Faulted, IsBeginning}
 use Rattle.cm_frame.specs.declared.frame.Request.{Request}
 use Rattle.cm_frame.specs.declared.frame.Reply.{Reply}
+use Rattle.byteorder.specs.Endian.{big_bytes}
+use Rattle.scsi_sense.specs.SenseBytes.{sense_bytes}
 use Rattle.cm_frame.specs.Grammar.{reply_bytes}
 use Rattle.cmd_program.specs.Running.{Call}
 use Rattle.cmd_program.specs.Judging.{step}
 use Rattle.session.specs.declared.end.SessionFault.{SessionFault}
-use Rattle.session.specs.declared.end.SessionFault.TheVariants.{ReadFault, WriteFault, Torn, BadFrame, Frames, OutOfMemory}
+use Rattle.session.specs.declared.end.SessionFault.TheVariants.{ReadFault, WriteFault, Torn, BadFrame, Frames, OutOfMemory, Unsettled}
 use Rattle.cm_base.specs.Sides.{IsCut}
 use Rattle.cm_frame.specs.Framing.{frames_limit}
 use Rattle.cmd_program.specs.Exchanges.{Exchange, IsExchange, requests_of, calls_in, calls_of, replies_of}
-use Rattle.session.specs.Spoken.{ArePushed, whole_in, Spoken, IsCounted}
-use Rattle.session.proofs.Hearing.{heard-first}
-use Rattle.session.specs.inner.Talking.{IsHeard, IsHeardTo, HasReplied, IsAt, IsWriteEnd, ended, fault_of}
+use Rattle.session.specs.Spoken.{IsFront, AreAllButLast, ArePushed, AreSettled, whole_in, Spoken, IsCounted, AreSettlesCounted}
+use Rattle.session.proofs.Hearing.{heard-first, heard-front}
+use Rattle.session.specs.inner.Talking.{IsHeard, IsHeardTo, HasReplied, IsAt, IsWriteEnd, IsSettledBy, ended, fault_of}
 
 -- ---- replies that are whole
 
@@ -58,21 +60,71 @@ whole-all xs =
 
 -- ---- the end
 
-pushed-all : (replies : List ℕ) (fault : Option SessionFault) → ArePushed replies replies fault
-pushed-all replies None = refl
-pushed-all replies (Some ReadFault) = refl
-pushed-all replies (Some WriteFault) = ([], append-nil replies)
-pushed-all replies (Some Torn) = refl
-pushed-all replies (Some BadFrame) = refl
-pushed-all replies (Some Frames) = refl
-pushed-all replies (Some OutOfMemory) = ([], append-nil replies)
+-- no settle fails at such an ending
+abbrev pub NoneUnsettled : Option SessionFault → Type 0
+NoneUnsettled fault = (n : ℕ) → AreSettlesCounted n n fault
+
+none-faulted : Faulted 0 0 → ⊥
+none-faulted (inl one) = cc
+none-faulted (inr most) = let none : 0 ≡ 18446744073709551615 = most.0 in cc
+
+pushed-all : (xs : List Exchange) (fault : Option SessionFault) → NoneUnsettled fault → ArePushed xs (replies_of xs) fault
+pushed-all xs None none = refl
+pushed-all xs (Some ReadFault) none = refl
+pushed-all xs (Some WriteFault) none = ([], append-nil (replies_of xs))
+pushed-all xs (Some Torn) none = refl
+pushed-all xs (Some BadFrame) none = refl
+pushed-all xs (Some Frames) none = refl
+pushed-all xs (Some OutOfMemory) none = ([], append-nil (replies_of xs))
+pushed-all xs (Some Unsettled) none = absurd (none-faulted (none 0))
+
+settled-all : (Settled : Type 0) (xs : List Exchange) (fault : Option SessionFault) → Settled → AreSettled Settled xs fault
+settled-all Settled [] fault is = tt
+settled-all Settled (x ∷ xs) None is = is
+settled-all Settled (x ∷ xs) (Some ReadFault) is = is
+settled-all Settled (x ∷ xs) (Some WriteFault) is = is
+settled-all Settled (x ∷ xs) (Some Torn) is = is
+settled-all Settled (x ∷ xs) (Some BadFrame) is = is
+settled-all Settled (x ∷ xs) (Some Frames) is = is
+settled-all Settled (x ∷ xs) (Some OutOfMemory) is = is
+settled-all Settled (x ∷ xs) (Some Unsettled) is = tt
+
+settled-still : (Settled : Type 0) (xs : List Exchange) (fault : Option SessionFault) → AreSettled Settled xs None → AreSettled Settled xs fault
+settled-still Settled [] fault are = tt
+settled-still Settled (x ∷ xs) fault are = settled-all Settled (x ∷ xs) fault are
+
+first-some : (b : ℕ) (bs : List ℕ) → 1 ≤ length (b ∷ bs)
+first-some b bs = omega arith
+
+-- a reply has a byte
+some-bytes : (reply : Reply) → 1 ≤ length (reply_bytes reply)
+some-bytes (Reply.Good bytes) = first-some 0 (0 ∷ big_bytes 4 (length bytes) ++ bytes)
+some-bytes (Reply.Check sense) = first-some 2 (18 ∷ big_bytes 4 0 ++ sense_bytes sense)
+some-bytes Reply.Busy = first-some 8 (0 ∷ big_bytes 4 0)
+some-bytes Reply.Conflict = first-some 24 (0 ∷ big_bytes 4 0)
+some-bytes Reply.Full = first-some 40 (0 ∷ big_bytes 4 0)
+
+-- a part of a session that settles nothing
+pub write-end-settles : (e : SessionFault) → IsWriteEnd e → NoneUnsettled (Some e)
+write-end-settles e (inl is) = subst (λ f. NoneUnsettled (Some f)) (sym is) (λ n. refl)
+write-end-settles e (inr is) = subst (λ f. NoneUnsettled (Some f)) (sym is) (λ n. refl)
+
+-- the calls stand as they stood
+pub replied-still : (config : Configuration) (nexus : ℕ) (request : Request) (Shows : ℕ → Type 0) (Made Stays : List Call → Type 0) (calls : List Call) (reply : Reply)
+    → ((l : List Call) → Made l → Stays l) → HasReplied config nexus request Shows Made calls reply → HasReplied config nexus request Shows Stays calls reply
+replied-still config nexus request Shows Made Stays calls reply still r = record {
+  events = r.events;
+  is = r.is;
+  made = still (calls ++ calls_in r.events) r.made;
+  shown = r.shown;
+}
 
 module _ (config : Configuration) (nexus : ℕ) (Shows : ℕ → Type 0) (calls : List Call) (left taken : Option (List ℕ)) where
   -- no more requests come
-  pub ends-here : (Made : List Call → Type 0) (a b given : Option (List ℕ)) (frames : ℕ) (waits : List ℕ) (fault : Option SessionFault)
-      (h : IsAt config nexus Shows Made calls left a taken given frames waits) → IsHeardTo left b (requests_of h.exchanges) fault
-      → Spoken step config nexus Shows Made calls left b taken given (ended frames fault)
-  ends-here Made a b given frames waits fault h heard = record {
+  pub ends-here : (Made : List Call → Type 0) (Settled : Type 0) (a b given : Option (List ℕ)) (frames : ℕ) (waits : List ℕ) (fault : Option SessionFault)
+      (h : IsAt config nexus Shows Made Settled calls left a taken given frames waits) → NoneUnsettled fault → IsHeardTo left b (requests_of h.exchanges) fault
+      → Spoken step config nexus Shows Made Settled calls left b taken given (ended frames fault)
+  ends-here Made Settled a b given frames waits fault h none heard = record {
     exchanges = h.exchanges;
     asked = h.asked;
     made = h.made;
@@ -82,21 +134,23 @@ module _ (config : Configuration) (nexus : ℕ) (Shows : ℕ → Type 0) (calls 
     requests = heard.requests_are;
     pushed = replies_of h.exchanges;
     output = h.written;
-    replies = pushed-all (replies_of h.exchanges) fault;
+    replies = pushed-all h.exchanges fault none;
+    settled = settled-still Settled h.exchanges fault h.settled;
     frames = h.count ∙ sym (whole-all h.exchanges);
     turns = let count = h.count in omega arith;
   }
 
   -- what was pushed and counted stays
-  pub same-spoken : (Made : List Call → Type 0) (b given given' : Option (List ℕ)) (frames frames' : ℕ) (fault : Option SessionFault) → given' ≡ given → frames' ≡ frames
-      → Spoken step config nexus Shows Made calls left b taken given (ended frames fault) → Spoken step config nexus Shows Made calls left b taken given' (ended frames' fault)
-  same-spoken Made b given given' frames frames' fault same count s =
-      subst (λ x. Spoken step config nexus Shows Made calls left b taken x (ended frames' fault)) (sym same)
-      (subst (λ n. Spoken step config nexus Shows Made calls left b taken given (ended n fault)) (sym count) s)
+  pub same-spoken : (Made : List Call → Type 0) (Settled : Type 0) (b given given' : Option (List ℕ)) (frames frames' : ℕ) (fault : Option SessionFault) → given' ≡ given → frames' ≡ frames
+      → Spoken step config nexus Shows Made Settled calls left b taken given (ended frames fault) → Spoken step config nexus Shows Made Settled calls left b taken given' (ended frames' fault)
+  same-spoken Made Settled b given given' frames frames' fault same count s =
+      subst (λ x. Spoken step config nexus Shows Made Settled calls left b taken x (ended frames' fault)) (sym same)
+      (subst (λ n. Spoken step config nexus Shows Made Settled calls left b taken given (ended n fault)) (sym count) s)
 
   -- ---- one more command
 
-  module _ (Had Made : List Call → Type 0) (a given : Option (List ℕ)) (frames : ℕ) (waits : List ℕ) (h : IsAt config nexus Shows Had calls left a taken given frames waits)
+  module _ (Had : List Call → Type 0) (Was : Type 0) (Made : List Call → Type 0) (Settled : Type 0) (a given : Option (List ℕ)) (frames : ℕ) (waits : List ℕ)
+      (h : IsAt config nexus Shows Had Was calls left a taken given frames waits)
       (request : Request) (reply : Reply) (r : HasReplied config nexus request Shows Made (calls ++ calls_of h.exchanges) reply) where
     abbrev one : Exchange
     one = record { request = request; events = r.events; reply = reply }
@@ -124,9 +178,9 @@ module _ (config : Configuration) (nexus : ℕ) (Shows : ℕ → Type 0) (calls 
         subst (All (λ (c : Call). Shows c.moment)) (sym calls-all) (All-append (λ (c : Call). Shows c.moment) (calls_of h.exchanges) (calls_in r.events) h.shown r.shown)
 
     -- its reply was pushed
-    pub at-more : (b given' : Option (List ℕ)) (m : ℕ) (after : List ℕ) → suc m ≡ frames_limit - frames → IsHeard left b (requests_of h.exchanges ++ request ∷ []) m after
-        → Appends given given' (reply_bytes reply) → IsAt config nexus Shows Made calls left b taken given' (frames + 1) after
-    at-more b given' m after less heard more =
+    pub at-more : (b given' : Option (List ℕ)) (m : ℕ) (after : List ℕ) → Settled → suc m ≡ frames_limit - frames → IsHeard left b (requests_of h.exchanges ++ request ∷ []) m after
+        → Appends given given' (reply_bytes reply) → IsAt config nexus Shows Made Settled calls left b taken given' (frames + 1) after
+    at-more b given' m after safe less heard more =
         let limit : m ≡ frames_limit - (frames + 1) = omega arith in
         let size = length-append h.exchanges (one ∷ []) in
         let count = h.count in
@@ -137,6 +191,7 @@ module _ (config : Configuration) (nexus : ℕ) (Shows : ℕ → Type 0) (calls 
           shown = shown-all;
           heard = subst (λ k. IsHeard left b (requests_of all) k after) limit (subst (λ l. IsHeard left b l m after) (sym requests-all) heard);
           written = subst (Appends taken given') (sym replies-all) (Appends-trans taken given given' (replies_of h.exchanges) (reply_bytes reply) h.written more);
+          settled = settled-all Settled all None safe;
           count = omega arith;
         }
 
@@ -152,9 +207,9 @@ module _ (config : Configuration) (nexus : ℕ) (Shows : ℕ → Type 0) (calls 
         some-length (x ∷ xs) none = omega arith
 
     -- a beginning of its reply was pushed, and not all of it
-    pub ends-cut : (b given' : Option (List ℕ)) (fault : SessionFault) (front : List ℕ) → IsWriteEnd fault → IsHeardTo left b (requests_of h.exchanges ++ request ∷ []) (Some fault)
-        → Appends given given' front → IsCut front (reply_bytes reply) → Spoken step config nexus Shows Made calls left b taken given' (ended frames (Some fault))
-    ends-cut b given' fault front end heard0 more cut =
+    pub ends-cut : (b given' : Option (List ℕ)) (fault : SessionFault) (front : List ℕ) → Settled → IsWriteEnd fault → IsHeardTo left b (requests_of h.exchanges ++ request ∷ []) (Some fault)
+        → Appends given given' front → IsCut front (reply_bytes reply) → Spoken step config nexus Shows Made Settled calls left b taken given' (ended frames (Some fault))
+    ends-cut b given' fault front safe end heard0 more cut =
         let pushed = replies_of h.exchanges ++ front in
         let begins : IsBeginning pushed (replies_of all) =
         (cut.rest, append_assoc (replies_of h.exchanges) front cut.rest ∙ ap (λ l. replies_of h.exchanges ++ l) cut.whole ∙ sym replies-all) in
@@ -172,13 +227,41 @@ module _ (config : Configuration) (nexus : ℕ) (Shows : ℕ → Type 0) (calls 
           pushed = pushed;
           output = Appends-trans taken given given' (replies_of h.exchanges) front h.written more;
           replies = by-fault end begins;
+          settled = settled-all Settled all (Some fault) safe;
           frames = h.count ∙ sym (ap (λ k. whole_in k all) size ∙ whole-more h.exchanges (one ∷ []) (length front) ∙ ap (λ k. length h.exchanges + k) (none-whole one (length front) less) ∙ omega arith);
           turns = let count = h.count in let sum = length-append h.exchanges (one ∷ []) in omega arith;
         }
       where
-        by-fault : IsWriteEnd fault → IsBeginning (replies_of h.exchanges ++ front) (replies_of all) → ArePushed (replies_of all) (replies_of h.exchanges ++ front) (Some fault)
-        by-fault (inl is) begins = subst (λ f. ArePushed (replies_of all) (replies_of h.exchanges ++ front) (Some f)) (sym is) begins
-        by-fault (inr is) begins = subst (λ f. ArePushed (replies_of all) (replies_of h.exchanges ++ front) (Some f)) (sym is) begins
+        by-fault : IsWriteEnd fault → IsBeginning (replies_of h.exchanges ++ front) (replies_of all) → ArePushed all (replies_of h.exchanges ++ front) (Some fault)
+        by-fault (inl is) begins = subst (λ f. ArePushed all (replies_of h.exchanges ++ front) (Some f)) (sym is) begins
+        by-fault (inr is) begins = subst (λ f. ArePushed all (replies_of h.exchanges ++ front) (Some f)) (sym is) begins
+
+    -- it could not be settled, so nothing of its reply was pushed
+    pub ends-unsettled : (b : Option (List ℕ)) (m : ℕ) (after : List ℕ) → IsHeard left b (requests_of h.exchanges ++ request ∷ []) m after
+        → Spoken step config nexus Shows Made Settled calls left b taken given (ended frames (Some Unsettled))
+    ends-unsettled b m after heard0 =
+        let heard = heard-front left b (requests_of all) WriteFault m after (inl refl) (subst (λ l. IsHeard left b l m after) (sym requests-all) heard0) in
+        let less = some-bytes reply in
+        let none : length (replies_of h.exchanges) ≡ length (replies_of h.exchanges) + 0 = omega arith in
+        record {
+          exchanges = all;
+          asked = asked-all;
+          made = made-all;
+          shown = shown-all;
+          bytes = heard.bytes;
+          input = heard.input;
+          requests = heard.requests_are;
+          pushed = replies_of h.exchanges;
+          output = h.written;
+          replies = record { told = h.exchanges; last = one; all = refl; pushed_are = refl };
+          settled = unsettled-none all;
+          frames = h.count ∙ sym (ap (λ k. whole_in k all) none ∙ whole-more h.exchanges (one ∷ []) 0 ∙ ap (λ k. length h.exchanges + k) (none-whole one 0 less) ∙ omega arith);
+          turns = let count = h.count in let sum = length-append h.exchanges (one ∷ []) in omega arith;
+        }
+      where
+        unsettled-none : (xs : List Exchange) → AreSettled Settled xs (Some Unsettled)
+        unsettled-none [] = tt
+        unsettled-none (x ∷ xs) = tt
 
 -- ---- the beginning
 
@@ -186,15 +269,16 @@ pub appends-none : (a : Option (List ℕ)) → Appends a a []
 appends-none None = tt
 appends-none (Some xs) = sym (append-nil xs)
 
-pub at-first : (config : Configuration) (nexus : ℕ) (Shows : ℕ → Type 0) (Made : List Call → Type 0) (calls : List Call) (left taken : Option (List ℕ)) → Made calls
-    → IsAt config nexus Shows Made calls left left taken taken 0 []
-at-first config nexus Shows Made calls left taken made = record {
+pub at-first : (config : Configuration) (nexus : ℕ) (Shows : ℕ → Type 0) (Made : List Call → Type 0) (Settled : Type 0) (calls : List Call) (left taken : Option (List ℕ)) → Made calls
+    → IsAt config nexus Shows Made Settled calls left left taken taken 0 []
+at-first config nexus Shows Made Settled calls left taken made = record {
   exchanges = [];
   asked = All-from_recursion (IsExchange step config nexus) [] tt;
   made = subst Made (sym (append-nil calls)) made;
   shown = All-from_recursion (λ (c : Call). Shows c.moment) [] tt;
   heard = heard-first left;
   written = appends-none taken;
+  settled = tt;
   count = refl;
 }
 
@@ -207,6 +291,18 @@ same-reads reads reads' writes writes' fault same is = subst (λ r. IsCounted re
 pub fault-err : (r : Result Unit SessionFault) → fault_of r ≡ result_err r
 fault-err (Ok done) = refl
 fault-err (Err e) = refl
+
+-- a part that settles nothing leaves the count
+pub none-settled : (r : Result Unit SessionFault) → ((n : ℕ) → IsSettledBy n n r) → NoneUnsettled (fault_of r)
+none-settled (Ok done) none = none
+none-settled (Err e) none = none
+
+pub same-settles : (before after : ℕ) (fault : Option SessionFault) → after ≡ before → AreSettlesCounted before before fault → AreSettlesCounted before after fault
+same-settles before after fault same is = subst (λ n. AreSettlesCounted before n fault) (sym same) is
+
+-- the count stood as it was before a part that settles nothing
+pub settles-behind : (before after : ℕ) (r : Result Unit SessionFault) → after ≡ before → ((n : ℕ) → IsSettledBy n n r) → IsSettledBy before after r
+settles-behind before after r same none = subst (λ n. IsSettledBy before n r) (sym same) (none before)
 
 -- ---- two pushes
 

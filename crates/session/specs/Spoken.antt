@@ -8,7 +8,7 @@ use Rattle.cm_frame.specs.Grammar.{reply_bytes}
 use Rattle.cmd_program.specs.Running.{Call}
 use Rattle.cmd_program.specs.Stepping.{Stepping}
 use Rattle.session.specs.declared.end.SessionFault.{SessionFault}
-use Rattle.session.specs.declared.end.SessionFault.TheVariants.{ReadFault, WriteFault, Torn, BadFrame, Frames, OutOfMemory}
+use Rattle.session.specs.declared.end.SessionFault.TheVariants.{ReadFault, WriteFault, Torn, BadFrame, Frames, OutOfMemory, Unsettled}
 use Rattle.session.specs.declared.end.SessionEnd.{SessionEnd}
 use Rattle.cm_frame.specs.Framing.{Framed, Ending, framed}
 use Rattle.cmd_program.specs.Exchanges.{Exchange, IsExchange, requests_of, calls_of, replies_of}
@@ -38,12 +38,28 @@ AreRequests f requests (Some Frames) = EndsSo f requests Ending.Frames
 AreRequests f requests (Some ReadFault) = f.requests ≡ requests
 AreRequests f requests (Some WriteFault) = IsFront f requests
 AreRequests f requests (Some OutOfMemory) = IsFront f requests
+AreRequests f requests (Some Unsettled) = IsFront f requests
 
--- all replies were pushed; where a push failed or memory was wanted, a beginning of them
-abbrev pub ArePushed : List ℕ → List ℕ → Option SessionFault → Type 0
-ArePushed replies pushed (Some WriteFault) = IsBeginning pushed replies
-ArePushed replies pushed (Some OutOfMemory) = IsBeginning pushed replies
-ArePushed replies pushed _ = pushed ≡ replies
+-- the replies of all commands but the last were pushed, and nothing of that one's
+pub record AreAllButLast (exchanges : List Exchange) (pushed : List ℕ) : Type 0 where
+  pub told : List Exchange
+  pub last : Exchange
+  pub all : told ++ last ∷ [] ≡ exchanges
+  pub pushed_are : pushed ≡ replies_of told
+
+-- All replies were pushed; where a push failed or memory was wanted, a beginning of them; and where the last command could not
+-- be settled, the others.
+abbrev pub ArePushed : List Exchange → List ℕ → Option SessionFault → Type 0
+ArePushed exchanges pushed (Some WriteFault) = IsBeginning pushed (replies_of exchanges)
+ArePushed exchanges pushed (Some OutOfMemory) = IsBeginning pushed (replies_of exchanges)
+ArePushed exchanges pushed (Some Unsettled) = AreAllButLast exchanges pushed
+ArePushed exchanges pushed _ = pushed ≡ replies_of exchanges
+
+-- What the commands did is settled, if there were any; but not where the last of them could not be.
+abbrev pub AreSettled : Type 0 → List Exchange → Option SessionFault → Type 0
+AreSettled Settled [] fault = Unit {0}
+AreSettled Settled (x ∷ xs) (Some Unsettled) = Unit {0}
+AreSettled Settled (x ∷ xs) fault = Settled
 
 -- how many of these replies are whole in so many bytes
 abbrev pub whole_in : ℕ → List Exchange → ℕ
@@ -52,8 +68,8 @@ whole_in bytes (x ∷ xs) =
     if nat_le (length (reply_bytes x.reply)) bytes then suc (whole_in (bytes - length (reply_bytes x.reply)) xs) else 0
 
 -- The commands of a session: what was asked by each, at moments that are shown, and what came of it. `Made` says which
--- lists of calls the nexus stands for now; before the session it stood for `calls`.
-pub record Spoken (step : Stepping) (config : Configuration) (nexus : ℕ) (Shows : ℕ → Type 0) (Made : List Call → Type 0) (calls : List Call)
+-- lists of calls the nexus stands for now, and `Settled` that it is settled; before the session it stood for `calls`.
+pub record Spoken (step : Stepping) (config : Configuration) (nexus : ℕ) (Shows : ℕ → Type 0) (Made : List Call → Type 0) (Settled : Type 0) (calls : List Call)
     (left rest taken given : Option (List ℕ)) (end : SessionEnd) : Type 0 where
   pub exchanges : List Exchange
   -- the new calls are those that the programs of the requests asked for, one request after the other
@@ -67,7 +83,9 @@ pub record Spoken (step : Stepping) (config : Configuration) (nexus : ℕ) (Show
   -- the replies are those of the programs
   pub pushed : List ℕ
   pub output : Appends taken given pushed
-  pub replies : ArePushed (replies_of exchanges) pushed end.fault
+  pub replies : ArePushed exchanges pushed end.fault
+  -- what the commands did is settled
+  pub settled : AreSettled Settled exchanges end.fault
   pub frames : end.frames ≡ whole_in (length pushed) exchanges
   -- no command is begun before the reply of the one before it was pushed
   pub turns : length exchanges ≤ suc end.frames
@@ -79,3 +97,8 @@ abbrev pub IsCounted : ℕ → ℕ → ℕ → ℕ → Option SessionFault → T
 IsCounted reads reads_after writes writes_after (Some ReadFault) = Faulted reads reads_after × (writes_after ≡ writes)
 IsCounted reads reads_after writes writes_after (Some WriteFault) = (reads_after ≡ reads) × Faulted writes writes_after
 IsCounted reads reads_after writes writes_after _ = (reads_after ≡ reads) × (writes_after ≡ writes)
+
+-- A session ends unsettled only where a settle failed, which was counted.
+abbrev pub AreSettlesCounted : ℕ → ℕ → Option SessionFault → Type 0
+AreSettlesCounted before after (Some Unsettled) = Faulted before after
+AreSettlesCounted before after _ = after ≡ before

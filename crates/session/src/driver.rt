@@ -68,6 +68,7 @@ fn run<R: Runs, C: Clock>(
         → IsShort (program config.now request) acts_limit
         → R.StandsFor actor.old calls
         → HasReplied config.now (R.number actor.old) request (C.shows clock.now) (R.StandsFor actor.new) calls result }
+    ensures unsettled { R.unsettled actor.new ≡ R.unsettled actor.old }
     ensures config { R.config actor.new ≡ R.config actor.old }
     ensures number { R.number actor.new ≡ R.number actor.old }
     ensures fits { IsOfLength result }
@@ -97,6 +98,7 @@ pub(crate) fn answer<R: Runs, C: Clock>(
     requires short { IsShort (program config.now request) acts_limit }
     ensures replied { (calls : List Call) → R.StandsFor actor.old calls
         → HasReplied config.now (R.number actor.old) request (C.shows clock.now) (R.StandsFor actor.new) calls result }
+    ensures unsettled { R.unsettled actor.new ≡ R.unsettled actor.old }
     ensures config { R.config actor.new ≡ R.config actor.old }
     ensures number { R.number actor.new ≡ R.number actor.old }
     ensures fits { IsOfLength result }

@@ -10,13 +10,13 @@ ghost use Rattle.cm_base.specs.Sides.{IsCut};
 ghost use Rattle.cm_frame.specs.Framing.{frames_limit};
 ghost use Rattle.session.specs.Spoken.{Spoken};
 ghost use Rattle.cmd_program.specs.Short.{AreShort};
-ghost use Rattle.session.specs.inner.Talking.{IsHeard, IsHeardTo, Hears, IsAt, HasTurned, IsCountedBy, ended, fault_of, IsWriteEnd, end_of};
+ghost use Rattle.session.specs.inner.Talking.{IsHeard, IsHeardTo, Hears, IsAt, HasTurned, IsCountedBy, IsSettledBy, ended, fault_of, IsWriteEnd, end_of};
 
 use crate::driver::answer;
 use crate::end::SessionFault;
 use cm_base::{Clock, Config, FillFailed, Link, OutOfMemory, Sink, WriteFailed, push_all};
 use cm_frame::{Framed, Framer, Reply, Request, reply_head, stays_judged_law, write_reply};
-use cmd_program::Runs;
+use cmd_program::{Runs, Unsettled};
 use std::alloc::Global;
 
 /// Requests that one connection may have.
@@ -58,6 +58,16 @@ impl From<FillFailed> for SessionFault {
     }
 }
 
+impl From<Unsettled> for SessionFault {
+    ghost use Rattle.session.specs.declared.end.SessionFault.{SessionFault};
+
+    ghost from_gives = { λ _ e. e ≡ SessionFault.Unsettled };
+
+    fn from(_: Unsettled) -> SessionFault {
+        SessionFault::Unsettled
+    }
+}
+
 /// A connection that is being served.
 #[derive(Drop)]
 pub(crate) struct Talk {
@@ -96,9 +106,15 @@ fn push_gathered<K: Sink>(alloc: Global, link: &mut K, reply: &Reply) -> Result<
     Ok(())
 }
 
-/// Pushes a reply. A fault leaves a beginning of it, and not all.
-fn reply<K: Sink>(alloc: Global, link: &mut K, reply: &Reply) -> Result<(), SessionFault>
-    requires { IsOfLength reply.now }
+/// Pushes a reply of a nexus, all of whose commands are settled. A fault leaves a beginning of it, and not all.
+fn reply<K: Sink, R: Runs>(
+    alloc: Global,
+    link: &mut K,
+    _actor: &R,
+    reply: &Reply,
+) -> Result<(), SessionFault>
+    requires fits { IsOfLength reply.now }
+    requires settled { R.Settled _actor.now }
     ensures ok { OnOk result (Appends (K.taken link.old) (K.taken link.new) (reply_bytes reply.now)) }
     ensures begun { OnErr result ((front : List ℕ) × IsCut front (reply_bytes reply.now)
         × Appends (K.taken link.old) (K.taken link.new) front) }
@@ -135,6 +151,7 @@ impl Talk {
             → IsHeard left (K.left link.old) requests (frames_limit - self.old.frames) self.old.input
             → Hears left (K.left link.new) requests (frames_limit - self.old.frames) self.new.input result }
         ensures counted { (writes : ℕ) → IsCountedBy (K.read_faults link.old) (K.read_faults link.new) writes writes result }
+        ensures unsettled { (n : ℕ) → IsSettledBy n n result }
         ensures frames { self.new.frames ≡ self.old.frames }
         ensures apart { K.unpulled link.new ≡ K.unpulled link.old }
     {
@@ -169,6 +186,7 @@ impl Talk {
             → IsHeard left (K.left link.old) requests 0 self.old.input
             → IsHeardTo left (K.left link.new) requests (fault_of result) }
         ensures counted { (writes : ℕ) → IsCountedBy (K.read_faults link.old) (K.read_faults link.new) writes writes result }
+        ensures unsettled { (n : ℕ) → IsSettledBy n n result }
         ensures frames { self.new.frames ≡ self.old.frames }
         ensures apart { K.unpulled link.new ≡ K.unpulled link.old }
     {
@@ -190,9 +208,10 @@ impl Talk {
         requires config { R.config actor.old ≡ config.now }
         requires short { AreShort config.now }
         ensures turned { (calls : List Call) (left taken : Option (List ℕ))
-            → IsAt config.now (R.number actor.old) (C.shows clock.now) (R.StandsFor actor.old) calls left (K.left link.old) taken (K.taken link.old) self.old.frames self.old.input
-            → HasTurned config.now (R.number actor.old) (C.shows clock.now) (R.StandsFor actor.new) calls left (K.left link.new) taken (K.taken link.new) self.new.frames self.new.input result }
+            → IsAt config.now (R.number actor.old) (C.shows clock.now) (R.StandsFor actor.old) (R.Settled actor.old) calls left (K.left link.old) taken (K.taken link.old) self.old.frames self.old.input
+            → HasTurned config.now (R.number actor.old) (C.shows clock.now) (R.StandsFor actor.new) (R.Settled actor.new) calls left (K.left link.new) taken (K.taken link.new) self.new.frames self.new.input result }
         ensures counted { IsCountedBy (K.read_faults link.old) (K.read_faults link.new) (K.write_faults link.old) (K.write_faults link.new) result }
+        ensures settles { IsSettledBy (R.unsettled actor.old) (R.unsettled actor.new) result }
         ensures frames { IfOk result (λ more. more ≡ true → self.new.frames ≡ self.old.frames + 1) }
         ensures limit { self.new.frames ≤ frames_limit }
         ensures config { R.config actor.new ≡ R.config actor.old }
@@ -202,7 +221,8 @@ impl Talk {
             return Ok(false);
         };
         let told = answer(self.alloc, config, request, actor, clock);
-        reply(self.alloc, link, &told)?;
+        actor.settle()?;
+        reply(self.alloc, link, actor, &told)?;
         self.frames += 1;
         Ok(true)
     }
@@ -219,9 +239,10 @@ impl Talk {
         requires config { R.config actor.old ≡ config.now }
         requires short { AreShort config.now }
         ensures spoken { (calls : List Call) (left taken : Option (List ℕ))
-            → IsAt config.now (R.number actor.old) (C.shows clock.now) (R.StandsFor actor.old) calls left (K.left link.old) taken (K.taken link.old) self.old.frames self.old.input
-            → Spoken step config.now (R.number actor.old) (C.shows clock.now) (R.StandsFor actor.new) calls left (K.left link.new) taken (K.taken link.new) (ended self.new.frames (fault_of result)) }
+            → IsAt config.now (R.number actor.old) (C.shows clock.now) (R.StandsFor actor.old) (R.Settled actor.old) calls left (K.left link.old) taken (K.taken link.old) self.old.frames self.old.input
+            → Spoken step config.now (R.number actor.old) (C.shows clock.now) (R.StandsFor actor.new) (R.Settled actor.new) calls left (K.left link.new) taken (K.taken link.new) (ended self.new.frames (fault_of result)) }
         ensures counted { IsCountedBy (K.read_faults link.old) (K.read_faults link.new) (K.write_faults link.old) (K.write_faults link.new) result }
+        ensures settles { IsSettledBy (R.unsettled actor.old) (R.unsettled actor.new) result }
         ensures limit { self.new.frames ≤ frames_limit }
         ensures config { R.config actor.new ≡ R.config actor.old }
         ensures number { R.number actor.new ≡ R.number actor.old }

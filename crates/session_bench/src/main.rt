@@ -5,7 +5,7 @@
 //     session_bench replay
 //
 // `serve` reads requests and writes replies; HEADER is the header of a trace in hexadecimal. The first act is done at
-// MOMENT, and each next one so many SECONDS later. tools/random-sessions compares it with a replay.
+// MOMENT, and each next one so many SECONDS later. tools/campaigns/random-sessions compares it with a replay.
 // `session` and `replay` read their whole input, which is requests or a trace, and then serve or play it over memory;
 // they print how many replies there were, of how many bytes, and how long that took. bench/run-sessions runs both.
 #![tactic(auto)]

@@ -54,5 +54,6 @@ pub fn code_of(fault: Option<SessionFault>) -> u8 {
         Some(SessionFault::Torn) => 4,
         Some(SessionFault::BadFrame) => 7,
         Some(SessionFault::Frames) => 8,
+        Some(SessionFault::Unsettled) => 9,
     }
 }

@@ -16,7 +16,7 @@ use Rattle.cm_frame.specs.Framing.{Framed, framed, framed_from, frames_limit}
 use Rattle.cmd_program.specs.Exchanges.{Event, Exchange, AreCaused, IsExchange, outcomes_of, calls_in, requests_of, calls_of, replies_of}
 use Rattle.cmd_machine.specs.Rest.{StandsFor}
 use Rattle.any_cmds.specs.Meaning.{by_any}
-use Rattle.session.specs.Spoken.{IsInput, AreRequests, Spoken, IsCounted}
+use Rattle.session.specs.Spoken.{IsInput, AreRequests, AreSettled, Spoken, IsCounted, AreSettlesCounted}
 
 -- the command stands for a request of the nexus, in which this happened so far
 pub record IsGoing (config : Configuration) (nexus : ℕ) (request : Request) (command : CommandOf AnyPhase) (events : List Event) : Type 0 where
@@ -68,7 +68,7 @@ Hears left rest requests n waits (Ok (Some request)) = (m : ℕ) × (suc m ≡ n
 Hears left rest requests n waits (Ok None) = IsHeardTo left rest requests None
 Hears left rest requests n waits (Err e) = IsHeardTo left rest requests (Some e)
 
-pub record IsAt (config : Configuration) (nexus : ℕ) (Shows : ℕ → Type 0) (Made : List Call → Type 0) (calls : List Call)
+pub record IsAt (config : Configuration) (nexus : ℕ) (Shows : ℕ → Type 0) (Made : List Call → Type 0) (Settled : Type 0) (calls : List Call)
     (left rest taken given : Option (List ℕ)) (frames : ℕ) (waits : List ℕ) : Type 0 where
   pub exchanges : List Exchange
   pub asked : All (IsExchange step config nexus) exchanges
@@ -76,17 +76,18 @@ pub record IsAt (config : Configuration) (nexus : ℕ) (Shows : ℕ → Type 0) 
   pub shown : All (λ (c : Call). Shows c.moment) (calls_of exchanges)
   pub heard : IsHeard left rest (requests_of exchanges) (frames_limit - frames) waits
   pub written : Appends taken given (replies_of exchanges)
+  pub settled : AreSettled Settled exchanges None
   pub count : frames ≡ length exchanges
 
 abbrev pub ended : ℕ → Option SessionFault → SessionEnd
 ended frames fault = record { frames = frames; fault = fault }
 
 -- one more command was answered, or the session is at its end
-abbrev pub HasTurned : Configuration → ℕ → (ℕ → Type 0) → (List Call → Type 0) → List Call → Option (List ℕ) → Option (List ℕ) → Option (List ℕ) → Option (List ℕ)
+abbrev pub HasTurned : Configuration → ℕ → (ℕ → Type 0) → (List Call → Type 0) → Type 0 → List Call → Option (List ℕ) → Option (List ℕ) → Option (List ℕ) → Option (List ℕ)
     → ℕ → List ℕ → Result Bool SessionFault → Type 0
-HasTurned config nexus Shows Made calls left rest taken given frames waits (Ok true) = IsAt config nexus Shows Made calls left rest taken given frames waits
-HasTurned config nexus Shows Made calls left rest taken given frames waits (Ok false) = Spoken step config nexus Shows Made calls left rest taken given (ended frames None)
-HasTurned config nexus Shows Made calls left rest taken given frames waits (Err e) = Spoken step config nexus Shows Made calls left rest taken given (ended frames (Some e))
+HasTurned config nexus Shows Made Settled calls left rest taken given frames waits (Ok true) = IsAt config nexus Shows Made Settled calls left rest taken given frames waits
+HasTurned config nexus Shows Made Settled calls left rest taken given frames waits (Ok false) = Spoken step config nexus Shows Made Settled calls left rest taken given (ended frames None)
+HasTurned config nexus Shows Made Settled calls left rest taken given frames waits (Err e) = Spoken step config nexus Shows Made Settled calls left rest taken given (ended frames (Some e))
 
 abbrev pub fault_of : Result Unit SessionFault → Option SessionFault
 fault_of (Ok done) = None
@@ -96,6 +97,11 @@ fault_of (Err e) = Some e
 abbrev pub IsCountedBy : {A : Type 0} → ℕ → ℕ → ℕ → ℕ → Result A SessionFault → Type 0
 IsCountedBy {A} reads reads_after writes writes_after (Ok x) = IsCounted reads reads_after writes writes_after None
 IsCountedBy {A} reads reads_after writes writes_after (Err e) = IsCounted reads reads_after writes writes_after (Some e)
+
+-- the counts of settles that failed, by the result of a part of a session
+abbrev pub IsSettledBy : {A : Type 0} → ℕ → ℕ → Result A SessionFault → Type 0
+IsSettledBy {A} before after (Ok x) = AreSettlesCounted before after None
+IsSettledBy {A} before after (Err e) = AreSettlesCounted before after (Some e)
 
 -- a push failed, or memory was wanted
 abbrev pub IsWriteEnd : SessionFault → Type 0

@@ -25,6 +25,7 @@ acts-init g c = (
     made = subst (g.R.Runs.StandsFor c.args.actor.now) (sym (append-nil calls)) made;
     shown = All-from_recursion (λ (x : Call). g.C.Clock.shows c.args.clock.now x.moment) [] tt;
   },
+  refl,
 )
 
 pub returns-in-Done-clause-replied : goal.returns-in-Done-clause-replied
@@ -89,4 +90,5 @@ acts-preserved g c =
           (c.note.ensures.stands nexus request (outcomes_of (k.events ++ m.more)) m.is.stands) in
           asks-on config nexus request c.next_step.new.command c.note.new.self k.events c.acts.left c.in-Do.unit c.now.result c.in-Do.act c.run-found.result m
           (g.C.Clock.shows c.args.clock.now) (g.R.Runs.StandsFor c.run-found.new.self) calls so (c.run-found.ensures.made (calls ++ calls_in k.events) k.made) c.now.ensures.shown k.shown,
+      c.run-found.ensures.unsettled ∙ c.acts.invariant.5,
     )

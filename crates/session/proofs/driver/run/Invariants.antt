@@ -18,6 +18,7 @@ invariant-acts g l =
     × ((request : Request) (calls : List Call) → StandsFor by_any l.config l.initial.command (g.R.Runs.number l.initial.actor) request []
     → IsShort (program l.config request) acts_limit → g.R.Runs.StandsFor l.initial.actor calls
     → HasAsked l.config (g.R.Runs.number l.initial.actor) request (g.C.Clock.shows l.clock) (g.R.Runs.StandsFor l.actor) calls l.command l.left)
+    × (g.R.Runs.unsettled l.actor ≡ g.R.Runs.unsettled l.initial.actor)
 
 abbrev pub decreases-acts : goal.decreases-acts
 decreases-acts g l = l.left
