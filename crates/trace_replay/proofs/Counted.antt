@@ -170,7 +170,6 @@ module _ (left rest taken given : Option (List ℕ)) (p : Player) (is : IsAt lef
       shortages = is.loop.shortages ++ shortages_of item h.shortage;
       consumed = is.loop.consumed;
       stands = stood;
-      legal = h.state.units.done.legal;
       written = written;
     }
       where

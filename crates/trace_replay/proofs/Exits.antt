@@ -9,8 +9,6 @@ use Rattle.cm_base.specs.declared.parsed.Parsed.TheVariants.{Whole, Short, Bad}
 use Rattle.cm_frame.specs.Laws.{IsJudged}
 use Rattle.cm_frame.proofs.PublicLaws.{header-stays}
 use Rattle.cm_frame.specs.Reading.{read_header, read_item}
-use Rattle.cm_history.specs.Legal.{IsLegal}
-use Rattle.trace_replay.proofs.Legally.{legal-none, legal-by, history-at, header-more, first-none}
 use Rattle.trace_replay.specs.Items.{Done, Records, BadHeader, Torn, items_limit}
 use Rattle.trace_replay.specs.ReplayState.{at_first}
 use Rattle.trace_replay.specs.Played.{never_began, played_after}
@@ -26,8 +24,8 @@ use Rattle.trace_replay.specs.ReplayState.{Pending, ReplayState, Shortage, Nowhe
 use Rattle.trace_replay.specs.Played.{Played, played, played_from, shortage_for, shortages_behind, output_of, summary_of}
 use Rattle.trace_replay.specs.Shortages.{allowed_at_act, allowed_at_run, is_allowed, are_allowed, may_lack, met_want}
 use Rattle.cm_base.specs.Outside.{IsBeginning}
-use Rattle.trace_replay.specs.Replayed.{IsInput, IsReadSo, IsAnswer, HasPlayedFirst, IsCompleteBy, Replayed}
-use Rattle.trace_replay.specs.inner.Laws.{StandsAt, HasHeader}
+use Rattle.trace_replay.specs.Replayed.{IsInput, IsReadSo, IsAnswer, IsCompleteBy, Replayed}
+use Rattle.trace_replay.specs.inner.Laws.{StandsAt}
 use Rattle.trace_replay.proofs.LoopLaws.{LoopStands, ShortagesTell, known}
 use Rattle.trace_replay.proofs.Steps.{play-torn, play-done, play-records}
 use Rattle.trace_replay.proofs.Grows.{output-grows}
@@ -78,29 +76,6 @@ may-all step config pulled shortages s n place buffered more stands =
     ∙ ap (may_lack step (stands.front ++ (buffered ++ more))) (sym (append-nil shortages)) ∙ stands.may (buffered ++ more) []
     ∙ none-allowed step config s (trace_of n place (buffered ++ more)).items
 
--- the items so far alone, which are a legal history, and of whose output a beginning was pushed
-pub played-first : (step : Stepping) (config : Configuration) (pulled : List ℕ) (shortages : List Shortage) (s : ReplayState) (n place : ℕ) (buffered pushed : List ℕ)
-    → StandsAt step config pulled shortages s n place buffered → IsLegal config s.entries → IsBeginning pushed (output_of s)
-    → HasPlayedFirst step pulled shortages pushed
-played-first step config pulled shortages s n place buffered pushed stands legal begins = record {
-  front = stands.front;
-  begins = (buffered, stands.all);
-  legal = history-at config stands.front s (played step stands.front shortages) stands.header legal alone;
-  output = subst (λ t. IsBeginning pushed (output_of t)) (sym alone) begins;
-}
-  where
-    alone : (played step stands.front shortages).state ≡ s
-    alone =
-        ap (λ (p : Played). p.state)
-        (ap (λ l. played step l shortages) (sym (append-nil stands.front)) ∙ ap (played step (stands.front ++ [])) (sym (append-nil shortages))
-        ∙ stands.plays [] [] ∙ play-done step config s n place [])
-
--- the header is that of all bytes
-header-all : (step : Stepping) (config : Configuration) (pulled : List ℕ) (shortages : List Shortage) (s : ReplayState) (n place : ℕ) (buffered more : List ℕ)
-    → StandsAt step config pulled shortages s n place buffered → HasHeader config (pulled ++ more)
-header-all step config pulled shortages s n place buffered more stands =
-    header-more config pulled more (subst (HasHeader config) stands.all (header-more config stands.front buffered stands.header))
-
 pub complete-by : (step : Stepping) (bytes : List ℕ) (shortages : List Shortage) (pushed : List ℕ) (answer : Result Summary ReplayFault)
     → ShortagesTell step → may_lack step bytes shortages ≡ true → IsAnswer (played step bytes shortages) pushed answer
     → IsCompleteBy (played step bytes []) (played step bytes shortages) pushed answer
@@ -148,10 +123,6 @@ exit-at step left rest taken given config pulled shortages s n place buffered mo
       output = loop.written;
       allowed = may;
       ending = told;
-      legal = legal-by step (pulled ++ more) pulled shortages (output_of s) answer
-          (history-at config (pulled ++ more) s (played step (pulled ++ more) shortages)
-          (header-all step config pulled shortages s n place buffered more loop.stands) loop.legal (ap (λ (p : Played). p.state) all))
-          (played-first step config pulled shortages s n place buffered (output_of s) loop.stands loop.legal ([], append-nil (output_of s)));
       complete = complete-by step (pulled ++ more) shortages (output_of s) answer tells may told;
     }
 
@@ -176,16 +147,13 @@ all-input (Some x) (Some y) pulled c = sym c
 pub exit-early : (step : Stepping) (left rest taken given : Option (List ℕ)) (config : Configuration) (pulled : List ℕ) (shortages : List Shortage)
     (s : ReplayState) (n place : ℕ) (buffered pushed : List ℕ) (answer : Result Summary ReplayFault)
     → (answer ≡ Err WriteFault) ⊎ (answer ≡ Err OutOfMemory)
-    → Consumes left rest pulled → StandsAt step config pulled shortages s n place buffered → IsLegal config s.entries
+    → Consumes left rest pulled → StandsAt step config pulled shortages s n place buffered
     → IsBeginning pushed (output_of s) → Appends taken given pushed
     → Replayed step left rest taken given answer
-exit-early step left rest taken given config pulled shortages s n place buffered pushed answer why consumed stands legal begins written = go why
+exit-early step left rest taken given config pulled shortages s n place buffered pushed answer why consumed stands begins written = go why
   where
     begun : IsBeginning pushed (output_of (played step (pulled ++ known rest) shortages).state)
     begun = begun-at step config pulled shortages s n place buffered (known rest) pushed stands begins
-
-    first : HasPlayedFirst step pulled shortages pushed
-    first = played-first step config pulled shortages s n place buffered pushed stands legal begins
 
     write : Replayed step left rest taken given (Err WriteFault)
     write = record {
@@ -199,7 +167,6 @@ exit-early step left rest taken given config pulled shortages s n place buffered
       output = written;
       allowed = may-all step config pulled shortages s n place buffered (known rest) stands;
       ending = begun;
-      legal = first;
       complete = tt;
     }
 
@@ -215,7 +182,6 @@ exit-early step left rest taken given config pulled shortages s n place buffered
       output = written;
       allowed = may-all step config pulled shortages s n place buffered (known rest) stands;
       ending = begun;
-      legal = first;
       complete = tt;
     }
 
@@ -258,9 +224,6 @@ exit-header step left rest taken given bytes pulled ending answer tells ends inp
       output = written;
       allowed = none-may step bytes;
       ending = told;
-      legal = legal-by step bytes pulled [] [] answer
-          (λ config used header. subst (λ (p : Played). IsLegal config p.state.entries) (sym ends) (legal-none config))
-          (first-none step pulled []);
       complete = complete-by step bytes [] [] answer tells (none-may step bytes) told;
     }
 
@@ -278,7 +241,6 @@ memory-header step left rest taken given pulled consumed written = record {
   output = written;
   allowed = none-may step (pulled ++ known rest);
   ending = (output_of (played step (pulled ++ known rest) []).state, refl);
-  legal = first-none step pulled [];
   complete = tt;
 }
 

@@ -15,3 +15,6 @@ pub mod Machining
 mod Quiet
 mod PlayedWrites
 pub mod LoopLaws
+pub mod SoundHistory
+pub mod SaidReplies
+pub mod Belonging

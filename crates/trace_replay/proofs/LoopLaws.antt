@@ -2,7 +2,6 @@
 use Rattle.std.specs.Prelude.{◌≡◌, ℕ, ◌+◌, suc, List, [], ◌∷◌, ◌++◌, drop, true, ◌⊎◌, IsTrue, Option, Some, None}
 use Rattle.std.specs.Io.KnownBytes.{Consumes, Appends}
 use Rattle.cm_base.specs.Configuration.{Configuration}
-use Rattle.cm_history.specs.Legal.{IsLegal}
 use Rattle.cm_frame.specs.declared.item.TraceItem.{TraceItem}
 use Rattle.cm_base.specs.declared.parsed.Parsed.TheVariants.{Whole}
 use Rattle.cm_frame.specs.Reading.{read_item, read_header}
@@ -46,7 +45,6 @@ pub record LoopStands (step : Stepping) (left rest taken given : Option (List �
     (s : ReplayState) (n place : ℕ) (buffered : List ℕ) : Type 0 where
   pub consumed : Consumes left rest pulled
   pub stands : StandsAt step config pulled shortages s n place buffered
-  pub legal : IsLegal config s.entries
   pub written : Appends taken given (output_of s)
 
 -- Where a shortage stands, a reply or a waiting command shows it.

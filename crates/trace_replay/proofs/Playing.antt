@@ -28,7 +28,6 @@ use Rattle.trace_replay.specs.inner.Writing.{IsWritten, IsBegun, IsWriteFault}
 use Rattle.trace_replay.specs.inner.Machines.{IsStanding}
 use Rattle.trace_replay.proofs.Sizes.{header-used}
 use Rattle.trace_replay.proofs.Steps.{begins, grows, play-unfit, play-bad, play-torn, play-done}
-use Rattle.trace_replay.proofs.Legally.{legal-none}
 use Rattle.trace_replay.proofs.Exits.{all-input, exit-at, exit-early, exit-done, exit-torn, exit-records, exit-read, exit-header, memory-header, header-bad, header-torn}
 use Rattle.trace_replay.proofs.ShownShortages.{shortages-tell}
 
@@ -43,7 +42,7 @@ module _ (left rest taken given : Option (List ℕ)) (config : Configuration) (s
   -- other bytes wait, after others were pushed
   pub loop-written : (given' : Option (List ℕ)) (waits' : List ℕ) → IsWritten taken given' waits' (output_of s)
       → IsLoopAt left rest taken given' config s n place input waits'
-  loop-written given' waits' w = record { pulled = l.pulled; shortages = l.shortages; consumed = l.consumed; stands = l.stands; legal = l.legal; written = w }
+  loop-written given' waits' w = record { pulled = l.pulled; shortages = l.shortages; consumed = l.consumed; stands = l.stands; written = w }
 
   -- more was pulled
   pub loop-more : (rest' : Option (List ℕ)) (more input' : List ℕ) → input' ≡ input ++ more → Consumes rest rest' more
@@ -52,21 +51,20 @@ module _ (left rest taken given : Option (List ℕ)) (config : Configuration) (s
     pulled = l.pulled ++ more;
     shortages = l.shortages;
     consumed = Consumes-trans left rest rest' l.pulled more l.consumed consumed;
-    legal = l.legal;
     stands = subst (StandsAt step config (l.pulled ++ more) l.shortages s n place) (sym is) (grows step config l.pulled l.shortages s n place input more l.stands);
     written = l.written;
   }
 
   pub loop-kept : (rest' : Option (List ℕ)) → Keeps rest rest' → IsLoopAt left rest' taken given config s n place input waits
   loop-kept rest' kept =
-      record { pulled = l.pulled; shortages = l.shortages; consumed = Consumes-kept left rest rest' l.pulled l.consumed kept; stands = l.stands; legal = l.legal; written = l.written }
+      record { pulled = l.pulled; shortages = l.shortages; consumed = Consumes-kept left rest rest' l.pulled l.consumed kept; stands = l.stands; written = l.written }
 
   -- ---- the ends
 
   -- some of the output was written
   pub ends-begun : (given' : Option (List ℕ)) (e : ReplayFault) → IsBegun taken given' (output_of s) → IsWriteFault e → Replayed step left rest taken given' (Err e)
   ends-begun given' e b fault =
-      exit-early step left rest taken given' config l.pulled l.shortages s n place input b.pushed (Err e) (why fault) l.consumed l.stands l.legal b.begins b.written
+      exit-early step left rest taken given' config l.pulled l.shortages s n place input b.pushed (Err e) (why fault) l.consumed l.stands b.begins b.written
     where
       failed : ReplayFault → Result Summary ReplayFault
       failed f = Err f
@@ -81,7 +79,7 @@ module _ (left rest taken given : Option (List ℕ)) (config : Configuration) (s
 
   module _ (none : waits ≡ []) where
     pub stands : LoopStands step left rest taken given config l.pulled l.shortages s n place input
-    stands = record { consumed = l.consumed; stands = l.stands; legal = l.legal; written = flushed taken given waits (output_of s) l.written none }
+    stands = record { consumed = l.consumed; stands = l.stands; written = flushed taken given waits (output_of s) l.written none }
 
     -- all of it was written
     pub ends-bad : EndsBad config s n place input → Replayed step left rest taken given (Err (ReplayFault.BadRecord place))
@@ -106,7 +104,7 @@ module _ (left rest taken given : Option (List ℕ)) (config : Configuration) (s
     pub ends-done : IsAtEnd rest → input ≡ [] → Replayed step left rest taken given (Ok (summary_of s))
     ends-done end empty =
         exit-done step left rest taken given config l.pulled l.shortages s n place tells
-        (record { consumed = stands.consumed; stands = subst (StandsAt step config l.pulled l.shortages s n place) empty l.stands; legal = l.legal; written = stands.written }) end
+        (record { consumed = stands.consumed; stands = subst (StandsAt step config l.pulled l.shortages s n place) empty l.stands; written = stands.written }) end
 
 -- nothing was pulled
 pub ends-filling : (left rest taken given : Option (List ℕ)) (config : Configuration) (s : ReplayState) (n place : ℕ) (input waits : List ℕ)
@@ -226,7 +224,6 @@ begins-so left rest given config input used p consumed header machine summary in
         shortages = [];
         consumed = consumed;
         stands = stood;
-        legal = legal-none config;
         written = record { pushed = []; written = Appends-nil given; all = output };
       };
       machine = machine;
@@ -294,7 +291,6 @@ any-player rest given rest' given' p is = record {
     shortages = is.loop.shortages;
     consumed = tt;
     stands = is.loop.stands;
-    legal = is.loop.legal;
     written = record { pushed = is.loop.written.pushed; written = tt; all = is.loop.written.all };
   };
   machine = is.machine;

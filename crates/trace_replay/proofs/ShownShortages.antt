@@ -12,11 +12,11 @@ use Rattle.cm_frame.specs.declared.frame.Reply.{Reply}
 use Rattle.cm_frame.specs.declared.item.TraceItem.{TraceItem}
 use Rattle.cmd_program.specs.declared.step.Outcome.{Outcome}
 use Rattle.cmd_program.specs.declared.step.Step.{Step}
-use Rattle.cmd_program.specs.Stepping.{Stepping, gives_up, gave_up}
+use Rattle.cmd_program.specs.Stepping.{Stepping, gives_up, gave_up, is_no_memory}
 use Rattle.cmd_program.proofs.PublicLaws.{IsBusyAtEnd, EndsBusy}
 use Rattle.trace_replay.specs.ReplayState.{Pending, AddressedReply, ReplayState, is_of, waiting, without, noted, replied, goes_on, gone_on, next_step}
 use Rattle.trace_replay.specs.Played.{is_busy, replies_that}
-use Rattle.trace_replay.specs.Shortages.{is_no_memory, met_want}
+use Rattle.trace_replay.specs.Shortages.{met_want}
 use Rattle.cm_base.specs.declared.parsed.Parsed.{Parsed}
 use Rattle.cm_base.specs.declared.parsed.Parsed.TheVariants.{Whole, Short, Bad}
 use Rattle.cm_frame.specs.Reading.{read_header}
@@ -63,7 +63,7 @@ pub or-true : (b : Bool) → (b || true) ≡ true
 or-true true = refl
 or-true false = refl
 
-wanted-any : (p : Pending) → Wanted p → list_any is_no_memory p.outcomes ≡ true
+pub wanted-any : (p : Pending) → Wanted p → list_any is_no_memory p.outcomes ≡ true
 wanted-any p w = ap (list_any is_no_memory) (sym w.is) ∙ any-append is_no_memory w.before (Outcome.NoMemory ∷ w.after) ∙ or-true (list_any is_no_memory w.before)
 
 find-any : (i : ℕ) (f : Pending → Bool) (xs : List Pending) (p : Pending) → waiting i xs ≡ Some p → f p ≡ true → list_any f xs ≡ true
@@ -126,7 +126,7 @@ find-of i (x ∷ xs) p e = go (is_of i x) refl e (λ k. find-of i xs p k)
 
 -- ---- one command goes on
 
-wanted-more : (p : Pending) (more : List Outcome) → Wanted p → Wanted (noted p more)
+pub wanted-more : (p : Pending) (more : List Outcome) → Wanted p → Wanted (noted p more)
 wanted-more p more w = record {
   before = w.before;
   after = w.after ++ more;
@@ -245,10 +245,10 @@ begun-shows step ends config s j m request AtStep may some =
     gone_on-shows step ends config s (record { initiator = j; request = request; outcomes = Outcome.NoMemory ∷ [] })
     (record { before = []; after = []; none = refl; is = refl })
 
-wanted-at-act : (p : Pending) (outcome : Outcome) → gave_up p.outcomes ≡ false → Wanted (noted p (outcomes_at AtAct outcome))
+pub wanted-at-act : (p : Pending) (outcome : Outcome) → gave_up p.outcomes ≡ false → Wanted (noted p (outcomes_at AtAct outcome))
 wanted-at-act p outcome none = record { before = p.outcomes; after = []; none = none; is = refl }
 
-wanted-at-step : (p : Pending) (outcome : Outcome) → gave_up p.outcomes ≡ false → gives_up outcome ≡ false → Wanted (noted p (outcomes_at AtStep outcome))
+pub wanted-at-step : (p : Pending) (outcome : Outcome) → gave_up p.outcomes ≡ false → gives_up outcome ≡ false → Wanted (noted p (outcomes_at AtStep outcome))
 wanted-at-step p outcome none answered =
     record { before = p.outcomes ++ outcome ∷ []; after = []; none = none-in p.outcomes outcome none answered; is = append_assoc p.outcomes (outcome ∷ []) (Outcome.NoMemory ∷ []) }
 

@@ -12,9 +12,13 @@ use Rattle.trace_replay.specs.Items.{Done, Torn, BadRecord, Records, Trace, with
 use Rattle.trace_replay.specs.ReplayState.{ReplayState, Shortage, next, fits, at_first}
 use Rattle.trace_replay.specs.Played.{played, played_after, played_from, play, shortage_for, shortages_behind}
 use Rattle.trace_replay.specs.Shortages.{is_allowed, are_allowed, may_lack, may_lack_from, allowed_after}
+use Rattle.trace_replay.specs.inner.Laws.{HasHeader}
 use Rattle.trace_replay.proofs.LoopLaws.{shortages_of, BeginsSo, GrowsSo, StepsSo}
 use Rattle.trace_replay.proofs.Alone.{header-alone, item-alone, drop-alone}
-use Rattle.trace_replay.proofs.Legally.{header-more}
+
+-- the header of a beginning is that of the whole
+header-more : (config : Configuration) (pulled more : List ℕ) → HasHeader config pulled → HasHeader config (pulled ++ more)
+header-more config pulled more h = record { used = h.used; read = header-stays pulled more (subst IsJudged (sym h.read) tt) ∙ h.read }
 
 -- ---- one item at the front
 

@@ -72,7 +72,7 @@ on-same u entries e same = filter-append (λ (x : Entry). x.unit == u) entries (
 on-other : (u : ℕ) (entries : List Entry) (e : Entry) → (e.unit == u) ≡ false → on u (entries ++ e ∷ []) ≡ on u entries
 on-other u entries e other = filter-append (λ (x : Entry). x.unit == u) entries (e ∷ []) ∙ rw other (append-nil (on u entries))
 
-stamps-more : (config : Configuration) (entries : List Entry) (e : Entry) (u : ℕ) → e.stamp ≤ length entries + 1
+pub stamps-more : (config : Configuration) (entries : List Entry) (e : Entry) (u : ℕ) → e.stamp ≤ length entries + 1
     → last_stamp (past_of config u entries) ≤ length entries → last_stamp (past_of config u (entries ++ e ∷ [])) ≤ length (entries ++ e ∷ [])
 stamps-more config entries e u stamp before = go (e.unit == u) refl
   where

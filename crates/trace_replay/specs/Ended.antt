@@ -76,6 +76,6 @@ ended step bytes shortages = ended_after step (read_header bytes) bytes shortage
 abbrev pub reply_to : Ended → AddressedReply
 reply_to e = record { initiator = e.initiator; reply = e.reply }
 
--- a WRITE USING TOKEN without IMMED ends as promised
-abbrev pub IsKeptTo : Ended → Type 0
-IsKeptTo e = IsWriteNow e.request → EndsAsPromised e.outcomes e.reply
+-- A WRITE USING TOKEN without IMMED ends as promised: an Advance of its operation never finds the record full.
+abbrev pub IsKeptTo : Configuration → Ended → Type 0
+IsKeptTo config e = IsWriteNow e.request → EndsAsPromised ⊥ config e.request e.outcomes e.reply

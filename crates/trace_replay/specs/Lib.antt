@@ -3,6 +3,7 @@ pub mod ReplayState
 pub mod Played
 pub mod Ended
 pub mod Shortages
+pub mod Belonging
 pub mod Replayed
 pub mod Faults
 pub mod inner

@@ -51,19 +51,6 @@ IsCompleteBy free short pushed answer = IsAnswer free pushed answer ⊎ IsTrue (
 abbrev pub IsHistory : List ℕ → Played → Type 0
 IsHistory bytes p = (config : Configuration) (used : ℕ) → read_header bytes ≡ Whole config used → IsLegal config p.state.entries
 
--- The items of a beginning of what was pulled: they are a legal history, and their output begins with what was pushed.
-pub record HasPlayedFirst (step : Stepping) (pulled : List ℕ) (shortages : List Shortage) (pushed : List ℕ) : Type 0 where
-  pub front : List ℕ
-  pub begins : IsBeginning front pulled
-  pub legal : IsHistory front (played step front shortages)
-  pub output : IsBeginning pushed (output_of (played step front shortages).state)
-
--- All that was played is a legal history. Where a push failed or memory was wanted, that is said of the first items.
-abbrev pub IsLegalBy : Stepping → List ℕ → List ℕ → List Shortage → List ℕ → Result Summary ReplayFault → Type 0
-IsLegalBy step bytes pulled shortages pushed (Err WriteFault) = HasPlayedFirst step pulled shortages pushed
-IsLegalBy step bytes pulled shortages pushed (Err OutOfMemory) = HasPlayedFirst step pulled shortages pushed
-IsLegalBy step bytes pulled shortages pushed _ = IsHistory bytes (played step bytes shortages)
-
 -- The bytes, the shortages, what was pulled and what was pushed, such that the answer is that of the trace.
 pub record Replayed (step : Stepping) (left rest taken given : Option (List ℕ)) (answer : Result Summary ReplayFault) : Type 0 where
   pub bytes : List ℕ
@@ -76,7 +63,6 @@ pub record Replayed (step : Stepping) (left rest taken given : Option (List ℕ)
   pub output : Appends taken given pushed
   pub allowed : IsTrue (may_lack step bytes shortages)
   pub ending : IsAnswer (played step bytes shortages) pushed answer
-  pub legal : IsLegalBy step bytes pulled shortages pushed answer
   pub complete : IsCompleteBy (played step bytes []) (played step bytes shortages) pushed answer
 
 -- ---- the faults of the outside

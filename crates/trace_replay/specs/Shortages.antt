@@ -12,7 +12,7 @@ use Rattle.cm_base.specs.declared.parsed.Parsed.TheVariants.{Whole}
 use Rattle.cm_frame.specs.Reading.{read_header}
 use Rattle.cmd_program.specs.declared.step.Outcome.{Outcome}
 use Rattle.cmd_program.specs.declared.step.Step.{Step}
-use Rattle.cmd_program.specs.Stepping.{Stepping, gave_up}
+use Rattle.cmd_program.specs.Stepping.{Stepping, gave_up, wanted_memory}
 use Rattle.trace_replay.specs.Items.{Placed, trace_of, items_limit}
 use Rattle.trace_replay.specs.ReplayState.{Pending, ReplayState, Shortage, Nowhere, AtBegin, AtAct, AtStep, at_first, waiting, has_no_room, next_step, next, fits}
 use Rattle.trace_replay.specs.Played.{shortage_for, shortages_behind, is_busy, replies_that}
@@ -67,11 +67,6 @@ may_lack step bytes shortages = allowed_after step (read_header bytes) bytes sho
 
 -- ---- what shortages show
 
--- the outcome is want of memory
-abbrev pub is_no_memory : Outcome → Bool
-is_no_memory Outcome.NoMemory = true
-is_no_memory _ = false
-
 -- a reply is BUSY, or a command that still waits met want of memory
 abbrev pub met_want : ReplayState → Bool
-met_want s = nat_lt 0 (replies_that is_busy s) || list_any (λ (p : Pending). list_any is_no_memory p.outcomes) s.pending
+met_want s = nat_lt 0 (replies_that is_busy s) || list_any (λ (p : Pending). wanted_memory p.outcomes) s.pending

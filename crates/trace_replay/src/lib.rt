@@ -8,10 +8,12 @@ mod nexus;
 mod player;
 mod reply;
 mod summary;
+#[cfg(test)]
+mod tests;
 mod trace;
 mod units;
 
 pub use fault::ReplayFault;
-pub use laws::{played_writes_law, quiet_law};
+pub use laws::{played_is_legal_law, played_writes_law, quiet_law, shown_law};
 pub use summary::Summary;
 pub use trace::{replay, replay_with};

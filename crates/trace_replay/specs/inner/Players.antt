@@ -3,7 +3,6 @@ use Rattle.std.specs.Prelude.{◌≡◌, ℕ, ◌+◌, ◌-◌, ◌*◌, ◌<◌
 use Rattle.std.specs.Io.KnownBytes.{Consumes, IsAtEnd}
 use Rattle.cm_base.specs.Configuration.{Configuration}
 use Rattle.cm_base.specs.declared.parsed.Parsed.TheVariants.{Whole, Short}
-use Rattle.cm_history.specs.Legal.{IsLegal}
 use Rattle.cm_frame.specs.Reading.{read_item}
 use Rattle.cmd_program.specs.Judging.{step}
 use Rattle.trace_replay.specs.declared.player.Player.{Player}
@@ -22,7 +21,6 @@ pub record IsLoopAt (left rest taken given : Option (List ℕ)) (config : Config
   pub shortages : List Shortage
   pub consumed : Consumes left rest pulled
   pub stands : StandsAt step config pulled shortages s n place input
-  pub legal : IsLegal config s.entries
   pub written : IsWritten taken given output (output_of s)
 
 -- nothing was counted beyond its limit
