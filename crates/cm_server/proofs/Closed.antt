@@ -16,8 +16,8 @@ use Rattle.cm_server.specs.inner.Serving.{AreSpare}
 use Rattle.cm_server.specs.inner.Sessions.{EndedSession, AreSessions}
 use Rattle.cm_server.proofs.Joined.{joined-then, own-in}
 use Rattle.cm_server.proofs.Passing.{prefix-in, prefix-then}
-use Rattle.merged_history.proofs.PublicLaws.{In-split}
-use Rattle.merged_history.specs.Merged.{all_of, fronts, merged}
+use Rattle.merged_history.proofs.PublicLaws.{In-split, in-contains}
+use Rattle.merged_history.specs.Merged.{IsSorted, RiseBehind, all_of, fronts, merged}
 use Rattle.merged_history.specs.Own.{by}
 use Rattle.merged_history.specs.PassRules.{AreLonger}
 use Rattle.merged_history.specs.Passes.{of_unit}
@@ -40,11 +40,6 @@ in-some (h ∷ hs) e i = go (In-split h (all_of hs) e i) (in-some hs e)
     go : In e h ⊎ In e (all_of hs) → (In e (all_of hs) → (k : ℕ) × In e (of_unit hs k)) → (k : ℕ) × In e (of_unit (h ∷ hs) k)
     go (inl j) later = (0, j)
     go (inr j) later = let found = later j in (suc found.0, found.1)
-
-pub in-contains : {X : Type 0} (xs : List X) (x : X) → In x xs → Contains xs x
-in-contains [] x i = absurd i
-in-contains (y ∷ xs) x (inl e) = (0, omega arith, e)
-in-contains (y ∷ xs) x (inr i) = let c = in-contains xs x i in (suc c.0, omega (arith, c.1), c.2)
 
 -- ---- the world
 
@@ -79,6 +74,8 @@ pub record IsClosedWorld (world : WorldView) (root : RootView) (Shows : ℕ → 
   pub made : Each (λ (e : Entry). In e (all_of opening) ⊎ In e (own_of e.actor (map joined_of (all_passes spare sessions workers lasts)))) entries
   pub actors : (n : ℕ) → first ≤ n → by (Nexus n) entries ≡ own_of (Nexus n) (map joined_of (all_passes spare sessions workers lasts))
   pub ordered : IsOrdered world.config entries
+  pub sorted : IsSorted entries
+  pub apart : RiseBehind (all_of opening) entries
 
 -- what was there at the opening are the first entries
 pub fronts-are : (opening hs : List (List Entry)) → length opening ≡ length hs → AreLonger opening hs → fronts (map (λ (es : List Entry). length es) opening) hs ≡ opening
@@ -126,6 +123,8 @@ closes world Shows first made zero one two histories high spare sessions workers
           (subst (λ js. Each (λ (e : Entry). In e (all_of (fronts two.openings histories)) ⊎ In e (own_of e.actor js)) (merged histories)) joined resumed.made);
       actors = λ n low. resumed.new (Nexus n) (subst (λ os. IsNewTo (all_of os) (Nexus n)) (sym first-ones) (new-to first n (all_of zero.seen) low older)) ∙ ap (own_of (Nexus n)) joined;
       ordered = subst (λ k. IsOrdered k (merged histories)) config resumed.ordered;
+      sorted = resumed.sorted;
+      apart = subst (λ os. RiseBehind (all_of os) (merged histories)) first-ones resumed.apart;
     }
 
 module _ (world : WorldView) (root : RootView) (Shows : ℕ → Type 0) (first : ℕ) (opening seen : List (List Entry)) (entries : List Entry) (high : List (List ℕ))

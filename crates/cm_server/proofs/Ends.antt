@@ -37,6 +37,15 @@ pub out-less : (m k : ℕ) (out less : Option ℕ) → m ≡ suc k → IfSome ou
 out-less m k None less is most same = subst (λ l. IfSome l (λ n. k ≤ n)) (sym same) tt
 out-less m k (Some n) less is most same = let low : k ≤ n - 1 = omega (arith, is, most) in subst (λ l. IfSome l (λ n. k ≤ n)) (sym same) low
 
+pub out-next : (m k : ℕ) (out less : Option ℕ) → m ≡ suc k → less ≡ option_map (λ n. n - 1) out → option_map (λ n. n - k) less ≡ option_map (λ n. n - m) out
+out-next m k None less is same = ap (option_map (λ n. n - k)) same
+out-next m k (Some n) less is same = ap (option_map (λ n. n - k)) same ∙ ap Some (omega (arith, is))
+
+-- none of those that were begun is out
+pub out-all : (k : ℕ) (out : Option ℕ) → k ≡ 0 → out ≡ option_map (λ n. n - k) out
+out-all k None none = refl
+out-all k (Some n) none = ap Some (omega (arith, none))
+
 module _ {K R C : Type 0} (state : K → LinkState) (shows : C → ℕ → Type 0) (config : Configuration) (clock : C) where
   -- the first ones were joined, and these are left
   pub record EndedSoFar (world : WorldView) (first : ℕ) (starts : List Start) (before now : RootView) (gone given : Option (List Gone))

@@ -31,6 +31,7 @@ module _ (F G : Folding) (more : (unit count folded : ℕ) → F unit count fold
     folded = f.folded;
     folds = more c.unit _ f.folded f.folds;
     full = f.full;
+    serving = f.serving;
   }
 
   follow-as : (config : Configuration) (entries : List Entry) (nexus : ℕ) (earlier : List Entry) (cs : List Call) (own : List Entry)
@@ -46,7 +47,7 @@ module _ (F G : Folding) (more : (unit count folded : ℕ) → F unit count fold
       go Full own g later = (full-as config entries nexus earlier c g.0, later earlier own g.1)
       go NoMemory own g later = later earlier own g
 
-  conversation-as : (step : Stepping) (config : Configuration) (entries : List Entry) (c : Conversation) → IsConversation step config F entries c → IsConversation step config G entries c
+  pub conversation-as : (step : Stepping) (config : Configuration) (entries : List Entry) (c : Conversation) → IsConversation step config F entries c → IsConversation step config G entries c
   conversation-as step config entries c is = record { exchanged = is.exchanged; followed = follow-as config entries c.nexus [] (calls_of c.exchanges) (entries_by c.nexus entries) is.followed }
 
   module _ (step : Stepping) (config : Configuration) (Legal : List Entry → Type 0) (opening entries : List Entry) (first : ℕ) (ends : List SessionEnd) where
@@ -86,6 +87,8 @@ module _ (F G : Folding) (more : (unit count folded : ℕ) → F unit count fold
     ends = s.ends;
     legal = s.legal;
     shown = s.shown;
+    sorted = s.sorted;
+    apart = s.apart;
     idle = s.idle;
     reported = s.reported;
     links = links-as step config Legal opening s.entries first s.ends coming rest before after s.links;

@@ -1,36 +1,33 @@
 -- What is left of a world that was served, and what is told of it
-use Rattle.std.proofs.Common.{◌≡◌, ◌≢◌, ◌≤◌, ℕ, zero, suc, List, [], ◌∷◌, ◌++◌, length, refl, ap, sym, ◌∙◌, subst, arith, true, false, Bool, append-nil}
-use Rattle.std.specs.Prelude.{All, Option, Some, None, Result, Ok, Err, IfOk, map, take, drop}
-use Rattle.std.specs.Result.{result_unwrap_or}
-use Rattle.std.proofs.lemmas.List.{length-map, length-take-le, take-append-drop}
+use Rattle.std.proofs.Common.{◌≡◌, ℕ, suc, List, [], ◌∷◌, ◌++◌, length, refl, ap, sym, ◌∙◌, subst, arith, append-nil}
+use Rattle.std.specs.Prelude.{All, Option, Some, None, map}
+use Rattle.std.proofs.lemmas.List.{length-map}
 use Rattle.cm_base.specs.Configuration.{Configuration}
 use Rattle.cm_base.specs.Listening.{Gone}
 use Rattle.cm_base.specs.declared.config.UnitConfig.{UnitConfig}
 use Rattle.cm_frame.proofs.PublicLaws.{request-stays}
 use Rattle.cm_history.specs.Legal.{IsLegal}
-use Rattle.cm_history.specs.Record.{Record}
 use Rattle.cm_history.specs.declared.act.Entry.{Entry}
 use Rattle.cm_history.proofs.PublicLaws.{Each, map-append}
 use Rattle.cmd_program.specs.Conversations.{Folding, KeepsAll}
 use Rattle.cmd_program.specs.Judging.{step}
 use Rattle.cm_server.specs.Recorders.{FoldsBy}
 use Rattle.cm_server.specs.Reports.{report_text}
-use Rattle.cm_server.specs.Served.{WasServed, counts_from, unit_counts}
-use Rattle.cm_server.specs.Serving.{HasReported, IfReported, IfUnserved, Reports, ReportsKept}
-use Rattle.cm_server.specs.declared.sessions.accepting.AcceptEnd.{AcceptEnd}
+use Rattle.cm_server.specs.Served.{WasServed, unit_counts}
+use Rattle.cm_server.specs.Serving.{HasReported, IfOfStore, IfReported, IfUnserved, Reports, ReportsKept}
 use Rattle.cm_server.specs.declared.status.Status.{Status}
-use Rattle.cm_server.specs.inner.Begun.{HasFailed, WereBegun}
 use Rattle.cm_server.specs.inner.Counting.{counts_in, kept_line}
-use Rattle.cm_server.specs.inner.Left.{WereAccepted, IsClosed, IsClosedWhole}
+use Rattle.cm_server.specs.inner.Left.{IsClosed, IsClosedWhole}
 use Rattle.cm_server.specs.inner.Opened.{AreNew, IsLegalBehind, IsOlder, IsOpened, MayHold, OpenedUnit, entries_of, kins_of, new_units, opening_marks, recorders_of}
 use Rattle.cm_server.specs.inner.Recording.{finals, HaveRecordedKept, IsReckoned, AreWritable}
 use Rattle.cm_server.specs.inner.Serving.{HasServed, HasSettled}
+use Rattle.cm_server.proofs.Back.{finals-are, new-recorders}
 use Rattle.cm_server.proofs.Folds.{folded-as, none-folded}
 use Rattle.cm_server.proofs.Recorded.{all-writable}
 use Rattle.cm_server.proofs.Reporting.{served-kept}
 use Rattle.cm_server.proofs.WorldServed.{legal-as, served-as, world-recorded}
 use Rattle.merged_history.specs.Merged.{all_of}
-use Rattle.nexus.specs.Closing.{WasClosed}
+use Rattle.nexus.specs.Closing.{WasEnded}
 use Rattle.nexus.specs.Opening.{IsBegun, kins_from, no_recorder}
 use Rattle.nexus.specs.Roots.{RootView}
 use Rattle.nexus.specs.Worlds.{WorldView}
@@ -38,17 +35,12 @@ use Rattle.pass_register.specs.declared.known.Ticket.{Ticket}
 use Rattle.session.specs.declared.end.SessionEnd.{SessionEnd}
 use Rattle.unit_gate.specs.declared.kin.RecorderFacts.{RecorderFacts}
 use Rattle.unit_gate.specs.declared.recorded_unit.ClosedUnit.{ClosedUnit}
-use Rattle.unit_gate.specs.declared.recorded_unit.UnitCount.{UnitCount}
 
 -- ---- new units
 
 new-entries : (recorders : List RecorderFacts) → all_of (entries_of (new_units recorders)) ≡ []
 new-entries [] = refl
 new-entries (r ∷ rs) = new-entries rs
-
-new-recorders : (recorders : List RecorderFacts) → recorders_of (new_units recorders) ≡ recorders
-new-recorders [] = refl
-new-recorders (r ∷ rs) = ap (λ l. r ∷ l) (new-recorders rs)
 
 new-new : (recorders : List RecorderFacts) → AreNew (new_units recorders)
 new-new [] = tt
@@ -139,17 +131,17 @@ module _ (config : Configuration) (recorders : List RecorderFacts) (world : Worl
 module _ {R : Type 0} (facts : R → RecorderFacts) (fits : R → Entry → Type 0) (config : Configuration) (Shows : ℕ → Type 0)
     (coming rest : Option (List (List ℕ))) (before after : Option (List Gone)) (ends : List SessionEnd) (units : List (ClosedUnit R)) where
   -- a world that was served, settled and closed
-  pub closed-all : (opened : List OpenedUnit) (world : WorldView) (begin one two : RootView) (kept : Record) → IsOpened config opened world begin
+  pub closed-all : (opened : List OpenedUnit) (world : WorldView) (begin one two : RootView) → IsOpened config opened world begin
       → HasServed world Shows begin.made begin one coming rest before after ends → HasSettled world Shows one two
-      → WasClosed facts fits two units kept → IsClosed facts fits config opened begin.made Shows coming rest before after ends units
-  closed-all opened world begin one two kept begun served settled closed =
+      → WasEnded facts fits two units → IsClosed facts fits config opened begin.made Shows coming rest before after ends units
+  closed-all opened world begin one two begun served settled ended =
       let same : world.config ≡ config = begun.config_is in
       let here : IsOpened world.config opened world begin = subst (λ (k : Configuration). IsOpened k opened world begin) (sym same) begun in
       record {
         gates = world.gates;
         served = subst (λ (k : Configuration). WasServed step k (IsLegalBehind k opened) (FoldsBy (recorders_of opened) (finals facts units)) (all_of (entries_of opened)) begin.made Shows
             coming rest before after (λ entries told. (told ≡ ends) × IsReckoned facts fits opened world.gates units k entries)) same
-            (world-recorded facts fits request-stays world Shows opened begin one two coming rest before after ends units kept here served settled closed);
+            (world-recorded facts fits request-stays world Shows opened begin one two coming rest before after ends units here served settled ended);
       }
 
   -- of new units the history is legal, and nothing was there at the opening
@@ -208,16 +200,7 @@ told-whole config Shows coming rest before after ends units asked status taken g
     (subst (λ c. HasReported status asked taken given (length ends) (report_text ends c)) r.1
     (subst (HasReported status asked taken given (length ends)) (append-nil (report_text ends (counts_in units))) told))) c
 
--- ---- how many were accepted
-
--- why there were no more tells whether an accept failed
-pub were-accepted : (end : AcceptEnd) (failed : Bool) (asked sessions faults later : ℕ) → WereBegun end asked sessions → HasFailed end faults later
-    → end ≢ AcceptEnd.OutOfMemory → (failed ≡ true → end ≡ AcceptEnd.Failed) → (failed ≡ false → end ≢ AcceptEnd.Failed) → WereAccepted failed asked sessions faults later
-were-accepted AcceptEnd.OutOfMemory failed asked sessions faults later were has wanted has-failed not-failed = absurd (wanted refl)
-were-accepted AcceptEnd.All true asked sessions faults later were has wanted has-failed not-failed = let e = has-failed refl in cc
-were-accepted AcceptEnd.All false asked sessions faults later were has wanted has-failed not-failed = were
-were-accepted AcceptEnd.Failed true asked sessions faults later were has wanted has-failed not-failed = (were, has)
-were-accepted AcceptEnd.Failed false asked sessions faults later were has wanted has-failed not-failed = absurd (not-failed refl refl)
+-- ---- how it ended
 
 -- no pass is out, where none was out before
 pub none-out : (begin one : RootView) → begin.out ≡ [] → length one.out ≡ length begin.out → one.out ≡ []
@@ -226,8 +209,6 @@ none-out begin one none same = go one.out (same ∙ ap (λ (l : List Ticket). le
     go : (l : List Ticket) → length l ≡ 0 → l ≡ []
     go [] e = refl
     go (x ∷ l) e = absurd (omega (arith, e))
-
--- ---- recorders that come back
 
 pub if-reported : (status : Status) (P Q : Type 0) → (P → Q) → IfReported status P → IfReported status Q
 if-reported Status.Done P Q f p = f p
@@ -239,6 +220,29 @@ if-reported (Status.BadHeader place) P Q f p = tt
 if-reported (Status.BadJournal unit place) P Q f p = tt
 if-reported Status.DiskFault P Q f p = tt
 if-reported (Status.BadHistory unit entry) P Q f p = tt
+
+pub if-unserved : (status : Status) (P Q : Type 0) → (P → Q) → IfUnserved status P → IfUnserved status Q
+if-unserved Status.Done P Q f p = tt
+if-unserved Status.AcceptFault P Q f p = tt
+if-unserved Status.WriteFault P Q f p = tt
+if-unserved Status.OutOfMemory P Q f p = tt
+if-unserved Status.Usage P Q f p = f p
+if-unserved (Status.BadHeader place) P Q f p = f p
+if-unserved (Status.BadJournal unit place) P Q f p = f p
+if-unserved Status.DiskFault P Q f p = f p
+if-unserved (Status.BadHistory unit entry) P Q f p = f p
+
+-- of a store alone
+pub of-store : (status : Status) (P Q : Type 0) → (P → Q) → IfUnserved status P → IfOfStore status Q
+of-store Status.Done P Q f p = tt
+of-store Status.AcceptFault P Q f p = tt
+of-store Status.WriteFault P Q f p = tt
+of-store Status.OutOfMemory P Q f p = tt
+of-store Status.Usage P Q f p = tt
+of-store (Status.BadHeader place) P Q f p = tt
+of-store (Status.BadJournal unit place) P Q f p = f p
+of-store Status.DiskFault P Q f p = f p
+of-store (Status.BadHistory unit entry) P Q f p = f p
 
 -- a status that was served is none of those that were not
 pub served-not : (status : Status) (P : Type 0) → IfUnserved status ⊥ → IfUnserved status P
@@ -252,58 +256,22 @@ served-not (Status.BadJournal unit place) P none = absurd none
 served-not Status.DiskFault P none = absurd none
 served-not (Status.BadHistory unit entry) P none = absurd none
 
-pub ok-then : {X E : Type 0} (r : Result X E) (P Q : X → Type 0) → ((x : X) → P x → Q x) → IfOk r P → IfOk r Q
-ok-then (Ok x) P Q f p = f x p
-ok-then (Err e) P Q f p = tt
+-- ---- recorders that come back
 
--- a result, or else another value
-pub unwrapped : {X E : Type 0} (r : Result X E) (other x : X) (P : X → Type 0) → x ≡ result_unwrap_or r other → IfOk r P → P other → P x
-unwrapped (Ok y) other x P is p q = subst P (sym is) p
-unwrapped (Err e) other x P is p q = subst P (sym is) q
-
-pub ok-both : {X E : Type 0} (r : Result X E) (P Q : X → Type 0) → IfOk r P → IfOk r Q → IfOk r (λ x. P x × Q x)
-ok-both (Ok x) P Q p q = (p, q)
-ok-both (Err e) P Q p q = tt
-
-pub front-many : {X : Type 0} (xs front : List X) (n k : ℕ) → front ≡ take n xs → n ≡ k → k ≤ length xs → length front ≡ k
-front-many xs front n k is same low = ap (λ (l : List _). length l) is ∙ ap (λ i. length (take i xs)) same ∙ length-take-le k xs low
-
-pub back-again : {X : Type 0} (xs front spare : List X) (n : ℕ) → front ≡ take n xs → spare ≡ drop n xs → xs ≡ front ++ spare
-back-again xs front spare n first rest = sym (take-append-drop n xs) ∙ ap (λ l. l ++ drop n xs) (sym first) ∙ ap (λ l. front ++ l) (sym rest)
-
-counts-long : (config : Configuration) (entries : List Entry) (unit n : ℕ) → length (counts_from config entries unit n) ≡ n
-counts-long config entries unit zero = refl
-counts-long config entries unit (suc n) = ap suc (counts-long config entries (suc unit) n)
-
-module _ {R : Type 0} (facts : R → RecorderFacts) where
-  pub kept-many : (fits : R → Entry → Type 0) (us zs : List (ClosedUnit R)) (left : ℕ) → HaveRecordedKept facts fits us zs left → length zs ≡ length us
-  kept-many fits [] [] left kept = refl
-  kept-many fits [] (z ∷ zs) left kept = absurd kept
-  kept-many fits (u ∷ us) [] left kept = absurd kept
-  kept-many fits (u ∷ us) (z ∷ zs) left kept = ap suc (kept-many fits us zs kept.1 kept.5)
-
-  finals-are : (zs : List (ClosedUnit R)) → finals facts zs ≡ map facts (map (λ (u : ClosedUnit R). u.recorder) zs)
-  finals-are [] = refl
-  finals-are (z ∷ zs) = ap (λ l. facts z.recorder ∷ l) (finals-are zs)
-
-  module _ (fits : R → Entry → Type 0) (config : Configuration) (Shows : ℕ → Type 0)
-      (coming rest : Option (List (List ℕ))) (before after : Option (List Gone)) (ends : List SessionEnd) (units : List (ClosedUnit R)) where
-    pub units-many : (opened : List OpenedUnit) (first : ℕ) → IsClosed facts fits config opened first Shows coming rest before after ends units → length units ≡ length config.units
-    units-many opened first c =
-        sym (length-map units (λ (u : ClosedUnit R). u.count)) ∙ ap (λ (l : List UnitCount). length l) c.served.reported.1.counts ∙ counts-long config c.served.entries 0 (length config.units)
-
-    -- said of the recorders that were given, and of those that come back
-    pub told-back : (all front spare back : List R) (zs : List (ClosedUnit R)) (left asked first : ℕ) (status : Status) (taken given : Option (List ℕ))
-        → first ≡ 0 → all ≡ front ++ spare → back ≡ map (λ (u : ClosedUnit R). u.recorder) zs ++ spare
-        → IsClosed facts fits config (new_units (map facts front)) first Shows coming rest before after ends units → HaveRecordedKept facts fits units zs left
-        → HasReported status asked taken given (length ends) (report_text ends (counts_in zs) ++ kept_line (Some left))
-        → WasServed step config (IsLegal config) (FoldsBy (map facts all) (map facts back)) [] 0 Shows coming rest before after
-        (ReportsKept (map facts all) (map facts back) status asked config taken given)
-    told-back all front spare back zs left asked first status taken given none whole again c kept told =
-        let last = finals facts zs ++ map facts spare in
-        let given-are : map facts front ++ map facts spare ≡ map facts all = sym (map-append facts front spare) ∙ ap (map facts) (sym whole) in
-        let end : last ≡ map facts back =
-        ap (λ l. l ++ map facts spare) (finals-are zs) ∙ sym (map-append facts (map (λ (u : ClosedUnit R). u.recorder) zs) spare) ∙ ap (map facts) (sym again) in
-        subst (λ k. WasServed step config (IsLegal config) (FoldsBy (map facts all) k) [] 0 Shows coming rest before after (ReportsKept (map facts all) k status asked config taken given)) end
-        (subst (λ k. WasServed step config (IsLegal config) (FoldsBy k last) [] 0 Shows coming rest before after (ReportsKept k last status asked config taken given)) given-are
-        (told-kept facts fits config Shows coming rest before after ends units (map facts front) (map facts spare) zs left asked first status taken given none c kept told))
+module _ {R : Type 0} (facts : R → RecorderFacts) (fits : R → Entry → Type 0) (config : Configuration) (Shows : ℕ → Type 0)
+    (coming rest : Option (List (List ℕ))) (before after : Option (List Gone)) (ends : List SessionEnd) (units : List (ClosedUnit R)) where
+  -- said of the recorders that were given, and of those that come back
+  pub told-back : (all front spare back : List R) (zs : List (ClosedUnit R)) (left asked first : ℕ) (status : Status) (taken given : Option (List ℕ))
+      → first ≡ 0 → all ≡ front ++ spare → back ≡ map (λ (u : ClosedUnit R). u.recorder) zs ++ spare
+      → IsClosed facts fits config (new_units (map facts front)) first Shows coming rest before after ends units → HaveRecordedKept facts fits units zs left
+      → HasReported status asked taken given (length ends) (report_text ends (counts_in zs) ++ kept_line (Some left))
+      → WasServed step config (IsLegal config) (FoldsBy (map facts all) (map facts back)) [] 0 Shows coming rest before after
+      (ReportsKept (map facts all) (map facts back) status asked config taken given)
+  told-back all front spare back zs left asked first status taken given none whole again c kept told =
+      let last = finals facts zs ++ map facts spare in
+      let given-are : map facts front ++ map facts spare ≡ map facts all = sym (map-append facts front spare) ∙ ap (map facts) (sym whole) in
+      let end : last ≡ map facts back =
+      ap (λ l. l ++ map facts spare) (finals-are facts zs) ∙ sym (map-append facts (map (λ (u : ClosedUnit R). u.recorder) zs) spare) ∙ ap (map facts) (sym again) in
+      subst (λ k. WasServed step config (IsLegal config) (FoldsBy (map facts all) k) [] 0 Shows coming rest before after (ReportsKept (map facts all) k status asked config taken given)) end
+      (subst (λ k. WasServed step config (IsLegal config) (FoldsBy k last) [] 0 Shows coming rest before after (ReportsKept k last status asked config taken given)) given-are
+      (told-kept facts fits config Shows coming rest before after ends units (map facts front) (map facts spare) zs left asked first status taken given none c kept told))

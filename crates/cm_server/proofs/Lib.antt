@@ -23,6 +23,7 @@ pub mod Sent
 pub mod Counting
 pub mod WorldServed
 pub mod Folds
+pub mod Apart
 pub mod Recorded
 pub mod Keeping
 pub mod Reporting
@@ -39,3 +40,5 @@ pub mod Stores
 pub mod StoredOn
 pub mod StoredWorld
 pub mod Ended
+pub mod Back
+pub mod Moving

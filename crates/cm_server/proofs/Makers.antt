@@ -16,9 +16,9 @@ use Rattle.cmd_program.specs.Running.{Call}
 use Rattle.cm_server.specs.Served.{works_behind, IsIdle}
 use Rattle.cm_server.specs.inner.Pumping.{IsSomePump, IsLast, AreLast}
 use Rattle.cm_server.specs.inner.Sessions.{EndedSession, IsStart, IsSession, AreSessions}
-use Rattle.cm_server.proofs.Closed.{IsClosedWorld, IsMaker, SeesIn, Place, AtSpare, AtSession, AtWorker, AtLast, all_passes, in-contains, maker, opening-on, passes_of, place-of}
+use Rattle.cm_server.proofs.Closed.{IsClosedWorld, IsMaker, SeesIn, Place, AtSpare, AtSession, AtWorker, AtLast, all_passes, maker, opening-on, passes_of, place-of}
 use Rattle.cm_server.proofs.Passing.{prefix-in, led-ticket, led-stands, led-shown}
-use Rattle.merged_history.proofs.PublicLaws.{In-append}
+use Rattle.merged_history.proofs.PublicLaws.{In-append, in-contains}
 use Rattle.merged_history.specs.Merged.{all_of}
 use Rattle.merged_history.specs.PassRules.{AreLonger, AreSeen}
 use Rattle.merged_history.specs.Passes.{of_unit}

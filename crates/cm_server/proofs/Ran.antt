@@ -1,13 +1,15 @@
 -- The sessions, between the start and the stop of the pumps
-use Rattle.std.proofs.Common.{◌≡◌, ◌≢◌, ℕ, suc, List, [], ◌∷◌, length, refl, ap, sym, ◌∙◌, subst}
-use Rattle.std.specs.Prelude.{Option, map}
+use Rattle.std.proofs.Common.{◌≡◌, ◌≢◌, ℕ, suc, ◌+◌, ◌-◌, List, [], ◌∷◌, length, refl, ap, sym, ◌∙◌, subst, arith}
+use Rattle.std.specs.Prelude.{Option, Some, None, map, option_map}
 use Rattle.std.proofs.lemmas.List.{length-map}
 use Rattle.cm_base.specs.Configuration.{Configuration}
 use Rattle.cm_base.specs.Listening.{Gone}
 use Rattle.cm_history.proofs.PublicLaws.{Each}
+use Rattle.cm_server.specs.Serving.{IfReported}
 use Rattle.cm_server.specs.declared.serving.Ran.{Ran}
 use Rattle.cm_server.specs.declared.sessions.accepting.AcceptEnd.{AcceptEnd}
 use Rattle.cm_server.specs.declared.sessions.beginning.Begun.{Begun}
+use Rattle.cm_server.specs.declared.status.Status.{Status}
 use Rattle.cm_server.specs.inner.Begun.{AreBegun, HaveBegun, HaveEnded, WereBegun}
 use Rattle.cm_server.specs.inner.Counting.{AreCounts}
 use Rattle.cm_server.specs.inner.Links.{LinkState}
@@ -38,6 +40,40 @@ pub unless-not : (end : AcceptEnd) (P : Type 0) → end ≢ AcceptEnd.OutOfMemor
 unless-not AcceptEnd.OutOfMemory P not p = absurd (not refl)
 unless-not AcceptEnd.All P not p = p
 unless-not AcceptEnd.Failed P not p = p
+
+pub unless-wanted : (end : AcceptEnd) (P : Type 0) → end ≡ AcceptEnd.OutOfMemory → UnlessWanted end P
+unless-wanted end P is = subst (λ (e : AcceptEnd). UnlessWanted e P) (sym is) tt
+
+-- how serving ended, when what ran in the background has ended too
+pub settled-ran : (before after : Ran) (S P Q : Type 0) → UnlessWanted after.end ((after ≡ before) × S) → UnlessWanted before.end P → ((after ≡ before) → S → P → Q)
+    → UnlessWanted after.end Q
+settled-ran before after S P Q s p f = go after.end refl s
+  where
+    end-as : (e : AcceptEnd) → after.end ≡ e → after ≡ before → UnlessWanted e P
+    end-as e is same = subst (λ (k : AcceptEnd). UnlessWanted k P) (ap (λ (r : Ran). r.end) (sym same) ∙ is) p
+
+    go : (e : AcceptEnd) → after.end ≡ e → UnlessWanted e ((after ≡ before) × S) → UnlessWanted e Q
+    go AcceptEnd.OutOfMemory is t = tt
+    go AcceptEnd.All is t = f t.0 t.1 (end-as AcceptEnd.All is t.0)
+    go AcceptEnd.Failed is t = f t.0 t.1 (end-as AcceptEnd.Failed is t.0)
+
+-- what is told of it, unless memory was wanted, which the status says then
+pub told-unless : (end : AcceptEnd) (status : Status) (P Q : Type 0) → (end ≡ AcceptEnd.OutOfMemory → status ≡ Status.OutOfMemory) → UnlessWanted end P
+    → (P → IfReported status Q) → IfReported status Q
+told-unless AcceptEnd.OutOfMemory status P Q wanted p f = subst (λ (s : Status). IfReported s Q) (sym (wanted refl)) tt
+told-unless AcceptEnd.All status P Q wanted p f = f p
+told-unless AcceptEnd.Failed status P Q wanted p f = f p
+
+-- so many were begun where that is no end but the first
+pub were-all : (end : AcceptEnd) (asked sessions : ℕ) → WereBegun end asked sessions → end ≢ AcceptEnd.OutOfMemory → end ≢ AcceptEnd.Failed → sessions ≡ asked
+were-all AcceptEnd.All asked sessions were wanted failed = were
+were-all AcceptEnd.Failed asked sessions were wanted failed = absurd (failed refl)
+were-all AcceptEnd.OutOfMemory asked sessions were wanted failed = absurd (wanted refl)
+
+-- as many links are out as before
+pub links-back : (k : ℕ) (before between after : Option ℕ) → between ≡ option_map (λ n. n + k) before → after ≡ option_map (λ n. n - k) between → after ≡ before
+links-back k None between after more less = less ∙ ap (option_map (λ n. n - k)) more
+links-back k (Some n) between after more less = less ∙ ap (option_map (λ n. n - k)) more ∙ ap Some (omega arith)
 
 -- ---- the sessions
 

@@ -115,6 +115,7 @@ module _ (stays : StaysJudged read_request) (world : WorldView) (root : RootView
     requests = requests-in stays bytes fact.spoken.bytes s.link.left (requests_of fact.spoken.exchanges) s.end.fault
         (subst (λ l. IsInput l s.link.left fact.spoken.bytes s.end.fault) left fact.spoken.input) fact.spoken.requests;
     replies = fact.spoken.replies;
+    settled = fact.settled;
     frames = fact.spoken.frames;
     broken = broken-is s.link.reads s.link.writes s.end.fault
         (counted-from s.start.link.reads s.start.link.writes s.link.reads s.link.writes s.end start.link.reads start.link.writes fact.counted);

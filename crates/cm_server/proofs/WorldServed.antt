@@ -1,4 +1,4 @@
--- A world was served, settled and closed
+-- A world was served, settled and ended
 use Rattle.std.proofs.Common.{◌≡◌, ℕ, suc, List, [], ◌∷◌, length, refl, ap, sym, ◌∙◌, subst, arith}
 use Rattle.std.specs.Prelude.{Option, Some, None, map}
 use Rattle.std.proofs.lemmas.List.{length-map}
@@ -7,7 +7,6 @@ use Rattle.cm_base.specs.Listening.{Gone}
 use Rattle.cm_frame.specs.Laws.{StaysJudged}
 use Rattle.cm_frame.specs.Reading.{read_request}
 use Rattle.cm_history.specs.Legal.{IsLegal}
-use Rattle.cm_history.specs.Record.{Record}
 use Rattle.cm_history.specs.declared.act.Entry.{Entry}
 use Rattle.cm_history.proofs.PublicLaws.{Each}
 use Rattle.cmd_program.specs.Conversations.{Folding}
@@ -30,7 +29,7 @@ use Rattle.cm_server.proofs.Trailing.{FoldsSo}
 use Rattle.merged_history.specs.Merged.{all_of, merged}
 use Rattle.merged_history.specs.PassRules.{AreLonger}
 use Rattle.merged_history.specs.Passes.{of_unit}
-use Rattle.nexus.specs.Closing.{AreLeftOf, AreNone, WasClosed, marks_left}
+use Rattle.nexus.specs.Closing.{AreLeftOf, AreNone, WasEnded, marks_left}
 use Rattle.nexus.specs.Roots.{RootView, AreAtMost}
 use Rattle.nexus.specs.Worlds.{UnitGate, WorldView}
 use Rattle.session.specs.declared.end.SessionEnd.{SessionEnd}
@@ -61,6 +60,8 @@ served-as step config Legal Folds opening first Shows coming rest before after R
   ends = s.ends;
   legal = s.legal;
   shown = s.shown;
+  sorted = s.sorted;
+  apart = s.apart;
   idle = s.idle;
   reported = more s.entries s.ends s.reported;
   links = s.links;
@@ -77,6 +78,8 @@ served-by step config Legal Folds opening first Shows coming rest before after R
   ends = s.ends;
   legal = s.legal;
   shown = s.shown;
+  sorted = s.sorted;
+  apart = s.apart;
   idle = s.idle;
   reported = more s.entries s.ends s.legal s.reported;
   links = s.links;
@@ -92,6 +95,8 @@ legal-as step config Legal Other Folds opening first Shows coming rest before af
   ends = s.ends;
   legal = more s.entries s.legal;
   shown = s.shown;
+  sorted = s.sorted;
+  apart = s.apart;
   idle = s.idle;
   reported = s.reported;
   links = links-as coming rest before after s.links;
@@ -140,14 +145,14 @@ new-none (u ∷ us) new = (ap (λ (es : List Entry). length es) new.0, new-none 
 
 module _ {R : Type 0} (facts : R → RecorderFacts) (fits : R → Entry → Type 0) (stays : StaysJudged read_request) (world : WorldView) (Shows : ℕ → Type 0)
     (opened : List OpenedUnit) (zero one two : RootView) (coming rest : Option (List (List ℕ))) (before after : Option (List Gone)) (ends : List SessionEnd)
-    (units : List (ClosedUnit R)) (kept : Record) (begun : IsOpened world.config opened world zero)
+    (units : List (ClosedUnit R)) (begun : IsOpened world.config opened world zero)
     (served : HasServed world Shows zero.made zero one coming rest before after ends) (settled : HasSettled world Shows one two)
-    (closed : WasClosed facts fits two units kept) where
+    (ended : WasEnded facts fits two units) where
   abbrev first : ℕ
   first = zero.made
 
   abbrev entries : List Entry
-  entries = merged closed.histories
+  entries = merged ended.histories
 
   abbrev opening : List Entry
   opening = all_of (entries_of opened)
@@ -161,49 +166,49 @@ module _ {R : Type 0} (facts : R → RecorderFacts) (fits : R → Entry → Type
   openings-are : two.openings ≡ map (λ (es : List Entry). length es) (entries_of opened)
   openings-are = settled.joined.openings ∙ served.joined.openings ∙ ap (λ (r : RootView). r.openings) begun.root_is
 
-  left-of : AreLeftOf facts fits world.gates closed.histories units
-  left-of = subst (λ g. AreLeftOf facts fits g closed.histories units) settled.ready.of.gates closed.left
+  left-of : AreLeftOf facts fits world.gates ended.histories units
+  left-of = subst (λ g. AreLeftOf facts fits g ended.histories units) settled.ready.of.gates ended.left
 
-  long : length zero.seen ≡ length closed.histories
+  long : length zero.seen ≡ length ended.histories
   long =
       ap (λ (l : List (List Entry)). length l) seen-first ∙ length-map opened (λ (u : OpenedUnit). u.entries)
       ∙ sym (kins-long world.config 0 opened) ∙ ap (λ (l : List (Option UnitKin)). length l) (sym begun.gates) ∙ length-map world.gates (λ (g : UnitGate). g.kin)
-      ∙ left-long facts fits world.gates closed.histories units left-of
+      ∙ left-long facts fits world.gates ended.histories units left-of
 
   is-closed : IsClosedWorld world zero Shows first (entries_of opened) one.seen entries (marks_left facts fits units) served.spare served.sessions served.workers settled.lasts
   is-closed =
       subst (λ o. IsClosedWorld world zero Shows first o one.seen entries (marks_left facts fits units) served.spare served.sessions served.workers settled.lasts) seen-first
-      (closes world Shows first served.made zero one two closed.histories (marks_left facts fits units) served.spare served.sessions served.workers settled.lasts
+      (closes world Shows first served.made zero one two ended.histories (marks_left facts fits units) served.spare served.sessions served.workers settled.lasts
       served.are served.spare_are served.workers_are settled.are settled.each_unit served.joined settled.joined (ap (λ (r : RootView). r.joined) begun.root_is)
       settled.ready.of.config
       (ap (λ (r : RootView). r.openings) begun.root_is ∙ ap (λ l. map (λ (es : List Entry). length es) l) (sym seen-first)) long
       (subst (λ l. Each (IsOlder first) (all_of l)) (sym seen-first) begun.older)
-      closed.longer closed.resumed closed.marks)
+      ended.longer ended.resumed ended.marks)
 
   legal : IsLegalBehind world.config opened entries
   legal = record {
     ordered = is-closed.ordered;
-    legal = λ new. subst (λ k. IsLegal k entries) settled.ready.of.config (closed.whole (subst AreNone (sym openings-are) (new-none opened new))).legal;
+    legal = λ new. subst (λ k. IsLegal k entries) settled.ready.of.config (ended.whole (subst AreNone (sym openings-are) (new-none opened new))).legal;
   }
 
   marks-of : AreAtMost (opening_marks opened) (marks_left facts fits units)
   marks-of =
       let start : AreAtMost zero.marks (marks_left facts fits units) =
-      λ u k. (let a = served.joined.known.above u k in let b = settled.joined.known.above u k in let c = closed.marks u k in omega (arith, a, b, c)) in
+      λ u k. (let a = served.joined.known.above u k in let b = settled.joined.known.above u k in let c = ended.marks u k in omega (arith, a, b, c)) in
       subst (λ m. AreAtMost m (marks_left facts fits units)) marks-first start
 
-  longer-of : AreLonger (entries_of opened) closed.histories
+  longer-of : AreLonger (entries_of opened) ended.histories
   longer-of =
-      subst (λ o. AreLonger o closed.histories) seen-first
-      (λ u. prefix-then (of_unit zero.seen u) (of_unit one.seen u) (of_unit closed.histories u) (served.joined.known.longer u)
-      (prefix-then (of_unit one.seen u) (of_unit two.seen u) (of_unit closed.histories u) (settled.joined.known.longer u) (closed.longer u)))
+      subst (λ o. AreLonger o ended.histories) seen-first
+      (λ u. prefix-then (of_unit zero.seen u) (of_unit one.seen u) (of_unit ended.histories u) (served.joined.known.longer u)
+      (prefix-then (of_unit one.seen u) (of_unit two.seen u) (of_unit ended.histories u) (settled.joined.known.longer u) (ended.longer u)))
 
   -- how many entries of a unit may be written out, by its recorder
   pub folds : FoldsSo (FoldsBy (recorders_of opened) (finals facts units)) world.gates zero.marks (marks_left facts fits units) (length world.config.units)
   folds =
       subst (FoldsSo (FoldsBy (recorders_of opened) (finals facts units)) world.gates zero.marks (marks_left facts fits units)) begun.each_unit
       (subst (λ m. FoldsSo (FoldsBy (recorders_of opened) (finals facts units)) world.gates m (marks_left facts fits units) (length opened))
-      (sym marks-first) (folds-by facts fits world.config opened world.gates closed.histories units begun.gates begun.may left-of))
+      (sym marks-first) (folds-by facts fits world.config opened world.gates ended.histories units begun.gates begun.may left-of))
 
   -- what serving owes of a world that was served
   pub world-recorded : WasServed step world.config (IsLegalBehind world.config opened) (FoldsBy (recorders_of opened) (finals facts units)) opening first Shows coming rest before after
@@ -216,20 +221,22 @@ module _ {R : Type 0} (facts : R → RecorderFacts) (fits : R → Entry → Type
         ends = ends;
         legal = legal;
         shown = all-shown world zero Shows first (entries_of opened) one.seen entries (marks_left facts fits units) served.spare served.sessions served.workers settled.lasts w;
+        sorted = w.sorted;
+        apart = w.apart;
         idle = all-idle world zero Shows first (entries_of opened) one.seen entries (marks_left facts fits units) served.spare served.sessions served.workers settled.lasts w;
         reported = (
           refl,
           record {
-            histories = closed.histories;
-            parts = closed.resumed.parts;
+            histories = ended.histories;
+            parts = ended.resumed.parts;
             longer = longer-of;
-            rising = closed.resumed.rising;
+            rising = ended.resumed.rising;
             kins = begun.gates;
             each_unit = begun.each_unit;
             may = begun.may;
             left = left-of;
             marks = marks-of;
-            counts = counts-are facts fits world.config entries opened world.gates closed.histories units begun.gates begun.each_unit left-of closed.resumed.parts;
+            counts = counts-are facts fits world.config entries opened world.gates ended.histories units begun.gates begun.each_unit left-of ended.resumed.parts;
           },
         );
         links = subst (λ (l : List SessionEnd). IfTold coming rest before after (λ c r b a. AreServed step world.config (IsLegalBehind world.config opened) Folds opening entries first c r b a l))

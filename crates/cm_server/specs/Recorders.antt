@@ -20,9 +20,11 @@ abbrev pub FoldsBy : List RecorderFacts → List RecorderFacts → Folding
 FoldsBy before after unit count folded =
     (b : RecorderFacts) × (a : RecorderFacts) × (slice_get before unit ≡ Some b) × (slice_get after unit ≡ Some a) × MayFold b a count folded
 
--- The first `recorded` entries of a history were recorded since, where the recorder tells, and no others: all of them
--- where there is a recorder that has not failed.
+-- It is the same recorder, as far as it tells. The first `recorded` entries of a history were recorded since, where it
+-- tells, and no others: all of them where there is a recorder that has not failed.
 pub record HasRecorded (before after : RecorderFacts) (history : List Entry) (recorded : ℕ) : Type 0 where
+  pub absent : after.absent ≡ before.absent
+  pub front : after.front ≡ before.front
   pub may : MayFold before after (length history) recorded
   pub told : after.recorded ≡ with_more before.recorded (take recorded history)
 
@@ -37,3 +39,17 @@ HaveRecorded unit before after entries (r ∷ rs) =
 abbrev pub unrecorded : ℕ → List Entry → List ℕ → ℕ
 unrecorded unit entries [] = 0
 unrecorded unit entries (r ∷ rs) = length (on unit entries) - r + unrecorded (suc unit) entries rs
+
+-- It is the same recorder, as far as it tells: what it had recorded stands there still, and these entries behind it.
+pub record IsBack (before after : RecorderFacts) : Type 0 where
+  pub absent : after.absent ≡ before.absent
+  pub front : after.front ≡ before.front
+  pub faults : before.faults ≤ after.faults
+  pub more : List Entry
+  pub goes_on : after.recorded ≡ with_more before.recorded more
+
+-- each recorder is back in its place
+abbrev pub AreBack : List RecorderFacts → List RecorderFacts → Type 0
+AreBack [] [] = Unit {0}
+AreBack (b ∷ bs) (a ∷ al) = IsBack b a × AreBack bs al
+AreBack _ _ = ⊥

@@ -14,6 +14,7 @@ use Rattle.cmd_program.specs.Conversations.{Folding}
 use Rattle.cmd_program.specs.Stepping.{Stepping}
 use Rattle.cm_server.specs.Runs.{IsRun}
 use Rattle.cm_server.specs.Talks.{Talk, IsTalk, AreNumbered}
+use Rattle.merged_history.specs.Merged.{IsSorted, RiseBehind}
 use Rattle.session.specs.declared.end.SessionEnd.{SessionEnd}
 use Rattle.unit_gate.specs.declared.recorded_unit.UnitCount.{UnitCount}
 
@@ -61,12 +62,14 @@ abbrev pub IfTold : Option (List (List ℕ)) → Option (List (List ℕ)) → Op
 IfTold (Some coming) (Some rest) (Some before) (Some after) P = P coming rest before after
 IfTold _ _ _ _ P = Unit {0}
 
--- One history of all units, and how the sessions ended. `Reports` says what was pushed of them.
+-- One history of all units, in the order of the stamps, and how the sessions ended. `Reports` says what was pushed of them.
 pub record WasServed (step : Stepping) (config : Configuration) (Legal : List Entry → Type 0) (Folds : Folding) (opening : List Entry) (first : ℕ)
     (Shows : ℕ → Type 0) (coming rest : Option (List (List ℕ))) (before after : Option (List Gone)) (Reports : List Entry → List SessionEnd → Type 0) : Type 0 where
   pub entries : List Entry
   pub ends : List SessionEnd
   pub legal : Legal entries
+  pub sorted : IsSorted entries
+  pub apart : RiseBehind opening entries
   pub shown : All (λ (e : Entry). Contains opening e ⊎ Shows e.moment) entries
   pub idle : (unit : ℕ) → unit < length config.units → IsIdle config entries unit
   pub reported : Reports entries ends

@@ -1,12 +1,12 @@
 -- One connection that was served: its bytes, and its conversation
-use Rattle.std.specs.Prelude.{◌≡◌, ℕ, suc, List, [], ◌∷◌, length, Option, Some, None, Bool, true, false}
+use Rattle.std.specs.Prelude.{◌≡◌, ◌≢◌, ℕ, suc, List, [], ◌∷◌, length, Option, Some, None, Bool, true, false}
 use Rattle.cm_base.specs.Listening.{Gone}
 use Rattle.cm_frame.specs.declared.frame.Request.{Request}
 use Rattle.cm_frame.specs.Framing.{Framed, framed}
 use Rattle.cmd_program.specs.Conversations.{Conversation}
-use Rattle.cmd_program.specs.Exchanges.{requests_of, replies_of}
+use Rattle.cmd_program.specs.Exchanges.{requests_of}
 use Rattle.session.specs.declared.end.SessionFault.{SessionFault}
-use Rattle.session.specs.declared.end.SessionFault.TheVariants.{ReadFault, WriteFault, OutOfMemory}
+use Rattle.session.specs.declared.end.SessionFault.TheVariants.{ReadFault, WriteFault, OutOfMemory, Unsettled}
 use Rattle.session.specs.declared.end.SessionEnd.{SessionEnd}
 use Rattle.session.specs.Spoken.{IsFront, AreRequests, ArePushed, whole_in}
 
@@ -30,10 +30,15 @@ is_of_link (Some ReadFault) = true
 is_of_link (Some WriteFault) = true
 is_of_link _ = false
 
+-- it ended otherwise than by a command that was not settled
+abbrev pub IsSettled : Option SessionFault → Type 0
+IsSettled fault = fault ≢ Some Unsettled
+
 -- The bytes, the conversation and the end agree.
 pub record IsTalk (t : Talk) : Type 0 where
   pub requests : AreRequestsIn (framed t.coming) (requests_of t.conversation.exchanges) t.end.fault
-  pub replies : ArePushed (replies_of t.conversation.exchanges) t.gone.taken t.end.fault
+  pub replies : ArePushed t.conversation.exchanges t.gone.taken t.end.fault
+  pub settled : IsSettled t.end.fault
   pub frames : t.end.frames ≡ whole_in (length t.gone.taken) t.conversation.exchanges
   pub broken : t.gone.broken ≡ is_of_link t.end.fault
 

@@ -4,6 +4,8 @@
 
 mod asking;
 mod by_pass;
+mod laws;
+mod parting;
 mod pumps;
 mod report;
 mod served;
@@ -14,7 +16,8 @@ mod status;
 mod stored;
 mod storing;
 
+pub use laws::{served_laws, served_writes_law};
 pub use served::{RecorderList, Served, serve, serve_at, serve_with};
 pub use sessions::meet::{Meet, NoMeet};
 pub use status::Status;
-pub use stored::{DiskList, Stored, serve_stored};
+pub use stored::{DiskList, Stored, serve_stored, serve_stored_at};

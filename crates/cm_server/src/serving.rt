@@ -1,13 +1,16 @@
 // A world is served: its connections, and what goes on in the background, until nothing is left to do.
-ghost use Rattle.std.specs.Prelude.{◌≡◌, ◌≤◌, ◌+◌, [], List, length, IfOk};
+ghost use Rattle.std.specs.Prelude.{◌≡◌, ◌≤◌, ◌+◌, [], List, length, true, IfOk};
 ghost use Rattle.session.specs.declared.end.SessionEnd.{SessionEnd};
 ghost use Rattle.unit_gate.specs.Recorded.{facts};
+ghost use Rattle.cm_server.specs.Recorders.{AreBack};
+ghost use Rattle.cm_server.specs.declared.sessions.accepting.AcceptEnd.{AcceptEnd};
 ghost use Rattle.cm_server.specs.inner.Begun.{HasFailed};
-ghost use Rattle.cm_server.specs.inner.Left.{AreAccepted, IsClosed};
-ghost use Rattle.cm_server.specs.inner.Opened.{IsOpened, OpenedUnit};
-ghost use Rattle.cm_server.specs.inner.Passes.{IsReady};
+ghost use Rattle.cm_server.specs.inner.Left.{IsClosed};
+ghost use Rattle.cm_server.specs.inner.Opened.{IsOpened, OpenedUnit, recorders_of};
+ghost use Rattle.cm_server.specs.inner.Passes.{HasMoved, IsReady};
+ghost use Rattle.cm_server.specs.inner.Recording.{finals};
 ghost use Rattle.cm_server.specs.inner.Running.{HasRan, HaveTalked, UnlessWanted};
-ghost use Rattle.cm_server.specs.inner.Serving.{HasServed};
+ghost use Rattle.cm_server.specs.inner.Serving.{HasServed, HasSettled};
 
 use crate::pumps::bell::Bell;
 use crate::pumps::last::pump_all_out;
@@ -26,20 +29,31 @@ use std::sync::Wait;
 use std::thread::{self, Scope, Threads};
 use unit_gate::ClosedUnit;
 
+/// How the sessions of a world ended, and why there were no more. At `OutOfMemory` there may have been some, of which
+/// nothing is told.
+#[derive(Clone, Copy)]
+pub(crate) struct Ran {
+    pub(crate) counts: SessionCounts,
+    pub(crate) end: AcceptEnd,
+}
+
+impl Ran {
+    /// Memory was wanted before a connection was accepted.
+    fn wanted() -> Ran
+        ensures { result.end ≡ AcceptEnd.OutOfMemory }
+    {
+        Ran {
+            counts: SessionCounts::none(),
+            end: AcceptEnd::OutOfMemory,
+        }
+    }
+}
+
 /// What is left of a world that was served.
 #[derive(Drop)]
 pub(crate) struct Left<R> {
-    pub(crate) counts: SessionCounts,
-    /// An accept failed.
-    pub(crate) accept_failed: bool,
+    pub(crate) ran: Ran,
     pub(crate) units: Vec<ClosedUnit<R>>,
-}
-
-/// How the sessions of a world ended, and why there were no more.
-#[derive(Clone, Copy)]
-struct Ran {
-    counts: SessionCounts,
-    end: AcceptEnd,
 }
 
 /// Serves connections beside the pumps.
@@ -62,18 +76,16 @@ fn run_sessions<
 ) -> Ran
     requires ready { IsReady shared.now.world root.old }
     requires few { count ≤ 256 }
+    requires safe { G.SAFE ≡ true → R.EAGER ≡ true }
     requires numbers { root.old.made + count ≤ 4_294_967_295 }
     ensures talked { UnlessWanted result.end ((ends : List SessionEnd) × HasRan result count ends
         × HaveTalked shared.now.world (C.shows shared.now.clock) root.old.made root.old root.new (L.coming listener.old) (L.coming listener.new) (L.ended listener.old) (L.ended listener.new) ends) }
-    ensures ready { IsReady shared.now.world root.new }
-    ensures none_out { length root.new.out ≡ length root.old.out }
+    ensures moved { HasMoved shared.now.world root.old root.new }
     ensures failed { HasFailed result.end (L.accept_faults listener.old) (L.accept_faults listener.new) }
+    ensures links { L.out listener.new ≡ L.out listener.old }
 {
     let Ok(mut begun) = VecDeque::with_capacity(shared.alloc, count as usize) else {
-        return Ran {
-            counts: SessionCounts::none(),
-            end: AcceptEnd::OutOfMemory,
-        };
+        return Ran::wanted();
     };
     let first = root.next_nexus();
     let end = accept_all(scope, shared, root, listener, first, count, &mut begun);
@@ -102,23 +114,21 @@ fn run_all<
     requires ready { IsReady shared.now.world root.old }
     requires alone { root.old.out ≡ [] }
     requires few { count ≤ 256 }
+    requires safe { G.SAFE ≡ true → R.EAGER ≡ true }
     requires numbers { root.old.made + count ≤ 4_294_967_295 }
     ensures served { UnlessWanted result.end ((ends : List SessionEnd) × HasRan result count ends
         × HasServed shared.now.world (C.shows shared.now.clock) root.old.made root.old root.new (L.coming listener.old) (L.coming listener.new) (L.ended listener.old) (L.ended listener.new) ends) }
-    ensures ready { UnlessWanted result.end (IsReady shared.now.world root.new) }
+    ensures moved { HasMoved shared.now.world root.old root.new }
     ensures failed { HasFailed result.end (L.accept_faults listener.old) (L.accept_faults listener.new) }
+    ensures links { L.out listener.new ≡ L.out listener.old }
 {
-    let none = Ran {
-        counts: SessionCounts::none(),
-        end: AcceptEnd::OutOfMemory,
-    };
     let units = usize::from(shared.config.units());
     let Ok(mut workers) = VecDeque::with_capacity(shared.alloc, units) else {
-        return none;
+        return Ran::wanted();
     };
     let ran = match start_all(scope, shared, root, &mut workers) {
         Ok(()) => run_sessions(scope, shared, root, listener, count),
-        Err(OutOfMemory) => none,
+        Err(OutOfMemory) => Ran::wanted(),
     };
     stop_all(shared, root, workers);
     ran
@@ -145,13 +155,15 @@ fn run_scoped<
     requires ready { IsReady shared.now.world root.now }
     requires alone { root.now.out ≡ [] }
     requires few { count ≤ 256 }
+    requires safe { G.SAFE ≡ true → R.EAGER ≡ true }
     requires numbers { root.now.made + count ≤ 4_294_967_295 }
     ensures listener { result.0.ghost_name ≡ listener.entry.ghost_name }
     ensures root { result.1.ghost_name ≡ root.entry.ghost_name }
     ensures served { UnlessWanted result.2.end ((ends : List SessionEnd) × HasRan result.2 count ends
         × HasServed shared.now.world (C.shows shared.now.clock) root.entry.now.made root.entry.now result.1.now (L.coming listener.entry.now) (L.coming result.0.now) (L.ended listener.entry.now) (L.ended result.0.now) ends) }
-    ensures ready { UnlessWanted result.2.end (IsReady shared.now.world result.1.now) }
+    ensures moved { HasMoved shared.now.world root.entry.now result.1.now }
     ensures failed { HasFailed result.2.end (L.accept_faults listener.entry.now) (L.accept_faults result.0.now) }
+    ensures links { L.out result.0.now ≡ L.out listener.entry.now }
 {
     thread::scope(
         thread::scope_env(),
@@ -160,13 +172,15 @@ fn run_scoped<
             requires ready { IsReady shared.now.world root.now }
             requires alone { root.now.out ≡ [] }
             requires few { count ≤ 256 }
+            requires safe { G.SAFE ≡ true → R.EAGER ≡ true }
             requires numbers { root.now.made + count ≤ 4_294_967_295 }
             ensures listener { result.0.ghost_name ≡ listener.entry.ghost_name }
             ensures root { result.1.ghost_name ≡ root.entry.ghost_name }
             ensures served { UnlessWanted result.2.end ((ends : List SessionEnd) × HasRan result.2 count ends
                 × HasServed shared.entry.now.world (C.shows shared.entry.now.clock) root.entry.now.made root.entry.now result.1.now (L.coming listener.entry.now) (L.coming result.0.now) (L.ended listener.entry.now) (L.ended result.0.now) ends) }
-            ensures ready { UnlessWanted result.2.end (IsReady shared.entry.now.world result.1.now) }
+            ensures moved { HasMoved shared.entry.now.world root.entry.now result.1.now }
             ensures failed { HasFailed result.2.end (L.accept_faults listener.entry.now) (L.accept_faults result.0.now) }
+            ensures links { L.out result.0.now ≡ L.out listener.entry.now }
         {
             let ran = run_all(scope, shared, root, listener, count);
             (listener, root, ran)
@@ -186,11 +200,13 @@ fn run_threads<
     requires ready { IsReady shared.now.world root.old }
     requires alone { root.old.out ≡ [] }
     requires few { count ≤ 256 }
+    requires safe { G.SAFE ≡ true → R.EAGER ≡ true }
     requires numbers { root.old.made + count ≤ 4_294_967_295 }
     ensures served { UnlessWanted result.end ((ends : List SessionEnd) × HasRan result count ends
         × HasServed shared.now.world (C.shows shared.now.clock) root.old.made root.old root.new (L.coming listener.old) (L.coming listener.new) (L.ended listener.old) (L.ended listener.new) ends) }
-    ensures ready { UnlessWanted result.end (IsReady shared.now.world root.new) }
+    ensures moved { HasMoved shared.now.world root.old root.new }
     ensures failed { HasFailed result.end (L.accept_faults listener.old) (L.accept_faults listener.new) }
+    ensures links { L.out listener.new ≡ L.out listener.old }
 {
     let (_, _, ran) = run_scoped(shared, root, listener, count);
     ran
@@ -207,9 +223,32 @@ fn bells(alloc: Global, count: u16, rung: bool) -> Result<Vec<Bell>, OutOfMemory
     Ok(bells)
 }
 
+/// Ends what runs in the background, unless memory was wanted before, and tells how serving ends then.
+fn settle<R: Recorder + Drop, C: Clock + Drop, G: Meet, W: Wait>(
+    shared: &Shared<'_, R, C, G, W>,
+    root: &mut Root<R>,
+    ran: Ran,
+) -> Ran
+    requires ready { IsReady shared.now.world root.old }
+    requires alone { root.old.out ≡ [] }
+    ensures settled { UnlessWanted result.end ((result ≡ ran) × HasSettled shared.now.world (C.shows shared.now.clock) root.old root.new) }
+    ensures moved { HasMoved shared.now.world root.old root.new }
+{
+    if let AcceptEnd::OutOfMemory = ran.end {
+        return ran;
+    }
+    match pump_all_out(shared, root) {
+        Ok(()) => ran,
+        Err(OutOfMemory) => Ran {
+            counts: ran.counts,
+            end: AcceptEnd::OutOfMemory,
+        },
+    }
+}
+
 /// Serves so many connections of a world, each in a thread of its own, and beside them pumps what goes on in the
-/// background. When all were served and nothing goes on any more, the world is closed. Where it goes on with histories,
-/// each pump begins at once, since operations may run.
+/// background, until nothing goes on any more. Where the world goes on with histories, each pump begins at once, since
+/// operations may run. Where memory is wanted serving ends early; the world is ended and its units come back anyway.
 pub(crate) fn serve_world<
     K: Link + Send + Drop,
     L: Listener<Conn = K>,
@@ -228,18 +267,27 @@ pub(crate) fn serve_world<
     clock: C,
     meet: &G,
     goes_on: bool,
-) -> Result<Left<R>, OutOfMemory>
+) -> Left<R>
     requires opened { (units : List OpenedUnit) × IsOpened config units world root }
     requires few { count ≤ 256 }
     requires numbers { root.made + count ≤ 4_294_967_295 }
-    ensures { (units : List OpenedUnit) → IsOpened config units world root
-        → IfOk result (λ left. (ends : List SessionEnd)
-        × AreAccepted count (L.accept_faults listener.old) (L.accept_faults listener.new) ends left.counts left.accept_failed
+    requires safe { G.SAFE ≡ true → R.EAGER ≡ true }
+    ensures served { (units : List OpenedUnit) → IsOpened config units world root
+        → UnlessWanted result.ran.end ((ends : List SessionEnd) × HasRan result.ran count ends
         × IsClosed (facts R.recorded R.record_faults R.absent R.front) R.fits config units root.made (C.shows clock) (L.coming listener.old)
-        (L.coming listener.new) (L.ended listener.old) (L.ended listener.new) ends left.units.items) }
+        (L.coming listener.new) (L.ended listener.old) (L.ended listener.new) ends result.units.items) }
+    ensures failed { UnlessWanted result.ran.end (HasFailed result.ran.end (L.accept_faults listener.old) (L.accept_faults listener.new)) }
+    ensures back { (units : List OpenedUnit) → IsOpened config units world root
+        → AreBack (recorders_of units) (finals (facts R.recorded R.record_faults R.absent R.front) result.units.items) }
+    ensures links { L.out listener.new ≡ L.out listener.old }
 {
     let mut root = root;
-    let bells = bells(alloc, config.units(), goes_on)?;
+    let Ok(bells) = bells(alloc, config.units(), goes_on) else {
+        return Left {
+            ran: Ran::wanted(),
+            units: world.end(root),
+        };
+    };
     let shared = Shared {
         rt,
         alloc,
@@ -250,17 +298,10 @@ pub(crate) fn serve_world<
         meet,
     };
     let ran = run_threads(&shared, &mut root, listener, count);
-    if let AcceptEnd::OutOfMemory = ran.end {
-        return Err(OutOfMemory);
-    }
-    pump_all_out(&shared, &mut root)?;
+    let ran = settle(&shared, &mut root, ran);
     let Shared { world, .. } = shared;
-    match world.close(alloc, root) {
-        Ok(closed) => Ok(Left {
-            counts: ran.counts,
-            accept_failed: ran.end.has_failed(),
-            units: closed.units,
-        }),
-        Err(_) => Err(OutOfMemory),
+    Left {
+        ran,
+        units: world.end(root),
     }
 }

@@ -1,4 +1,4 @@
-// Serving, over links in memory and over sockets, refused and stored. The crate has tests alone.
+// Serving, over links in memory, refused and stored. The crate has tests alone.
 #![tactic(auto)]
 
 #[cfg(test)]

@@ -1,16 +1,14 @@
 -- What is left of a world that was served
-use Rattle.std.specs.Prelude.{◌≡◌, ◌<◌, ℕ, List, [], length, Option, Bool, true, false}
+use Rattle.std.specs.Prelude.{◌≡◌, ℕ, List, [], Option}
 use Rattle.cm_base.specs.Configuration.{Configuration}
 use Rattle.cm_base.specs.Listening.{Gone}
-use Rattle.cm_base.specs.Outside.{Faulted}
 use Rattle.cm_history.specs.Legal.{IsLegal}
 use Rattle.cm_history.specs.declared.act.Entry.{Entry}
 use Rattle.cmd_program.specs.Conversations.{KeepsAll}
 use Rattle.cmd_program.specs.Judging.{step}
 use Rattle.cm_server.specs.Recorders.{FoldsBy}
 use Rattle.cm_server.specs.Served.{WasServed, unit_counts}
-use Rattle.cm_server.specs.declared.report.counts.SessionCounts.{SessionCounts}
-use Rattle.cm_server.specs.inner.Counting.{AreCounts, counts_in}
+use Rattle.cm_server.specs.inner.Counting.{counts_in}
 use Rattle.cm_server.specs.inner.Opened.{IsLegalBehind, OpenedUnit, entries_of, recorders_of}
 use Rattle.cm_server.specs.inner.Recording.{finals, IsReckoned}
 use Rattle.merged_history.specs.Merged.{all_of}
@@ -18,16 +16,6 @@ use Rattle.nexus.specs.Worlds.{UnitGate}
 use Rattle.session.specs.declared.end.SessionEnd.{SessionEnd}
 use Rattle.unit_gate.specs.declared.kin.RecorderFacts.{RecorderFacts}
 use Rattle.unit_gate.specs.declared.recorded_unit.ClosedUnit.{ClosedUnit}
-
--- as many sessions were served as were asked for, or fewer, where an accept failed
-abbrev pub WereAccepted : Bool → ℕ → ℕ → ℕ → ℕ → Type 0
-WereAccepted true asked sessions faults faults_after = (sessions < asked) × Faulted faults faults_after
-WereAccepted false asked sessions faults faults_after = sessions ≡ asked
-
--- the sessions that ended so are counted, and so many of them were accepted
-pub record AreAccepted (asked faults faults_after : ℕ) (ends : List SessionEnd) (counts : SessionCounts) (accept_failed : Bool) : Type 0 where
-  pub counts_are : AreCounts ends counts
-  pub were : WereAccepted accept_failed asked (length ends) faults faults_after
 
 -- what is served of a world of this configuration, which began so, until it is closed
 pub record IsClosed {R : Type 0} (facts : R → RecorderFacts) (fits : R → Entry → Type 0) (config : Configuration) (opened : List OpenedUnit) (first : ℕ)

@@ -1,7 +1,7 @@
 -- A world that is served, step by step
 use Rattle.std.specs.Prelude.{◌≡◌, ℕ, List, [], ◌++◌, length, map, Option}
 use Rattle.cm_base.specs.Listening.{Gone}
-use Rattle.cm_history.proofs.PublicLaws.{Each}
+use Rattle.cm_history.specs.Members.{Each}
 use Rattle.cm_server.specs.inner.Links.{HaveCome, HaveGone}
 use Rattle.cm_server.specs.inner.Passes.{IsReady, HasJoined}
 use Rattle.cm_server.specs.inner.Pumping.{IsSomePump, AreLast}

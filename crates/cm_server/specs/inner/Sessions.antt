@@ -4,6 +4,7 @@ use Rattle.cm_base.specs.Configuration.{Configuration}
 use Rattle.cm_history.specs.declared.act.Actor.{Actor}
 use Rattle.cmd_program.specs.Judging.{step}
 use Rattle.cmd_program.specs.Running.{Call}
+use Rattle.cm_server.specs.Talks.{IsSettled}
 use Rattle.cm_server.specs.inner.Links.{LinkState, IsUnfailed}
 use Rattle.cm_server.specs.inner.Passes.{IsNew}
 use Rattle.cm_server.specs.inner.Trails.{Led}
@@ -27,8 +28,9 @@ pub record EndedSession : Type 0 where
 -- The fact that the join of a session hands on: its own calls led its pass from where it was begun to where it is, and its
 -- own link took the replies of its own requests. It names no other session.
 pub record IsSession (config : Configuration) (Shows : ℕ → Type 0) (nexus : ℕ) (s : EndedSession) : Type 0 where
-  pub spoken : Spoken step config nexus Shows (λ (calls : List Call). Led s.start.pass calls s.pass) []
+  pub spoken : Spoken step config nexus Shows (λ (calls : List Call). Led s.start.pass calls s.pass) (Unit {0}) []
       s.start.link.left s.link.left s.start.link.taken s.link.taken s.end
+  pub settled : IsSettled s.end.fault
   pub counted : IsCounted s.start.link.reads s.link.reads s.start.link.writes s.link.writes s.end.fault
 
 -- the session of this nexus was begun with a new pass, on a link that had not failed

@@ -1,5 +1,5 @@
 // Connections are accepted, and a session of each is begun.
-ghost use Rattle.std.specs.Prelude.{◌≡◌, ◌≤◌, ◌<◌, ◌+◌, [], List, suc, length, option_map, IfOk, IfErr, ◌≢◌, true, false};
+ghost use Rattle.std.specs.Prelude.{◌≡◌, ◌≤◌, ◌<◌, ◌+◌, [], List, suc, length, option_map, IfOk, IfErr, ◌≢◌, true};
 ghost use Rattle.std.specs.VecDeque.{deque_capacity};
 ghost use Rattle.cm_server.specs.declared.sessions.accepting.AcceptEnd.{AcceptEnd};
 ghost use Rattle.cm_server.specs.inner.Begun.{HasBegun, HasNotBegun, HaveBegun, HasFailed, IsBegun, AreBegun, WereBegun};
@@ -26,16 +26,6 @@ pub(crate) enum AcceptEnd {
     Failed,
     /// Memory was wanted.
     OutOfMemory,
-}
-
-impl AcceptEnd {
-    /// Whether an accept failed.
-    pub(crate) fn has_failed(self) -> bool
-        ensures failed { result ≡ true → self ≡ AcceptEnd.Failed }
-        ensures other { result ≡ false → self ≢ AcceptEnd.Failed }
-    {
-        matches!(self, AcceptEnd::Failed)
-    }
 }
 
 impl From<OutOfMemory> for AcceptEnd {
@@ -67,6 +57,7 @@ fn accept_one<
     number: u32,
 ) -> Result<Begun<K, R, C>, AcceptEnd>
     requires ready { IsReady shared.now.world root.old }
+    requires safe { G.SAFE ≡ true → R.EAGER ≡ true }
     requires number { root.old.made ≡ number }
     requires few { number < 4_294_967_295 }
     ensures begun { IfOk result (λ b. (s : Start)
@@ -112,6 +103,7 @@ pub(crate) fn accept_all<
     begun: &mut VecDeque<Begun<K, R, C>>,
 ) -> AcceptEnd
     requires ready { IsReady shared.now.world root.old }
+    requires safe { G.SAFE ≡ true → R.EAGER ≡ true }
     requires first { root.old.made ≡ first }
     requires few { first + count ≤ 4_294_967_295 }
     requires none { begun.old.items ≡ [] }

@@ -1,5 +1,5 @@
 // One session: how it is begun, and what comes back of it.
-ghost use Rattle.std.specs.Prelude.{◌≡◌, Some, ℕ};
+ghost use Rattle.std.specs.Prelude.{◌≡◌, Some, ℕ, true};
 ghost use Rattle.cm_base.specs.Configuration.{Configuration};
 ghost use Rattle.cm_history.specs.declared.act.Actor.{Actor};
 ghost use Rattle.cm_server.specs.inner.Begun.{HasEnded, IsBegun, session_of};
@@ -7,7 +7,7 @@ ghost use Rattle.cm_server.specs.inner.Links.{link_state};
 ghost use Rattle.cm_server.specs.inner.Passes.{IsFree};
 ghost use Rattle.cm_server.specs.inner.Sessions.{Start};
 
-use crate::by_pass::{ByPass, Origin};
+use crate::by_pass::{ByPass, Origin, Safety};
 use crate::sessions::meet::{Meet, Met};
 use crate::shared::Shared;
 use cm_base::{Clock, Link};
@@ -61,6 +61,7 @@ fn talk<B: Origin, K: Link + Drop, R: Recorder + Drop, C: Clock + Drop, G: Meet,
     number: u32,
 ) -> Ended<K, R>
     requires first { B.first ≡ Some pass }
+    requires safe { G.SAFE ≡ true → R.EAGER ≡ true }
     requires free { IsFree shared.now.world pass }
     requires actor { pass.ticket.actor ≡ Actor.Nexus number }
     ensures { HasEnded shared.now.config (C.shows shared.now.clock) number
@@ -68,12 +69,17 @@ fn talk<B: Origin, K: Link + Drop, R: Recorder + Drop, C: Clock + Drop, G: Meet,
         (link_state K.left K.taken K.read_faults K.write_faults result.link) result.pass result.end) }
 {
     let mut link = Met::new(link, shared.meet, number);
-    let mut actor: ByPass<'_, B, R, W> = ByPass {
+    let mut actor: ByPass<'_, B, R, G, W> = ByPass {
         rt: shared.rt,
+        meet: shared.meet,
         world: &shared.world,
         bells: &shared.bells,
         number,
         pass,
+        safety: Safety {
+            recorder: PhantomData,
+            meet: PhantomData,
+        },
         began: PhantomData,
     };
     let end = session(
@@ -99,6 +105,7 @@ fn run<K: Link + Drop, R: Recorder + Drop, C: Clock + Drop, G: Meet, W: Wait>(
     pass: Pass<R>,
     number: u32,
 ) -> Ended<K, R>
+    requires safe { G.SAFE ≡ true → R.EAGER ≡ true }
     requires free { IsFree shared.now.world pass }
     requires actor { pass.ticket.actor ≡ Actor.Nexus number }
     ensures { HasEnded shared.now.config (C.shows shared.now.clock) number
@@ -125,6 +132,7 @@ pub(crate) fn begin<
     pass: Pass<R>,
     number: u32,
 ) -> Begun<K, R, C>
+    requires safe { G.SAFE ≡ true → R.EAGER ≡ true }
     requires free { IsFree shared.now.world pass }
     requires actor { pass.ticket.actor ≡ Actor.Nexus number }
     ensures { IsBegun (link_state K.left K.taken K.read_faults K.write_faults) C.shows shared.now.config shared.now.clock number
@@ -137,6 +145,7 @@ pub(crate) fn begin<
         number,
     };
     let session = move || -> Ended<K, R>
+        requires safe { G.SAFE ≡ true → R.EAGER ≡ true }
         requires free { IsFree shared.now.world pass }
         requires actor { pass.ticket.actor ≡ Actor.Nexus number }
         ensures { HasEnded shared.entry.now.config (C.shows shared.entry.now.clock) number

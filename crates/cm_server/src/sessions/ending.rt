@@ -44,6 +44,7 @@ pub(crate) fn end_all<
         × AreCounts (map (λ (s : EndedSession). s.end) sessions) result }
     ensures coming { L.coming listener.new ≡ L.coming listener.old }
     ensures faults { L.accept_faults listener.new ≡ L.accept_faults listener.old }
+    ensures out { L.out listener.new ≡ option_map (λ n. n - length begun.items) (L.out listener.old) }
 {
     let mut counts = SessionCounts::none();
     while let Some(one) = begun.pop_front() {

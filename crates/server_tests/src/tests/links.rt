@@ -1,19 +1,5 @@
-// Links in memory.
+// Links in memory, of which the listener tells nothing.
 use super::*;
-
-#[test]
-fn one_link_is_served(rt: HostRuntime) -> Result<(), Fail> {
-    let alloc = rt.alloc();
-    let mut listener = one_link(alloc, both(alloc)?)?;
-    let mut output = output(alloc);
-    let status = served(&rt, alloc, "serve A 1", &mut listener, &mut output)?;
-    let report =
-        "sessions 1\nfaults 0\nmemory 0\ncommands 2\nunit 0 steps 3 live 0 mapped 2\ntotal 3\n";
-    assert_eq!(rt; status, Status::Done);
-    assert_eq!(rt; output.as_slice(), report.as_bytes());
-    assert_eq!(rt; listener.taken(0), bytes_of(alloc, &REPLIES)?.as_slice());
-    Ok(())
-}
 
 #[test]
 fn the_first_accept_fails(rt: HostRuntime) -> Result<(), Fail> {

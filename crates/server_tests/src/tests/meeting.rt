@@ -1,4 +1,7 @@
 // Sessions side by side.
+ghost use Rattle.std.specs.Prelude.{false, true};
+
+use super::memory::{listener_of_two, serve_told};
 use super::*;
 use std::sync::atomic::{AtomicBool, Ordering};
 use std::thread::yield_now;
@@ -23,6 +26,8 @@ impl UntilAnswered {
 }
 
 impl Meet for UntilAnswered {
+    ghost SAFE = { false };
+
     fn wait(&self, session: u32) {
         if session != 0 {
             return;
@@ -36,6 +41,8 @@ impl Meet for UntilAnswered {
         self.gave_up.store(true, Ordering::SeqCst);
     }
 
+    fn replies<R: Recorder + Drop>(&self, _session: u32, _pass: &Pass<R>) {}
+
     fn told(&self, session: u32) {
         if session == 1 {
             self.answered.store(true, Ordering::SeqCst);
@@ -46,30 +53,28 @@ impl Meet for UntilAnswered {
 #[test]
 fn two_sessions_meet(rt: HostRuntime) -> Result<(), Fail> {
     let alloc = rt.alloc();
-    let mut listener = TestListener::new(alloc);
-    listener.add(bytes_of(alloc, &READ)?, none(alloc))?;
-    listener.add(bytes_of(alloc, &WRITE)?, none(alloc))?;
+    let mut listener = listener_of_two(alloc, bytes_of(alloc, &READ)?, bytes_of(alloc, &WRITE)?)?;
     let mut output = output(alloc);
     let words = words_of(alloc, "serve A 2")?;
     let config = bytes_of(alloc, &[SMALL])?;
-    let clock = SetClock::new(0);
     let meet = UntilAnswered::new();
-    let status = serve_at(
+    let status = serve_told(
         &rt,
         alloc,
         &words,
         config.as_slice(),
         &mut listener,
-        clock,
         &mut output,
         &meet,
     );
-    assert_eq!(rt; status, Status::Done);
+    let Status::Done = status else {
+        return Err("it did not end well".into());
+    };
     assert!(rt; meet.answered.load(Ordering::SeqCst));
     assert!(rt; !meet.gave_up.load(Ordering::SeqCst));
     // The first session has read what the second wrote.
     assert_eq!(rt;
-        listener.taken(0),
+        listener.ended(0).taken(),
         bytes_of(alloc, &REPLIES[1..])?.as_slice()
     );
     Ok(())

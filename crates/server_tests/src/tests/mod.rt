@@ -1,9 +1,9 @@
 mod links;
 mod listening;
 mod meeting;
+mod memory;
 mod recorded;
 mod refused;
-mod sockets;
 mod stored;
 
 use cm_base::{Bytes, CallList, MemoryLink, MemorySink, MemorySource, SetClock, Word};
@@ -11,6 +11,8 @@ use cm_server::{
     DiskList, Meet, RecorderList, Served, Status, Stored, serve, serve_at, serve_stored, serve_with,
 };
 use listening::TestListener;
+use nexus::Pass;
+use recorder::Recorder;
 use std::alloc::Global;
 use std::sync::Wait;
 use std::test::Fail;

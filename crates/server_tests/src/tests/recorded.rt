@@ -4,8 +4,8 @@ ghost use Rattle.cm_history.specs.declared.act.Entry.{Entry};
 ghost use Rattle.cm_history.proofs.PublicLaws.{Each};
 
 use super::*;
-use cm_history::Actor;
-use recorder::{MemoryRecorder, Recorder};
+use cm_history::{Act, Actor, Entry};
+use recorder::{MemoryRecorder, RecordRefused, Recorder};
 use std::str;
 
 /// The small unit with a record of 6 entries.
@@ -128,7 +128,47 @@ fn each_record_fails_once(rt: HostRuntime) -> Result<(), Fail> {
     Ok(())
 }
 
-/// The recorders come back in their order, also where nothing was served.
+/// A recorder that has recorded one entry, of this stamp.
+fn marked(alloc: Global, stamp: u64) -> Result<MemoryRecorder, Fail> {
+    let entry = Entry {
+        stamp,
+        unit: 0,
+        actor: Actor::Pump(0),
+        seq: 0,
+        moment: 0,
+        act: Act::Pump,
+    };
+    let mut recorder = MemoryRecorder::new(alloc, none(alloc));
+    match recorder.record(&entry) {
+        Ok(()) => Ok(recorder),
+        Err(_) => Err("it was not recorded".into()),
+    }
+}
+
+/// 16 recorders, of which each has recorded one entry, of the stamp that is its place.
+fn marked_recorders(alloc: Global) -> Result<RecorderList<MemoryRecorder>, Fail>
+    ensures count { IfOk result (λ list. length list ≡ 16) }
+    ensures fits { IfOk result (λ list. Each (λ r. (e : Entry) → ⟦<MemoryRecorder as Recorder>⟧.fits r e) list) }
+{
+    let mut recorders = RecorderList::empty(alloc);
+    for unit in 0..16u64 {
+        recorders.push(marked(alloc, unit)?)?;
+    }
+    Ok(recorders)
+}
+
+/// Whether each recorder still has that entry alone.
+fn are_marked(recorders: &RecorderList<MemoryRecorder>) -> bool {
+    for unit in 0..recorders.len() {
+        match recorders.at(unit).entries() {
+            [entry] if entry.stamp == unit as u64 => {}
+            _ => return false,
+        }
+    }
+    true
+}
+
+/// The recorders come back in their order where nothing was served.
 #[test]
 fn recorders_come_back(rt: HostRuntime) -> Result<(), Fail> {
     let alloc = rt.alloc();
@@ -136,7 +176,7 @@ fn recorders_come_back(rt: HostRuntime) -> Result<(), Fail> {
         let mut listener = TestListener::new(alloc);
         let words = words_of(alloc, line)?;
         let config = bytes_of(alloc, &[SHORT])?;
-        let recorders = recorders(alloc, &[])?;
+        let recorders = marked_recorders(alloc)?;
         let clock = SetClock::new(0);
         let served = serve_with(
             &rt,
@@ -150,6 +190,81 @@ fn recorders_come_back(rt: HostRuntime) -> Result<(), Fail> {
         );
         assert!(rt; served.status == Status::Usage, "{line}");
         assert_eq!(rt; served.recorders.len(), 16);
+        assert!(rt; are_marked(&served.recorders), "{line}");
     }
+    Ok(())
+}
+
+/// A recorder for which memory is always wanted.
+#[derive(Drop)]
+struct WantingRecorder {
+    place: u32,
+}
+
+impl Recorder for WantingRecorder {
+    ghost use Rattle.std.specs.Prelude.{None, false};
+
+    const EAGER: bool = false;
+
+    ghost EAGER = { false };
+
+    ghost recorded = { λ _. None };
+
+    ghost record_faults = { λ _. 0 };
+
+    ghost absent = { λ _. false };
+
+    ghost fits = { λ _ _. Unit {0} };
+
+    fn record(&mut self, _entry: &Entry) -> Result<(), RecordRefused> {
+        Err(RecordRefused::OutOfMemory)
+    }
+}
+
+/// 16 of them, in their places.
+fn wanting_recorders(alloc: Global) -> Result<RecorderList<WantingRecorder>, Fail>
+    ensures count { IfOk result (λ list. length list ≡ 16) }
+    ensures fits { IfOk result (λ list. Each (λ r. (e : Entry) → ⟦<WantingRecorder as Recorder>⟧.fits r e) list) }
+{
+    let mut recorders = RecorderList::empty(alloc);
+    for place in 0..16u32 {
+        recorders.push(WantingRecorder { place })?;
+    }
+    Ok(recorders)
+}
+
+/// Whether each stands in its place.
+fn are_in_place(recorders: &RecorderList<WantingRecorder>) -> bool {
+    for index in 0..recorders.len() {
+        if recorders.at(index).place as usize != index {
+            return false;
+        }
+    }
+    true
+}
+
+/// Memory is wanted when what is left is recorded: nothing is told, and the recorders come back in their order.
+#[test]
+fn recorders_come_back_without_memory(rt: HostRuntime) -> Result<(), Fail> {
+    let alloc = rt.alloc();
+    let mut listener = one_link(alloc, bytes_of(alloc, &READ)?)?;
+    let mut output = output(alloc);
+    let words = words_of(alloc, "serve A 1 F")?;
+    let config = bytes_of(alloc, &[SHORT])?;
+    let recorders = wanting_recorders(alloc)?;
+    let served = serve_with(
+        &rt,
+        alloc,
+        &words,
+        config.as_slice(),
+        &mut listener,
+        SetClock::new(0),
+        &mut output,
+        recorders,
+    );
+    assert_eq!(rt; served.status, Status::OutOfMemory);
+    assert!(rt; output.as_slice().is_empty());
+    assert_eq!(rt; served.recorders.len(), 16);
+    assert!(rt; are_in_place(&served.recorders));
     Ok(())
 }

@@ -9,16 +9,17 @@ use Rattle.cm_server.specs.inner.Begun.{HasEnded, session_of}
 use Rattle.cm_server.specs.inner.Links.{LinkState, link_state}
 use Rattle.cm_server.specs.inner.Trails.{Led}
 use Rattle.nexus.specs.Worlds.{PassView}
-use Rattle.session.specs.Spoken.{Spoken, IsCounted}
+use Rattle.session.specs.Spoken.{AreSettlesCounted, Spoken, IsCounted}
 use Rattle.session.specs.declared.end.SessionEnd.{SessionEnd}
+use Rattle.cm_server.proofs.Talked.{all-settled, settled-none}
 use Rattle.cm_server.proofs.sessions.beginning.talk.Goals as goal
 
 -- the calls of a session led its pass from where it was begun
 has-ended : (config : Configuration) (Shows : ℕ → Type 0) (n : ℕ) (first : Option PassView) (pass after : PassView) (a b : LinkState) (end : SessionEnd)
     → first ≡ Some pass
-    → Spoken step config n Shows (λ (calls : List Call). IfSome first (λ p. Led p calls after)) [] a.left b.left a.taken b.taken end
-    → IsCounted a.reads b.reads a.writes b.writes end.fault → end.frames ≤ frames_limit → HasEnded config Shows n (session_of a pass b after end)
-has-ended config Shows n first pass after a b end is s counted few = record {
+    → (Settled : Type 0) → Spoken step config n Shows (λ (calls : List Call). IfSome first (λ p. Led p calls after)) Settled [] a.left b.left a.taken b.taken end
+    → AreSettlesCounted 0 0 end.fault → IsCounted a.reads b.reads a.writes b.writes end.fault → end.frames ≤ frames_limit → HasEnded config Shows n (session_of a pass b after end)
+has-ended config Shows n first pass after a b end is Settled s settles counted few = record {
   session = record {
     spoken = record {
       exchanges = s.exchanges;
@@ -31,9 +32,11 @@ has-ended config Shows n first pass after a b end is s counted few = record {
       pushed = s.pushed;
       output = s.output;
       replies = s.replies;
+      settled = settled-none s.exchanges end.fault;
       frames = s.frames;
       turns = s.turns;
     };
+    settled = all-settled end.fault settles;
     counted = counted;
   };
   few = few;
@@ -58,7 +61,7 @@ returns g c =
     let pulled = c.session-end.new.link.link in
     let closed = c.close.new.self.link in
     let spoken = c.session-end.ensures.spoken [] (subst (λ (f : Option PassView). IfSome f (λ p. Led p [] c.args.pass)) (sym c.requires.first) refl) in
-    let ended = has-ended config Shows c.args.number g.B.Origin.first c.args.pass after (state met) (state pulled) end c.requires.first spoken c.session-end.ensures.counted
+    let ended = has-ended config Shows c.args.number g.B.Origin.first c.args.pass after (state met) (state pulled) end c.requires.first _ spoken c.session-end.ensures.settles c.session-end.ensures.counted
     c.session-end.ensures.limit in
     let last : state pulled ≡ state c.into_link.result =
     same-state (state pulled) (state closed) (sym c.close.ensures.left) (sym c.close.ensures.taken) (sym c.close.ensures.reads) (sym c.close.ensures.writes)

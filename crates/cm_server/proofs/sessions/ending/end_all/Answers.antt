@@ -1,6 +1,6 @@
 use Rattle.std.proofs.Common.{length, refl, ap, sym, ◌∙◌}
 use Rattle.cm_server.specs.inner.Links.{link_state}
-use Rattle.cm_server.proofs.Ends.{ends-none, ends-one, ends-all, next-free, next-few, out-less}
+use Rattle.cm_server.proofs.Ends.{ends-none, ends-one, ends-all, next-free, next-few, out-all, out-less, out-next}
 use Rattle.cm_server.proofs.sessions.ending.end_all.Goals as goal
 
 pub loop-one-init : goal.loop-one-init
@@ -9,6 +9,7 @@ loop-one-init g c = (
       c.args.shared.now.world c.args.root.now (g.L.Listener.ended c.args.listener.now) c.args.begun.items c.none-counts.result c.requires.begun c.requires.ready c.none-counts.ensures
       c.requires.few,
   c.requires.out,
+  refl,
   refl,
   refl,
 )
@@ -45,6 +46,8 @@ loop-one-preserved g c =
           (ap length c.in-Some.ensures.items) c.loop-one.invariant.1 c.done.ensures.out,
       c.done.ensures.coming ∙ c.loop-one.invariant.2,
       c.done.ensures.faults ∙ c.loop-one.invariant.3,
+      out-next (length c.loop-one.begun.items) (length c.pop_front.new.self.items) (g.L.Listener.out c.loop-one.listener) (g.L.Listener.out c.done.new.self)
+          (ap length c.in-Some.ensures.items) c.done.ensures.out ∙ c.loop-one.invariant.4,
     )
 
 pub returns-clause-ended : goal.returns-clause-ended
@@ -52,3 +55,6 @@ returns-clause-ended g c =
     ends-all (link_state g.K.Source.left g.K.Sink.taken g.K.Source.read_faults g.K.Sink.write_faults) g.C.Clock.shows c.args.shared.now.config c.args.shared.now.clock
     c.args.shared.now.world c.args.root.now c.loop-one.root (g.L.Listener.ended c.args.listener.now) (g.L.Listener.ended c.loop-one.listener) c.args.begun.items c.loop-one.begun.items
     c.loop-one.counts (sym c.loop-one.begun.ok.0 ∙ c.in_default.ensures.cases.0) c.args.shared.now.same c.loop-one.invariant.0
+
+pub returns-clause-out : goal.returns-clause-out
+returns-clause-out g c = out-all (length c.loop-one.begun.items) (g.L.Listener.out c.loop-one.listener) (sym c.loop-one.begun.ok.0 ∙ c.in_default.ensures.cases.0) ∙ c.loop-one.invariant.4

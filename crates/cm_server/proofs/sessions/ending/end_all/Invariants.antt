@@ -1,5 +1,5 @@
-use Rattle.std.proofs.Common.{◌≡◌, ◌≤◌, length}
-use Rattle.std.specs.Prelude.{IfSome}
+use Rattle.std.proofs.Common.{◌≡◌, ◌≤◌, ◌-◌, length}
+use Rattle.std.specs.Prelude.{IfSome, option_map}
 use Rattle.cm_server.specs.inner.Links.{link_state}
 use Rattle.cm_server.proofs.Ends.{EndsOf}
 use Rattle.cm_server.proofs.sessions.ending.end_all.Given as goal
@@ -11,6 +11,7 @@ invariant-loop-one g l =
     × IfSome (g.L.Listener.out l.listener) (λ n. length l.begun.items ≤ n)
     × (g.L.Listener.coming l.listener ≡ g.L.Listener.coming l.initial.listener)
     × (g.L.Listener.accept_faults l.listener ≡ g.L.Listener.accept_faults l.initial.listener)
+    × (option_map (λ n. n - length l.begun.items) (g.L.Listener.out l.listener) ≡ option_map (λ n. n - length l.initial.begun.items) (g.L.Listener.out l.initial.listener))
 
 abbrev pub decreases-loop-one : goal.decreases-loop-one
 decreases-loop-one g l = length l.begun.items

@@ -1,0 +1,5 @@
+use Rattle.cm_server.proofs.PublicLaws.{all-fit}
+use Rattle.server_tests.proofs.tests.recorded.marked_recorders.Goals as goal
+
+pub returns-clause-fits : goal.returns-clause-fits
+returns-clause-fits c = all-fit c.loop-unit.recorders
