@@ -1,18 +1,17 @@
 -- A generated trace ends between two items, or at one that does not fit
 use Rattle.std.proofs.Common.{◌≡◌, ℕ, zero, suc, ◌+◌, ◌≤◌, List, [], ◌∷◌, ◌++◌, length, drop, flat_map, All, Bool, true, false, if◌then◌else◌, refl, sym, ap, ◌∙◌, subst, arith, drop_at}
 use Rattle.cm_base.specs.Configuration.{Configuration}
-use Rattle.cm_base.specs.declared.parsed.Parsed.TheVariants.{Whole}
-use Rattle.cm_frame.specs.declared.item.TraceItem.{TraceItem}
 use Rattle.cm_frame.specs.Grammar.{header_bytes, item_bytes, IsItem}
 use Rattle.cm_frame.specs.Reading.{read_item}
-use Rattle.cm_frame.specs.Laws.{IsReadBack, IsJudged}
+use Rattle.cm_frame.specs.Laws.{IsReadBack}
 use Rattle.cmd_program.specs.Stepping.{Stepping}
 use Rattle.generator.specs.Settings.{settings}
 use Rattle.generator.specs.Generated.{items, generated}
 use Rattle.generator.specs.WellFormed.{HeaderIsRead, ItemsFit, TwelveEach, header_length}
-use Rattle.trace_replay.specs.Items.{Ending, Done, Torn, BadHeader, BadRecord, Records, Placed, led_by, with_item, trace_of, items_limit}
+use Rattle.trace_replay.specs.Items.{Ending, Done, Torn, BadHeader, BadRecord, Records, Placed, trace_of, items_limit}
 use Rattle.trace_replay.specs.ReplayState.{ReplayState, Shortage, at_first, next, fits}
 use Rattle.trace_replay.specs.Played.{Played, play, played, played_after, shortage_for, shortages_behind}
+use Rattle.round_counts.proofs.PublicLaws.{items-end}
 
 -- between two items, or at one that does not fit
 abbrev pub EndsWell : Ending → Type 0
@@ -34,26 +33,6 @@ play-ends step config s (x ∷ xs) ending shortages well =
     (play step config (next step config s x.item (shortage_for x.item shortages)) xs ending (shortages_behind x.item shortages))
     (record { state = s; ending = BadRecord x.place })
     (play-ends step config (next step config s x.item (shortage_for x.item shortages)) xs ending (shortages_behind x.item shortages) well) tt
-
--- the item in front, and the trace behind it
-pub in-front : (bytes : List ℕ) (item : TraceItem) (used n place : ℕ) → read_item bytes ≡ Whole item used
-    → trace_of (suc n) place bytes ≡ with_item place item (trace_of n (place + used) (drop used bytes))
-in-front [] item used n place e = absurd (subst IsJudged (sym e) tt)
-in-front (b ∷ bs) item used n place e = ap (λ p. led_by place p (λ u. trace_of n (place + u) (drop u (b ∷ bs)))) e
-
--- the bytes of items are a trace that ends between two items
-pub items-end : IsReadBack IsItem item_bytes read_item → (xs : List TraceItem) (n place : ℕ) → All IsItem xs → length xs ≤ n
-    → (trace_of n place (flat_map item_bytes xs)).ending ≡ Done
-items-end back [] zero place fit few = refl
-items-end back [] (suc n) place fit few = refl
-items-end back (x ∷ xs) zero place fit few = absurd (omega (arith, few))
-items-end back (x ∷ xs) (suc n) place fit few =
-    let first = item_bytes x in
-    let rest = flat_map item_bytes xs in
-    let used = length first in
-    ap (λ t. t.ending) (in-front (first ++ rest) x used n place (back x rest (fit 0 x (omega arith))))
-    ∙ ap (λ l. (trace_of n (place + used) l).ending) (drop_at first rest used refl)
-    ∙ items-end back xs n (place + used) (λ k d h. fit (suc k) d (omega (arith, h))) (omega (arith, few))
 
 pub generated-ends : (step : Stepping) → IsReadBack IsItem item_bytes read_item → HeaderIsRead → ItemsFit → TwelveEach
     → (rounds : ℕ) → rounds ≤ 4096 → (shortages : List Shortage) → EndsWell (played step (generated rounds) shortages).ending

@@ -1,9 +1,4 @@
 mod Spelled
 mod EndsWell
-mod QuietUnit
-mod PlayedCommands
-mod RoundRequests
-mod RoundsFit
-mod PlaysOut
 mod ToldCounts
 mod AnyBytes

@@ -11,6 +11,7 @@ use Rattle.trace_replay.specs.ReplayState.{Shortage}
 use Rattle.trace_replay.specs.Played.{played}
 use Rattle.trace_replay.specs.Shortages.{may_lack}
 use Rattle.trace_replay.specs.Replayed.{Replayed, IsCounted, IsAnswer, IsCompleteBy}
+use Rattle.round_counts.specs.Counts.{HasCounts}
 use Rattle.copymgr.specs.declared.status.Status.{Status}
 use Rattle.copymgr.specs.Statuses.{status_of}
 use Rattle.copymgr.specs.Orders.{AreRounds, gen_words}
@@ -30,7 +31,7 @@ record Says (bytes : List ℕ) (shortages : List Shortage) (pushed : List ℕ) (
 -- the generated trace ends well, whatever memory is refused, and is played to its end where none is
 pub record AllEndWell (rounds : ℕ) : Type 0 where
   pub well : (shortages : List Shortage) → EndsWell (played step (generated rounds) shortages).ending
-  pub free : (played step (generated rounds) []).ending ≡ Done
+  pub free : HasCounts rounds
 
 no-fault : Faulted 0 0 → ⊥
 no-fault (inl more) = omega (arith, more)
@@ -48,7 +49,7 @@ says rounds shortages pushed (Ok summary) well s counted = (
     allowed = s.allowed;
     ends = s.ending.0.0;
     free = well.free;
-    shown = elim s.complete [ inl a ↦ inl (sym a.1 ∙ s.ending.1) | inr w ↦ inr w ];
+    shown = elim s.complete [ inl a ↦ inl (sym s.ending.1 ∙ a.1 ∙ well.free.counts) | inr w ↦ inr w ];
   },
   s.ending.1,
 )
@@ -63,7 +64,7 @@ says rounds shortages pushed (Err (ReplayFault.BadRecord place)) well s counted 
     allowed = s.allowed;
     ends = s.ending.0;
     free = well.free;
-    shown = elim s.complete [ inl a ↦ absurd (other (sym well.free ∙ a.0)) | inr w ↦ w ];
+    shown = elim s.complete [ inl a ↦ absurd (other (sym well.free.ends ∙ a.0)) | inr w ↦ w ];
   },
 )
 says rounds shortages pushed (Err ReplayFault.Records) well s counted = subst EndsWell s.ending.0 (well.well shortages)

@@ -9,6 +9,7 @@ use Rattle.trace_replay.specs.Items.{Done, BadRecord}
 use Rattle.trace_replay.specs.ReplayState.{Shortage}
 use Rattle.trace_replay.specs.Played.{Played, played, summary_of}
 use Rattle.trace_replay.specs.Shortages.{may_lack, met_want}
+use Rattle.round_counts.specs.Counts.{HasCounts, counts_of}
 use Rattle.copymgr.specs.declared.status.Status.{Status}
 use Rattle.copymgr.specs.Told.{summary_text}
 
@@ -20,20 +21,20 @@ played_rounds rounds shortages = played step (generated rounds) shortages
 abbrev pub counts : ℕ → List Shortage → Summary
 counts rounds shortages = summary_of (played_rounds rounds shortages).state
 
--- The generated trace was played to its end, as it is where memory is never refused. Where other counts came of it, a reply
--- or a waiting command shows want of memory.
+-- The generated trace was played to its end, as it is where memory is never refused, and then with the counts of so many
+-- rounds. Where other counts came of it, a reply or a waiting command shows want of memory.
 pub record EndedDone (rounds : ℕ) (shortages : List Shortage) : Type 0 where
   pub allowed : IsTrue (may_lack step (generated rounds) shortages)
   pub ends : (played_rounds rounds shortages).ending ≡ Done
-  pub free : (played_rounds rounds []).ending ≡ Done
-  pub shown : (counts rounds [] ≡ counts rounds shortages) ⊎ IsTrue (met_want (played_rounds rounds shortages).state)
+  pub free : HasCounts rounds
+  pub shown : (counts rounds shortages ≡ counts_of rounds) ⊎ IsTrue (met_want (played_rounds rounds shortages).state)
 
 -- It ended at an item that does not fit. Where memory is never refused it is played to its end; so a reply or a waiting
 -- command shows want of memory.
 pub record EndedBad (rounds : ℕ) (shortages : List Shortage) (place : ℕ) : Type 0 where
   pub allowed : IsTrue (may_lack step (generated rounds) shortages)
   pub ends : (played_rounds rounds shortages).ending ≡ BadRecord place
-  pub free : (played_rounds rounds []).ending ≡ Done
+  pub free : HasCounts rounds
   pub shown : IsTrue (met_want (played_rounds rounds shortages).state)
 
 -- What was pushed, by the status: the counts where the trace was played to its end, and else nothing. No other status comes.
@@ -56,5 +57,3 @@ pub record HasGenerated (rounds : ℕ) (taken given : Option (List ℕ)) (writes
   pub output : Appends taken given pushed
   pub told : IsTold rounds pushed status
   pub counted : IsWriteCounted writes writes_after status
-
--- ---- how the counts are told. No public clause cites what follows.

@@ -5,4 +5,5 @@ pub mod Told
 pub mod AtHand
 pub mod Chained
 pub mod Generating
+pub mod Unkept
 pub mod inner

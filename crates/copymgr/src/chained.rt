@@ -30,6 +30,11 @@ impl<A: Source, B: Source> Chained<A, B> {
         }
     }
 
+    /// The source behind the first.
+    pub fn second(&self) -> &B {
+        &self.second
+    }
+
     /// What a pull gives, without a count of its faults.
     fn next(&mut self, into: &mut [u8]) -> Result<usize, ReadFailed>
         ensures within { IfOk result (λ n. n ≤ length into.new) }

@@ -9,6 +9,7 @@ use crate::status::Status;
 use cm_base::{Bytes, OutOfMemory, Sink, push_all};
 use cm_frame::{Memory, read_back_law};
 use generator::{generate, well_formed_law};
+use round_counts::rounds_law;
 use std::alloc::Global;
 use trace_replay::{ReplayFault, Summary, replay_with};
 
@@ -23,6 +24,7 @@ fn play_rounds<M: Memory>(
 {
     read_back_law();
     well_formed_law();
+    rounds_law();
     let mut trace = AtHand::new(generate(alloc, rounds)?);
     replay_with(alloc, memory, &mut trace, &mut Dropped)
 }

@@ -2,7 +2,7 @@
 ghost use Rattle.std.specs.Prelude.{◌<◌};
 
 use crate::chained::Chained;
-use crate::hosting::{are_hosting, work_over};
+use crate::hosting::{are_hosting, whole_job, work_over};
 use crate::rows::host_copies::{HostCopy, copies};
 use crate::status::Status;
 use crate::tests::{Failing, add_text, bytes_of, ran, source_of, words_of};
@@ -123,6 +123,33 @@ fn replies_end_a_copy(rt: HostRuntime) -> Result<(), Fail> {
     Ok(())
 }
 
+/// How a job is judged that is cut to so many bytes, or has so many behind it.
+fn judged_job(alloc: Global, cut: usize, behind: &[u8]) -> Result<Result<usize, Status>, Fail> {
+    let job = bytes_of(alloc, "JOB")?;
+    let length = job.len().saturating_sub(cut);
+    let mut bytes = Bytes::copy(alloc, &job.as_slice()[..length])?;
+    bytes.extend(behind)?;
+    let mut input = source_of(alloc, bytes, 7, Failing::nothing())?;
+    Ok(whole_job(alloc, &mut input).map(|job| job.len()))
+}
+
+/// A job ends with its input: one that is empty or cut is refused before anybody is asked, and so is one with a byte too
+/// many, at that byte.
+#[test]
+fn a_job_is_judged_before_it_is_asked(rt: HostRuntime) -> Result<(), Fail> {
+    let alloc = rt.alloc();
+    let length = bytes_of(alloc, "JOB")?.len();
+    assert!(rt; judged_job(alloc, 0, b"")? == Ok(length));
+    assert!(rt; judged_job(alloc, length, b"")? == Err(Status::Torn(0)));
+    assert!(rt; judged_job(alloc, 1, b"")? == Err(Status::Torn(0)));
+    assert!(rt; judged_job(alloc, 0, b"x")? == Err(Status::BadHeader(length as u64)));
+    assert!(rt;
+        judged_job(alloc, length, b"\0\0\0\x01\0\0\0\0\0\0\0\0\0\0\0\0")?
+            == Err(Status::BadHeader(4))
+    );
+    Ok(())
+}
+
 /// A source of these bytes by pulls of two, of which one fails.
 fn twos(alloc: Global, bytes: &[u8], pull: u64) -> Result<MemorySource, Fail> {
     let bytes = Bytes::copy(alloc, bytes)?;
@@ -171,7 +198,7 @@ fn connected(rt: &HostRuntime) -> Result<(TcpStream, TcpStream), Fail> {
 fn works_over(alloc: Global, connection: TcpStream) -> Result<Status, Fail> {
     let words = words_of(alloc, &["copy"])?;
     let job = source_of(alloc, bytes_of(alloc, "JOB")?, 4096, Failing::nothing())?;
-    Ok(work_over(alloc, &words, job, connection))
+    Ok(work_over(alloc, &words, job, connection).status)
 }
 
 /// Sends the bytes of a text.

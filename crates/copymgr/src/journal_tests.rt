@@ -51,7 +51,7 @@ fn read_of_three(stamp: u64) -> Entry
 
 /// The file at a path in the folder of the tests.
 fn file<'a>(rt: &'a HostRuntime, alloc: Global, path: &str) -> Result<JournalFile<'a>, Fail> {
-    Ok(JournalFile::new(rt, ".", String::from_str(alloc, path)?))
+    Ok(JournalFile::new(rt, ".", String::from_str(alloc, path)?, 0))
 }
 
 /// What the file of a disk is opened as.
@@ -193,8 +193,9 @@ fn is_locked(rt: &HostRuntime, alloc: Global) -> Result<bool, Fail> {
 
 /// Without a folder a call fails.
 fn needs_folder(rt: &HostRuntime, alloc: Global) -> Result<bool, Fail> {
-    let mut missing = JournalFile::new(rt, "missing", String::from_str(alloc, "missing/0")?);
-    Ok(missing.sync() == Err(DiskFailed))
+    let mut missing = JournalFile::new(rt, "missing", String::from_str(alloc, "missing/0")?, 0);
+    let failed = missing.sync() == Err(DiskFailed);
+    Ok(failed && missing.cause().is_some())
 }
 
 #[test]

@@ -2,23 +2,29 @@
 // that were recorded with a trace, copies blocks as a host does, or serves connections, with or without journals.
 #![tactic(auto)]
 
+mod announced;
 mod chained;
 #[cfg(test)]
 mod checks;
+mod ending;
 mod ends;
+mod folder_notes;
 mod generating;
+mod heard;
+#[cfg(test)]
+mod heard_tests;
 mod hosting;
 #[cfg(test)]
 mod hosting_tests;
+mod journal_cause;
 mod journal_files;
 #[cfg(test)]
 mod journal_tests;
 mod order;
-#[cfg(test)]
-mod random;
 mod ready;
 #[cfg(test)]
 mod ready_tests;
+mod report_output;
 #[cfg(test)]
 mod rows;
 mod serving;
@@ -34,8 +40,12 @@ mod storing;
 mod tests;
 mod top;
 mod unit_files;
+mod unkept;
+#[cfg(test)]
+mod unkept_tests;
 
 use cm_base::{OutOfMemory, StandardInput, StandardOutput, Word};
+use ending::Ending;
 use hosting::{are_hosting, host_words};
 use ready::{Empty, ReadyMemory, make_ready};
 use rtrb::RingBuffer;
@@ -93,25 +103,29 @@ fn work<R: Threads + Wait + Input + Print + Sync>(
 }
 
 /// Does what the command line says. Words that are no text are words that the program doesn't know.
-fn run<R: Threads + Wait + Input + Print + Sync>(rt: &R, host: &HostRuntime) -> Status {
+fn run<R: Threads + Wait + Input + Print + Sync>(rt: &R, host: &HostRuntime) -> Ending {
     let args = match env::args(host) {
         Ok(args) => args,
-        Err(error) => return unread(error),
+        Err(error) => return Ending::new(unread(error)),
     };
     match words(host.alloc(), args) {
         Ok(words) if are_hosting(&words) => host_words(host, host.alloc(), &words),
         Ok(words) if are_serving(&words) => serve_words(rt, host, host.alloc(), &words),
         Ok(words) if are_storing(&words) => store_words(rt, host, host.alloc(), &words),
-        Ok(words) => work(rt, host.alloc(), &words).unwrap_or(Status::OutOfMemory),
-        Err(OutOfMemory) => Status::OutOfMemory,
+        Ok(words) => Ending::new(work(rt, host.alloc(), &words).unwrap_or(Status::OutOfMemory)),
+        Err(OutOfMemory) => Ending::new(Status::OutOfMemory),
     }
 }
 
 fn main(rt: HostRuntime) -> ExitCode {
-    let status = run(&rt, &rt);
+    let ending = run(&rt, &rt);
+    let status = ending.status;
     let code = status.code();
     if code != 0 {
         let _ = eprintln!(rt; "copymgr: {status}");
+    }
+    if let Some(cause) = &ending.cause {
+        let _ = eprintln!(rt; "copymgr: {cause}");
     }
     ExitCode::from(code)
 }

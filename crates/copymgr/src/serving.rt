@@ -1,9 +1,14 @@
 // The word `serve`: what it reads, where it listens, and where it records. The word `store` begins as it does.
 ghost use Rattle.std.specs.Prelude.{◌≤◌, length, IfOk, IfSome};
 
+use crate::announced::Announced;
+use crate::ending::Ending;
+use crate::folder_notes::folder_notes;
+use crate::report_output::ReportOutput;
 use crate::status::Status;
 use crate::unit_files::unit_files;
-use cm_base::{Source, StandardInput, StandardOutput, SystemClock, TcpConnections, Word};
+use cm_base::{Parsed, Source, StandardInput, StandardOutput, SystemClock, Word};
+use cm_frame::read_header;
 use cm_server::{serve, serve_with};
 use std::alloc::Global;
 use std::io::{self, Input};
@@ -51,37 +56,32 @@ pub fn picks_port(address: &str) -> bool {
     }
 }
 
-/// Says on standard error where a listener listens, in one write.
-fn tell_address(host: &HostRuntime, listener: &TcpListener) {
-    if let Ok(address) = listener.local_addr() {
-        let _ = eprintln!(host; "copymgr: serving at {address}");
-    }
-}
-
-/// Listens at an address. Where the system picks the port, it says which.
-fn listen(host: &HostRuntime, address: &str) -> io::Result<TcpListener> {
-    let listener = TcpListener::bind(host, address)?;
-    if picks_port(address) {
-        tell_address(host, &listener);
-    }
-    Ok(listener)
-}
-
 /// Reads the configuration from standard input into this room, and listens at the address: how many bytes were read,
-/// and the listener, or how the program ends without them.
-pub fn begin(
-    host: &HostRuntime,
+/// and the listener, or how the program ends without them. Where the system picks the port, which one is said before the
+/// first connection is accepted.
+pub fn begin<'a>(
+    host: &'a HostRuntime,
+    alloc: Global,
     address: &Word,
     room: &mut [u8],
-) -> Result<(usize, TcpConnections), Status>
+) -> Result<(usize, Announced<'a>), Ending>
     ensures { IfOk result (λ begun. begun.0 ≤ length room.new) }
 {
     let Some(count) = read_all(&mut StandardInput::new(host.reader()), room) else {
-        return Err(Status::ReadFault);
+        return Err(Ending::new(Status::ReadFault));
     };
-    match listen(host, text(address)) {
-        Ok(listener) => Ok((count, TcpConnections::new(listener))),
-        Err(_) => Err(Status::AcceptFault),
+    let address = text(address);
+    match TcpListener::bind(host, address) {
+        Ok(listener) => Ok((count, Announced::new(host, listener, picks_port(address)))),
+        Err(error) => Err(Ending::told(alloc, Status::AcceptFault, address, &error)),
+    }
+}
+
+/// How many units a configuration has, or 0 where it is none.
+fn unit_count(alloc: Global, config: &[u8]) -> u16 {
+    match read_header(alloc, config) {
+        Ok(Parsed::Whole { value, .. }) => value.units(),
+        _ => 0,
     }
 }
 
@@ -93,26 +93,31 @@ pub fn serve_words<W: Threads + Wait + Sync>(
     host: &HostRuntime,
     alloc: Global,
     words: &[Word],
-) -> Status {
+) -> Ending {
     let (address, folder) = match words {
         [_, address, _] => (address, None),
-        [_, address, _, folder] => (address, Some(folder)),
-        _ => return Status::Usage,
+        [_, address, _, folder] => (address, Some(text(folder))),
+        _ => return Ending::new(Status::Usage),
     };
     let mut bytes = [0; CONFIGURATION];
-    let (count, mut listener) = match begin(host, address, &mut bytes) {
+    let (count, mut listener) = match begin(host, alloc, address, &mut bytes) {
         Ok(begun) => begun,
-        Err(status) => return status,
+        Err(ending) => return ending,
     };
     let config = &bytes[..count];
     let clock = SystemClock::new(host);
-    let mut output = StandardOutput::new(io::writer(host));
+    let mut output = ReportOutput::new(StandardOutput::new(io::writer(host)));
     let Some(folder) = folder else {
-        return Status::from(serve(rt, alloc, words, config, &mut listener, clock, &mut output));
+        let status = serve(rt, alloc, words, config, &mut listener, clock, &mut output);
+        return Ending::new(Status::from(status));
     };
-    let Ok(recorders) = unit_files(host, alloc, text(folder)) else {
-        return Status::OutOfMemory;
+    let (Ok(recorders), Ok(notes)) = (
+        unit_files(host, alloc, folder),
+        folder_notes(host, alloc, folder, unit_count(alloc, config)),
+    ) else {
+        return Ending::new(Status::OutOfMemory);
     };
+    listener.note(notes);
     let served = serve_with(
         rt,
         alloc,
@@ -123,5 +128,5 @@ pub fn serve_words<W: Threads + Wait + Sync>(
         &mut output,
         recorders,
     );
-    Status::from(served.status)
+    Ending::kept(alloc, Status::from(served.status), output.kept())
 }

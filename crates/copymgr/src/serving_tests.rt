@@ -1,8 +1,11 @@
 // What the word `serve` reads and writes.
+ghost use Rattle.std.specs.Prelude.{◌≤◌, length};
+
+use super::report_output::ReportOutput;
 use super::serving::{are_serving, picks_port, read_all};
 use super::unit_files::{UnitFile, unit_files};
 use crate::tests::{Failing, source_of, words_of};
-use cm_base::{Bytes, Sink, WriteFailed, push_all};
+use cm_base::{Bytes, CallList, MemorySink, Sink, WriteFailed, push_all};
 use std::alloc::Global;
 use std::fs;
 use std::test::Fail;
@@ -53,6 +56,30 @@ fn a_configuration_is_read(rt: HostRuntime) -> Result<(), Fail> {
     assert!(rt; read_of(alloc, Failing::nothing(), &mut room)? == Some(5));
     assert_eq!(rt; &room, b"heade");
     assert!(rt; read_of(alloc, Failing::pull(2), &mut room)?.is_none());
+    Ok(())
+}
+
+/// The number of kept entries in a report, which is pushed in two parts of which the first has so many bytes.
+fn kept_in(alloc: Global, report: &[u8], first: usize) -> Result<u64, Fail>
+    requires { first ≤ length report.now }
+{
+    let mut output = ReportOutput::new(MemorySink::new(alloc, 3, CallList::empty(alloc)));
+    push_all(&mut output, &report[..first])?;
+    push_all(&mut output, &report[first..])?;
+    Ok(output.kept())
+}
+
+/// What a report says of kept entries is remembered, wherever it is cut, and a report without that line says 0.
+#[test]
+fn kept_entries_are_remembered(rt: HostRuntime) -> Result<(), Fail> {
+    let alloc = rt.alloc();
+    let report =
+        b"sessions 1\nunit 0 steps 3 live 0 mapped 2 and more than a line has room for\ntotal 3\nkept 417\n";
+    for first in 0..=report.len() {
+        assert!(rt; kept_in(alloc, report, first)? == 417);
+    }
+    assert!(rt; kept_in(alloc, b"total 3\nkept 0\n", 4)? == 0);
+    assert!(rt; kept_in(alloc, b"total 3\n", 4)? == 0);
     Ok(())
 }
 

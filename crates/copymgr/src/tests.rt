@@ -1,9 +1,6 @@
 ghost use Rattle.std.specs.Prelude.{◌<◌};
 
-use crate::rows::{
-    Row, copies, evictions, first_path, generated, hex_text, long_data, named, operations,
-    reservations, tokens, usual_copy, words,
-};
+use crate::rows::{Row, first_path, generated, hex_text, long_data, named, words};
 use crate::status::Status;
 use crate::top::top;
 use cm_base::{Bytes, CallList, MemorySink, MemorySource, Word};
@@ -186,102 +183,6 @@ fn worked_traces_of_long_data(rt: HostRuntime) -> Result<(), Fail> {
     Ok(())
 }
 
-#[test]
-fn worked_traces_of_tokens(rt: HostRuntime) -> Result<(), Fail> {
-    for step in [1, 7, 4096] {
-        check_rows(rt.alloc(), tokens::rows(), step)?;
-    }
-    Ok(())
-}
-
-#[test]
-fn worked_traces_of_copies(rt: HostRuntime) -> Result<(), Fail> {
-    check_rows(rt.alloc(), copies::rows(), 4096)
-}
-
-#[test]
-fn worked_traces_of_operations(rt: HostRuntime) -> Result<(), Fail> {
-    check_rows(rt.alloc(), operations::rows(), 65_536)
-}
-
-#[test]
-fn worked_traces_of_reservations(rt: HostRuntime) -> Result<(), Fail> {
-    check_rows(rt.alloc(), reservations::rows(), 65_536)
-}
-
-#[test]
-fn worked_trace_of_many_tokens(rt: HostRuntime) -> Result<(), Fail> {
-    check_rows(rt.alloc(), evictions::rows(), 512)
-}
-
-#[test]
-fn worked_usual_copy(rt: HostRuntime) -> Result<(), Fail> {
-    check_rows(rt.alloc(), usual_copy::rows(), 512)
-}
-
-/// A POPULATE TOKEN of one block with a list identifier, and its Run.
-fn populate(alloc: Global, trace: &mut Bytes, id: u32) -> Result<(), Fail> {
-    add(
-        alloc,
-        trace,
-        "01000000010000000000000000000000200000831000000000",
-    )?;
-    trace.extend(&id.to_be_bytes())?;
-    add(alloc, trace, "000000200000001e02000000012c0080000000000010")?;
-    add_text(alloc, trace, "00000000000000000000000100000000 RUN")
-}
-
-/// A RECEIVE ROD TOKEN INFORMATION of a list identifier, and its Run.
-fn information(alloc: Global, trace: &mut Bytes, id: u32) -> Result<(), Fail> {
-    add(alloc, trace, "010000000100000000000000000000000000008407")?;
-    trace.extend(&id.to_be_bytes())?;
-    add_text(alloc, trace, "00000000000004000000 RUN")
-}
-
-/// Plays bytes, and says whether these are the replies.
-fn replies_are(alloc: Global, trace: Bytes, replies: &Bytes) -> Result<bool, Fail> {
-    let (status, output) = ran(alloc, &["replay"], trace, 4096, Failing::nothing())?;
-    Ok(status == Status::Done && output.as_slice() == replies.as_slice())
-}
-
-/// 257 populates, and what is told of the first and of the second.
-fn populates(alloc: Global) -> Result<Bytes, Fail> {
-    let mut trace = bytes_of(alloc, "HEADER")?;
-    for id in 0..257 {
-        populate(alloc, &mut trace, id)?;
-    }
-    information(alloc, &mut trace, 0)?;
-    information(alloc, &mut trace, 1)?;
-    Ok(trace)
-}
-
-/// 257 GOOD replies, and then those of two reports, of which the first finds no record.
-fn dropped_replies(alloc: Global) -> Result<Bytes, Fail> {
-    let mut replies = Bytes::empty(alloc);
-    for _ in 0..257 {
-        add(alloc, &mut replies, "00000001000000000000")?;
-    }
-    add_text(alloc, &mut replies, operations::DROPPED)?;
-    Ok(replies)
-}
-
-fn is_first_dropped(alloc: Global) -> Result<bool, Fail> {
-    let replies = dropped_replies(alloc)?;
-    replies_are(alloc, populates(alloc)?, &replies)
-}
-
-/// Of 257 populates the record of the first is gone, and that of the second is there.
-#[test]
-fn the_257th_record_drops_the_first(rt: HostRuntime) -> Result<(), Fail> {
-    assert!(rt; is_first_dropped(rt.alloc())?);
-    Ok(())
-}
-
-/// The replies to the generated trace of 20 rounds.
-pub(crate) fn generated_replies(alloc: Global) -> Result<Bytes, Fail> {
-    bytes_of(alloc, generated::replies())
-}
-
 /// The generated trace of 20 rounds is the worked one.
 fn is_generated(alloc: Global) -> Result<bool, Fail> {
     let worked = bytes_of(alloc, generated::trace())?;
@@ -292,8 +193,9 @@ fn is_generated(alloc: Global) -> Result<bool, Fail> {
 /// The worked trace of 20 rounds has the worked replies.
 fn is_replied(alloc: Global) -> Result<bool, Fail> {
     let trace = bytes_of(alloc, generated::trace())?;
-    let replies = generated_replies(alloc)?;
-    replies_are(alloc, trace, &replies)
+    let replies = bytes_of(alloc, generated::replies())?;
+    let (status, output) = ran(alloc, &["replay"], trace, 4096, Failing::nothing())?;
+    Ok(status == Status::Done && output.as_slice() == replies.as_slice())
 }
 
 /// The generated trace of 20 rounds, and the replies to it.

@@ -1,4 +1,4 @@
-ghost use Rattle.std.specs.Prelude.{◌≡◌, ◌≤◌, ◌<◌, length, None, IfOk, IfSome};
+ghost use Rattle.std.specs.Prelude.{◌≡◌, ◌≤◌, ◌<◌, length, None, IfOk};
 ghost use Rattle.cm_base.specs.Sides.{no_side};
 ghost use Rattle.cm_history.specs.declared.act.Entry.{Entry};
 ghost use Rattle.cm_history.proofs.PublicLaws.{Each};
@@ -8,7 +8,7 @@ use cm_server::RecorderList;
 use recorder::{Recorder, SinkRecorder};
 use std::alloc::Global;
 use std::fs::File;
-use std::io::Write;
+use std::io::{self, Write};
 
 /// Units that a machine may have.
 const UNITS: u16 = 16;
@@ -20,6 +20,8 @@ pub struct UnitFile<'a> {
     path: String,
     /// None before the first push.
     file: Option<File>,
+    /// The last push failed.
+    is_failing: bool,
     faults: u64,
 }
 
@@ -33,22 +35,49 @@ impl<'a> UnitFile<'a> {
             files,
             path,
             file: None,
+            is_failing: false,
             faults: 0,
         }
     }
 
-    /// How many of these bytes the file took, where it took some.
-    fn write(&mut self, from: &[u8]) -> Option<usize>
-        ensures within { IfSome result (λ n. n ≤ length from.now) }
-        ensures some { IfSome result (λ n. 0 < length from.now → 0 < n) }
+    /// How many of these bytes the file took. One that takes none of some bytes has failed.
+    fn write(&mut self, from: &[u8]) -> io::Result<usize>
+        ensures within { IfOk result (λ n. n ≤ length from.now) }
+        ensures some { IfOk result (λ n. 0 < length from.now → 0 < n) }
         ensures faults { self.new.faults ≡ self.old.faults }
     {
         if self.file.is_none() {
-            self.file = Some(File::create(self.files, self.path.as_str()).ok()?);
+            self.file = Some(File::create(self.files, self.path.as_str())?);
         }
-        match self.file.as_mut()?.write(from) {
-            Ok(count) if count > 0 || from.is_empty() => Some(count),
-            _ => None,
+        match self.file.as_mut() {
+            Some(file) => match file.write(from)? {
+                0 if !from.is_empty() => Err(io::Error::from(io::ErrorKind::WriteZero)),
+                count => Ok(count),
+            },
+            None => Err(io::Error::from(io::ErrorKind::NotFound)),
+        }
+    }
+
+    /// Says on standard error that the file goes on, where it failed before.
+    fn tell_going_on(&mut self)
+        ensures faults { self.new.faults ≡ self.old.faults }
+    {
+        if self.is_failing {
+            self.is_failing = false;
+            let _ = eprintln!(self.files; "copymgr: {}: entries are written again", self.path);
+        }
+    }
+
+    /// Says on standard error that the file begins to fail, where it did not fail before.
+    fn tell_failing(&mut self, error: &io::Error)
+        ensures faults { self.new.faults ≡ self.old.faults }
+    {
+        if !self.is_failing {
+            self.is_failing = true;
+            let _ = eprintln!(self.files;
+                "copymgr: {}: {error}, so entries are kept in memory",
+                self.path
+            );
         }
     }
 }
@@ -60,11 +89,16 @@ impl Sink for UnitFile<'_> {
 
     ghost unpushed = { λ _. no_side };
 
-    /// A file that can't be made, or that takes none of some bytes, has failed.
+    /// A file that can't be made, or that takes none of some bytes, has failed. When it begins to fail, and when it goes
+    /// on again, is said on standard error.
     fn push(&mut self, from: &[u8]) -> Result<usize, WriteFailed> {
         match self.write(from) {
-            Some(count) => Ok(count),
-            None => {
+            Ok(count) => {
+                self.tell_going_on();
+                Ok(count)
+            }
+            Err(error) => {
+                self.tell_failing(&error);
                 self.faults = self.faults.saturating_add(1);
                 Err(WriteFailed)
             }

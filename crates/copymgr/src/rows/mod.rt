@@ -1,16 +1,10 @@
 // Worked traces: what goes in, what comes out, and how the program ends.
 
-pub mod copies;
-pub mod evictions;
 pub mod first_path;
 pub mod generated;
 pub mod host_copies;
 pub mod long_data;
-pub mod operations;
-pub mod reservations;
 pub mod sessions;
-pub mod tokens;
-pub mod usual_copy;
 pub mod words;
 
 use crate::status::Status;
@@ -30,13 +24,6 @@ const HEADER: &str =
     "434d545241434531000102030405060708090a0b0c0d0e0f101112131415161718191a1b1c1d1e1f0001\
 0000000000000064000002000010000000000000000000641000000000000000";
 
-/// Three units of 1,048,576 blocks of 512 bytes, of which the last is of another group.
-const THREE_UNITS: &str =
-    "434d545241434531000102030405060708090a0b0c0d0e0f101112131415161718191a1b1c1d1e1f0003\
-0000000000100000000002000010000000000000001000001000000000000000\
-0000000000100000000002000010000000000000001000001000000000000000\
-0000000000100000000002000010000000000000001000001000000001000000";
-
 /// A Run of initiator 1.
 const RUN: &str = "02000000010000000000000000";
 
@@ -46,7 +33,6 @@ pub fn hex_text(word: &str) -> &str {
         "HEADER" => HEADER,
         "JOB" => host_copies::JOB,
         "RUN" => RUN,
-        "THREE_UNITS" => THREE_UNITS,
         _ => word,
     }
 }
