@@ -2,6 +2,7 @@
 
 The files, from the bottom up:
 
+    crates.py    the crates of crates.txt
     names.py     the names in a term that nothing in it binds
     imports.py   what the `use` lines of a file bring in
     items.py     a file, and the definitions, types and clauses in it

@@ -6,6 +6,10 @@ from .names import TOKEN, without_comments
 
 MOST_LINES = 15
 WIDTH = 120
+# the crates whose definitions say how bytes are laid out, as the standards' tables do
+LAYOUTS = {
+    "scsi_sense", "scsi_cdb", "block_params", "seg_parse", "cm_frame", "copy_plan", "copy_status", "scsi_inquiry", "rod_token",
+}
 
 
 class Headline:
@@ -22,8 +26,14 @@ class Headline:
             if items:
                 yield file, items
 
-    def of_kind(self, is_specs):
-        return [(file, items) for file, items in self.files() if file.is_specs == is_specs]
+    def kinds(self):
+        """What is reached, by what it is: definitions of what is done, those of how bytes are laid out, and types."""
+        found = {"definitions": [], "of them on bytes": [], "types of code": []}
+        for file, items in self.files():
+            layout = "of them on bytes" if file.crate in LAYOUTS else "definitions"
+            found[layout if file.is_specs else "types of code"] += items
+        found["definitions"] += found["of them on bytes"]
+        return found
 
     # ---- the text
 
@@ -55,10 +65,7 @@ class Headline:
     # ---- the numbers
 
     def total(self):
-        parts = []
-        for is_specs, name in (True, "definitions"), (False, "types of code"):
-            kind = [item for _, items in self.of_kind(is_specs) for item in items]
-            parts.append(f"{len(kind)} {name}: {lines_of(kind)} lines")
+        parts = [f"{len(items)} {kind}: {lines_of(items)} lines" for kind, items in self.kinds().items()]
         return "; ".join([*parts, f"{len(self.roots)} functions with the clauses: {lines_of(self.roots)} lines"])
 
     def table(self):
@@ -75,6 +82,15 @@ class Headline:
             "",
             f"{len(long)} longer than {MOST_LINES} lines, {len(silent)} without a sentence, of {len(items)}",
         ]
+
+    def twice(self):
+        """The names that two definitions or types have."""
+        found = {}
+        for file, items in self.files():
+            for item in items:
+                found.setdefault(item.name, []).append(file.path)
+        lines = [f"{name}: {', '.join(paths)}" for name, paths in sorted(found.items()) if len(paths) > 1]
+        return [*lines, "", f"{len(lines)} names stand twice, of {len(found)}"]
 
     # ---- what is not reached
 

@@ -4,6 +4,7 @@ import fnmatch
 import re
 
 from .code import read_code, see_as
+from .crates import crate_names
 from .imports import imported
 from .specs import read_specs
 
@@ -16,8 +17,7 @@ class Tree:
 
     def __init__(self, top):
         self.top = top
-        lines = (top / "crates.txt").read_text(encoding="utf-8").splitlines()
-        self.crates = [line.partition(":")[0] for line in lines if line.strip()]
+        self.crates = crate_names((top / "crates.txt").read_text(encoding="utf-8"))
         self.files = []
         for crate in self.crates:
             self.files += self.read_code(crate) + self.read_specs(crate)
@@ -111,9 +111,12 @@ class Tree:
         return seen
 
     def clauses(self, crate, pattern):
-        """The functions of a crate whose names are such."""
-        functions = [item for file in self.files if file.crate == crate for item in file.functions]
-        return [item for item in functions if item.is_public and fnmatch.fnmatchcase(item.name, pattern)]
+        """The functions of a crate whose names are such; TYPE::NAME names methods."""
+        of_type, _, name = pattern.rpartition("::")
+        files = [file for file in self.files if file.crate == crate]
+        methods = [item for file in files for kind, item in file.members if kind == of_type and item.lines]
+        functions = methods if of_type else [item for file in files for item in file.functions]
+        return [item for item in functions if item.is_public and fnmatch.fnmatchcase(item.name, name)]
 
     def public(self):
         """All that the crates say to those who use them."""

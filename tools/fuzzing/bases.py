@@ -3,9 +3,9 @@
 Each function takes a `Base` and gives a request; before it is built, what it needs is played.
 """
 
-from replay import cdbs, lists, rod_token
-from replay.frames import Begin, Machine, Request, Run, Shape
-from replay.reservations import KINDS, REGISTER_AND_IGNORE
+from copymgr_formats import cdbs, lists, rod_token
+from copymgr_formats.frames import Begin, Machine, Request, Run, Shape
+from copymgr_formats.reservations import KINDS, REGISTER_AND_IGNORE
 
 INITIATOR = 7
 ENTRIES, PAYLOAD = 1_048_576, 268_435_456

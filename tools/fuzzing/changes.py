@@ -3,9 +3,9 @@ comes."""
 
 import struct
 
-from replay import cdbs, frames
-from replay.frames import Request
-from replay.senses import Refused
+from copymgr_formats import cdbs, frames
+from copymgr_formats.frames import Request
+from copymgr_formats.senses import Refused
 
 from . import fields
 

@@ -1,6 +1,6 @@
 """Where fields stand, (first byte, how many bytes), and what values to try in one of so many bytes."""
 
-from replay import cdbs
+from copymgr_formats import cdbs
 from replay.commands import ACTIONS
 
 # numbers that are limits, or one beside

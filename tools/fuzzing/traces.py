@@ -3,15 +3,15 @@
 import itertools
 import random
 
-from replay import cdbs, frames
+from copymgr_formats import cdbs, frames
+from copymgr_formats.frames import Begin, Pump, Request
+from copymgr_formats.senses import BadInput, Refused
 from replay.acts import pieces
-from replay.frames import Begin, Pump, Request
 from replay.player import Player, items_from
-from replay.senses import BadInput, Refused
 from replay.told import BACKGROUND
 
 from . import changes
-from .bases import BASES, INITIATOR, MACHINE, SHAPES, Base, begun, runs
+from .bases import BASES, Base, INITIATOR, MACHINE, SHAPES, begun, runs
 
 # of the commands before and behind the changed ones
 LOOKER = 4

@@ -3,7 +3,8 @@ entry of a pump, and each Begin before the first act of its command."""
 
 import collections
 
-from replay import compared, entries, frames, player
+from copymgr_formats import frames
+from replay import compared, entries, player
 from replay.entries import Actors, NotedUnit
 
 

@@ -5,7 +5,8 @@ import subprocess
 import time
 
 from copymgr.hosts import BUSY
-from replay import compared, frames
+from copymgr_formats import frames
+from replay import compared
 from tracetext import checking
 
 def nexus_of(reply):

@@ -6,11 +6,12 @@ import threading
 
 from copymgr import Connection, Ended
 from copymgr.hosts import reply_from
+from copymgr_formats import cdbs, frames, lists, rod_token
+from copymgr_formats.senses import Refused
 from fuzzing import changes
-from replay import acts, cdbs, frames, lists, rod_token
+from replay import acts
 from replay.player import Player
 from replay.requests import Requests
-from replay.senses import Refused
 from replay.traces import ALL, MIXED
 
 SECONDS = 120

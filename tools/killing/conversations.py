@@ -14,10 +14,11 @@ that end what ran before stayed together.
 import collections
 import copy
 
+from copymgr_formats import frames
+from copymgr_formats.senses import Conflict, RecordFull, Refused
 from histories.following import Differs, told
-from replay import compared, entries, frames
+from replay import compared, entries
 from replay.player import Pending
-from replay.senses import Conflict, RecordFull, Refused
 from replay.unit import RUNNING
 
 from .following import LifeFollowing, entries_of_life

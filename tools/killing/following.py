@@ -2,9 +2,10 @@
 
 import collections
 
+from copymgr_formats import cdbs
 from histories.following import Differs, Following, judge_text
 from histories.judging import nexus_of
-from replay import cdbs, compared, entries, written
+from replay import compared, entries, written
 from replay.entries import Actors
 from replay.resuming import done_again, endings, forgotten
 

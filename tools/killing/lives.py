@@ -9,8 +9,9 @@ import threading
 import time
 
 from copymgr import Ended, Server, Shape
+from copymgr_formats import frames
 from histories.following import Differs, noted_units, unfolded
-from replay import frames, journals
+from replay import journals
 from replay.resuming import done_again, next_nexus
 
 from . import conversations, following, losing, talking

@@ -21,7 +21,7 @@ def library(folder):
     """The path of lose_unsynced.c, compiled."""
     path = os.path.join(folder, "lose.so")
     words = [os.environ.get("CC", "cc"), "-O1", "-fPIC", "-shared", "-o", path]
-    subprocess.run([*words, os.path.join(HERE, "../lose_unsynced.c")], check=True)
+    subprocess.run([*words, os.path.join(HERE, "../campaigns/lose_unsynced.c")], check=True)
     return path
 
 

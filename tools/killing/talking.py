@@ -5,9 +5,9 @@ import struct
 import threading
 
 from copymgr.hosts import Reply
+from copymgr_formats import cdbs, frames, lists
+from copymgr_formats.reservations import ACTIONS, CLEAR, KINDS, REGISTER, REGISTER_AND_IGNORE
 from histories import talking
-from replay import cdbs, frames, lists
-from replay.reservations import ACTIONS, CLEAR, KINDS, REGISTER, REGISTER_AND_IGNORE
 
 SECONDS = 120
 # what others reserved is now and then in the way

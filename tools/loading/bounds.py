@@ -2,7 +2,8 @@
 
 import collections
 
-from replay import acts, cdbs, commands, frames, lists, rod_token, senses
+from copymgr_formats import cdbs, frames, lists, rod_token, senses
+from replay import acts, commands
 from replay.player import Pending
 
 GOOD, CHECK, BUSY, FULL = 0x00, 0x02, 0x08, 0x28

@@ -7,7 +7,7 @@ import struct
 import time
 
 from copymgr import Connection, Ended, Shape
-from replay import cdbs, frames, lists, rod_token, senses
+from copymgr_formats import cdbs, frames, lists, rod_token, senses
 from replay.player import Player
 from replay.requests import Requests
 from replay.traces import ALL, MIXED

@@ -9,7 +9,7 @@ import threading
 import time
 
 from copymgr import Connection, Ended, Server, Shape
-from replay import cdbs, frames
+from copymgr_formats import cdbs, frames
 
 from . import memory
 

@@ -11,7 +11,7 @@ class Refusal:
 
     def __init__(self, folder):
         self.library, self.mark = os.path.join(folder, "refuse.so"), os.path.join(folder, "mark")
-        source = os.path.join(HERE, "../fail_allocation.c")
+        source = os.path.join(HERE, "../campaigns/fail_allocation.c")
         words = [os.environ.get("CC", "cc"), "-O1", "-fPIC", "-shared", "-o", self.library, source]
         subprocess.run(words, check=True)
 

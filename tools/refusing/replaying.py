@@ -9,9 +9,10 @@ the same replies, those behind a BUSY too.
 import collections
 import subprocess
 
-from replay import frames, generated
+from copymgr_formats import frames
+from copymgr_formats.senses import BadInput
+from replay import generated
 from replay.player import ACT, BEGIN, STEP, line_of, play, played_items
-from replay.senses import BadInput
 
 SECONDS = 60
 OUT_OF_MEMORY = 3

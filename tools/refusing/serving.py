@@ -14,10 +14,10 @@ import socket
 import struct
 import subprocess
 
-from replay import frames
+from copymgr_formats import frames
 from replay.player import Player
 
-from .replaying import OUT_OF_MEMORY, SECONDS, Ended, items_of, places_of
+from .replaying import Ended, OUT_OF_MEMORY, SECONDS, items_of, places_of
 
 # what the connection got, the report, the exit status, and what was said on standard error
 Served = collections.namedtuple("Served", "replies report status said")

@@ -8,12 +8,14 @@ one.
 
 import collections
 
-from . import acts, cdbs, lists, rod_token, told
-from .frames import sense_bytes
-from .senses import (
-    BAD_CDB, BAD_LIST, BAD_LIST_LENGTH, COPY_ABORTED, COPY_OUT_OF_RANGE, DEVICE_TYPE, NOT_REACHABLE, NO_SENSE,
-    NO_SUCH_UNIT, TOKEN_LENGTH, TOKEN_TYPE, TOKEN_UNKNOWN, Conflict, NoMemory, RecordFull, Refused, refuse_if,
+from copymgr_formats import cdbs, lists, rod_token
+from copymgr_formats.frames import sense_bytes
+from copymgr_formats.senses import (
+    BAD_CDB, BAD_LIST, BAD_LIST_LENGTH, COPY_ABORTED, COPY_OUT_OF_RANGE, Conflict, DEVICE_TYPE, NOT_REACHABLE, NO_SENSE,
+    NO_SUCH_UNIT, NoMemory, RecordFull, Refused, TOKEN_LENGTH, TOKEN_TYPE, TOKEN_UNKNOWN, refuse_if,
 )
+
+from . import acts, told
 
 COPY_BYTES_LIMIT = 536_870_912
 ACTIONS = ("register", "register and ignore", "reserve", "release", "clear", "preempt")

@@ -2,7 +2,7 @@
 
 import tempfile
 
-from . import frames
+from copymgr_formats import frames
 
 
 def first_difference(got, wanted):

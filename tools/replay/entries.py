@@ -4,9 +4,10 @@ import collections
 import itertools
 import struct
 
+from copymgr_formats.senses import Conflict, Refused
+
 from . import told
 from .player import PUMP
-from .senses import Conflict, Refused
 from .unit import Unit
 
 Entry = collections.namedtuple("Entry", "stamp unit block_length actor seq moment act")

@@ -1,6 +1,8 @@
 """The generated trace of some rounds, and what a replay of it counts."""
 
-from . import cdbs, frames, lists, player, rod_token
+from copymgr_formats import cdbs, frames, lists, rod_token
+
+from . import player
 
 ROUNDS_LIMIT = 4096
 BLOCKS = 8

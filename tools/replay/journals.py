@@ -5,7 +5,8 @@ import fcntl
 import os
 import struct
 
-from . import frames
+from copymgr_formats import frames
+
 from .readback import BadText, entry_of
 
 OPEN, SHUT = 0xA5, 0x00

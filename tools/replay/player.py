@@ -7,8 +7,10 @@ act may not be done (ACT), or it is done and the step behind it fails (STEP). Th
 import collections
 import struct
 
-from . import acts, cdbs, commands, frames
-from .senses import BadInput, Conflict, NoMemory, RecordFull, Refused
+from copymgr_formats import cdbs, frames
+from copymgr_formats.senses import BadInput, Conflict, NoMemory, RecordFull, Refused
+
+from . import acts, commands
 from .unit import Unit
 
 TEXTS = {

@@ -3,12 +3,14 @@ history."""
 
 import struct
 
-from . import acts, commands, lists
-from .cdbs import BLOCKS_LIMIT as READ_LIMIT
-from .entries import STATES, Entry
+from copymgr_formats import lists
+from copymgr_formats.cdbs import BLOCKS_LIMIT as READ_LIMIT
+from copymgr_formats.reservations import ACTIONS
+from copymgr_formats.senses import Refused
+
+from . import acts, commands
+from .entries import Entry, STATES
 from .player import PUMP
-from .reservations import ACTIONS
-from .senses import Refused
 from .told import BACKGROUND
 from .written import NAMES, NEXUS, PUMP_OF_UNIT
 

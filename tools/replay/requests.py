@@ -2,10 +2,11 @@
 
 import struct
 
-from . import cdbs, lists, rod_token
+from copymgr_formats import cdbs, lists, rod_token
+from copymgr_formats.frames import Request
+from copymgr_formats.reservations import ACTIONS, KINDS
+
 from .acts import PIECE
-from .frames import Request
-from .reservations import ACTIONS, KINDS
 from .told import BACKGROUND, PAGES
 
 # where lengths and other small numbers stand in the lists

@@ -2,9 +2,10 @@
 
 import functools
 
+from copymgr_formats.senses import Conflict, RecordFull, Refused
+
 from . import acts, told
 from .entries import Entry
-from .senses import Conflict, RecordFull, Refused
 from .unit import Unit
 
 NEXUS_LIMIT = 4_294_967_038

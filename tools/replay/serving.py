@@ -6,14 +6,16 @@ It takes the words, the configuration and the frames that `copymgr serve` takes,
 import re
 import socket
 import struct
-import sys
 import threading
 import time
 
-from . import acts, frames
+from copymgr_formats import frames
+from copymgr_formats.addresses import address_of
+from copymgr_formats.senses import BadInput, RecordFull
+
+from . import acts
 from .player import PUMP, Pending
 from .recording import recorded_units
-from .senses import BadInput, RecordFull
 from .unit import Unit
 
 SESSIONS_LIMIT = 256
@@ -52,23 +54,18 @@ def sessions_of(text):
     return int(text)
 
 
-def address_of(text):
-    """Host and port of HOST:PORT; an IPv6 address may stand in brackets."""
-    host, _, port = text.rpartition(":")
-    if not host or not re.fullmatch("[0-9]{1,5}", port) or int(port) > 0xFFFF:
-        raise ValueError(f"{text} is no HOST:PORT")
-    return host.removeprefix("[").removesuffix("]"), int(port)
-
-
 def listening(address):
-    """A socket that listens at HOST:PORT. Where the port is 0 the system picks one, and standard error tells which."""
+    """A socket that listens at HOST:PORT."""
     host, port = address_of(address)
-    listener = socket.create_server((host, port), family=socket.AF_INET6 if ":" in host else socket.AF_INET)
+    return socket.create_server((host, port), family=socket.AF_INET6 if ":" in host else socket.AF_INET)
+
+
+def tell_address(listener, address, say):
+    """Says where a socket listens, where the system picked the port."""
+    host, port = address_of(address)
     if port == 0:
         shown = f"[{host}]" if ":" in host else host
-        sys.stderr.write(f"copymgr: serving at {shown}:{listener.getsockname()[1]}\n")
-        sys.stderr.flush()
-    return listener
+        say(f"serving at {shown}:{listener.getsockname()[1]}")
 
 
 class Broken(Exception):

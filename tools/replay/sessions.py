@@ -3,8 +3,9 @@
 import itertools
 import struct
 
-from . import frames
-from .frames import DATA_LIMIT, Begin, Machine, Request, Run
+from copymgr_formats import frames
+from copymgr_formats.frames import Begin, DATA_LIMIT, Machine, Request, Run
+
 from .player import Player
 from .requests import Requests
 from .traces import INITIATORS, STYLES

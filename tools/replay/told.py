@@ -2,8 +2,8 @@
 
 import struct
 
-from .frames import sense_bytes
-from .rod_token import unit_name
+from copymgr_formats.frames import sense_bytes
+from copymgr_formats.rod_token import unit_name
 
 PAGES = (0x00, 0x83, 0x8F, 0xB0, 0xB2)
 DONE, FAILED, BACKGROUND, TERMINATED = 0x01, 0x02, 0x12, 0x60

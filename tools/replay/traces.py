@@ -3,12 +3,13 @@
 import collections
 import struct
 
-from . import cdbs, frames
+from copymgr_formats import cdbs, frames
+from copymgr_formats.frames import Begin, ENTRIES_LIMIT, Machine, PAYLOAD_LIMIT, Pump, Request, Run, Shape
+from copymgr_formats.senses import BadInput
+
 from .acts import Redeem
-from .frames import ENTRIES_LIMIT, PAYLOAD_LIMIT, Begin, Machine, Pump, Request, Run, Shape
 from .player import Player
 from .requests import Requests
-from .senses import BadInput
 from .told import BACKGROUND
 
 INITIATORS = [1, 2, 3, 0xFFFFFFFF]

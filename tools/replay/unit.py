@@ -1,14 +1,15 @@
 """A unit: its blocks, its tokens, its operations, and what its record holds."""
 
-from . import rod_token
-from .acts import (
-    PIECE, Abort, Advance, Capture, Close, End, MapStatus, Open, Populate, Pump, Put, Read, Result, Start, Told, Unmap,
-    Write, pieces,
+from copymgr_formats import rod_token
+from copymgr_formats.reservations import Reservations, conflict_if
+from copymgr_formats.senses import (
+    BAD_CDB, IN_USE, OUT_OF_RANGE, OVER_QUOTA, RecordFull, Refused, TOKEN_CORRUPT, TOKEN_DELETED, TOKEN_EVICTED,
+    TOKEN_EXPIRED, TOKEN_REMOTE, TOKEN_UNKNOWN, TOO_MANY, refuse_if,
 )
-from .reservations import Reservations, conflict_if
-from .senses import (
-    BAD_CDB, IN_USE, OUT_OF_RANGE, OVER_QUOTA, TOKEN_CORRUPT, TOKEN_DELETED, TOKEN_EVICTED, TOKEN_EXPIRED,
-    TOKEN_REMOTE, TOKEN_UNKNOWN, TOO_MANY, RecordFull, Refused, refuse_if,
+
+from .acts import (
+    Abort, Advance, Capture, Close, End, MapStatus, Open, PIECE, Populate, Pump, Put, Read, Result, Start, Told, Unmap,
+    Write, pieces,
 )
 from .told import BACKGROUND, DONE, FAILED, TERMINATED
 

@@ -12,17 +12,20 @@ import unittest.mock
 
 TOOLS = pathlib.Path(__file__).resolve().parent.parent
 TOP = TOOLS.parent
-sys.path.insert(0, str(TOOLS))
-sys.dont_write_bytecode = True
 
 # the proved program: another one may be named in the environment
 PROGRAM = os.environ.get("COPYMGR", str(TOP / "crates/copymgr/out/copymgr"))
 NO_PROGRAM = None if os.access(PROGRAM, os.X_OK) else f"no program at {PROGRAM}: the plain replay alone was asked"
 
 
+def path_of(name):
+    """Where a script is: in the folder of those who use it, or at a path of its own."""
+    return next(iter(sorted(TOOLS.glob(f"[pc]*/{name}"))), TOOLS / name) if isinstance(name, str) else name
+
+
 def tool(name):
     """A script of tools/ as a module."""
-    loader = importlib.machinery.SourceFileLoader(name.replace("-", "_"), str(TOOLS / name))
+    loader = importlib.machinery.SourceFileLoader(name.replace("-", "_"), str(path_of(name)))
     module = importlib.util.module_from_spec(importlib.util.spec_from_loader(loader.name, loader))
     loader.exec_module(module)
     return module
@@ -30,7 +33,7 @@ def tool(name):
 
 def run(*words, data=b""):
     """A tool, by its words: what it wrote, what it said on standard error, and its exit status."""
-    done = subprocess.run([TOOLS / words[0], *words[1:]], input=data, capture_output=True, check=False, cwd=TOP)
+    done = subprocess.run([path_of(words[0]), *words[1:]], input=data, capture_output=True, check=False, cwd=TOP)
     return done.stdout, done.stderr.decode(), done.returncode
 
 

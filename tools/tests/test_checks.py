@@ -11,12 +11,17 @@ from tracetext import checking, traces
 
 UNITS = ["unit 0 blocks=100"]
 WRITE_THEN_READ = UNITS + ["i1 lun=0 write-16 lba=0 data=11*512,22*512 go", "i1 lun=0 read-16 lba=0 count=3 go"]
-PLAIN = [str(support.TOOLS / "plain-replay")]
+PLAIN = [str(support.TOOLS / "people/plain-replay")]
 PROGRAMS = [PLAIN] + ([] if support.NO_PROGRAM else [[support.PROGRAM]])
 
 
 def replies_of(trace):
     return subprocess.run(PLAIN + ["replay"], input=trace, capture_output=True, check=True).stdout
+
+
+def differs(place):
+    """What a program says of replies that differ at a place."""
+    return 10, b"", f"copymgr: replies differ at byte {place}\n".encode()
 
 
 def told(trace, records, program):
@@ -41,11 +46,21 @@ class Checks(unittest.TestCase):
             self.assertEqual(told(self.trace, self.replies, program), (["these are the replies of the trace"], True))
 
     def test_each_kind_of_difference(self):
-        for place in (0, 4, 5, 9, 14, 20, 1555):
+        for place in (0, 3, 4, 5, 6, 9, 13, 14, 15, 19, 20, 1555):
             records = bytearray(self.replies)
             records[place] ^= 0x08
-            said = f"copymgr: replies differ at byte {place}\n".encode()
-            self.assertEqual(self.asked(checking.input_of(self.trace, bytes(records))), (10, b"", said))
+            self.assertEqual(self.asked(checking.input_of(self.trace, bytes(records))), differs(place))
+
+    def test_a_byte_of_a_sense(self):
+        trace = traces.bytes_of(traces.read_text(UNITS + ["i1 lun=0 read-16 lba=100 count=1 go"]))
+        records = bytearray(replies_of(trace))
+        self.assertEqual(records[12], 0x05)
+        records[12] = 0x06
+        self.assertEqual(self.asked(checking.input_of(trace, bytes(records))), differs(12))
+
+    def test_replies_of_another_length(self):
+        for records, place in ((self.replies + b"\0", 1556), (self.replies[:-1], 1555), (b"", 0)):
+            self.assertEqual(self.asked(checking.input_of(self.trace, records)), differs(place))
 
     def test_the_reply_that_differs_is_named(self):
         busy = bytearray(self.replies)
@@ -72,6 +87,16 @@ class Checks(unittest.TestCase):
             (checking.input_of(self.trace[:-1], b""), 4, f"input ends inside the part at byte {len(self.trace) - 5}"),
         ):
             self.assertEqual(self.asked(data), (status, b"", f"copymgr: {line}\n".encode()))
+
+    def test_told_lengths_of_a_trace_that_ends_at_a_run(self):
+        trace = traces.bytes_of(traces.read_text(UNITS)) + bytes.fromhex("02000000010000000000000000")
+        for length, status, line in (
+            (len(trace) + 1, 4, "input ends inside the part at byte 8"),
+            (len(trace), 7, "bad record at byte 82"),
+            (len(trace) - 13, 10, "replies differ at byte 0"),
+        ):
+            said = (status, b"", f"copymgr: {line}\n".encode())
+            self.assertEqual(self.asked(struct.pack(">Q", length) + trace), said)
 
     def test_the_command(self):
         with tempfile.TemporaryDirectory() as folder:

@@ -6,17 +6,18 @@ import subprocess
 import tempfile
 import unittest
 
+from copymgr_formats import senses
+
 from . import support
-from replay import senses
 
 STDIN, _, _ = support.run("row", "trace", "write then read")
 STDOUT, _, _ = support.run("row", "replies", "write then read")
 TEXT = b"unit 0 blocks=100\ni1 lun=0 write-16 lba=0 data=11*512,22*512 go\ni1 lun=0 read-16 lba=0 count=3 go\n"
 TOOLS = [
-    "tools/trace", "tools/plain-replay", "tools/row", "tools/random-traces", "tools/run-tests",
-    "tools/fail-allocations", "tools/check-repository", "tools/random-sessions", "tools/plain-serve",
-    "tools/serving-load", "tools/fuzz", "tools/iscsi-clients", "clients/iscsi/iscsi-target", "bench/run",
-    "bench/run-sessions", "bench/generate.py", "bench/run-serving", "bench/floor.py", "tools/served-history",
+    "tools/people/trace", "tools/people/plain-replay", "tools/people/row", "tools/campaigns/random-traces", "tools/proofs/run-tests",
+    "tools/campaigns/fail-allocations", "tools/proofs/check-repository", "tools/campaigns/random-sessions", "tools/people/plain-serve",
+    "tools/campaigns/serving-load", "tools/campaigns/fuzz", "tools/campaigns/iscsi-clients", "clients/iscsi/iscsi-target", "bench/run",
+    "bench/run-sessions", "bench/generate.py", "bench/run-serving", "bench/floor.py", "tools/campaigns/served-history",
     "bench/run-kept", "bench/run-commands", "bench/run-tokens",
 ]
 
@@ -38,7 +39,7 @@ class Trace(unittest.TestCase):
 
     def test_play_by_a_program(self):
         plain = support.run("trace", "play", data=TEXT)
-        self.assertEqual(support.run("trace", "play", "tools/plain-replay", data=TEXT), plain)
+        self.assertEqual(support.run("trace", "play", "tools/people/plain-replay", data=TEXT), plain)
 
     def test_play_tells_of_other_replies(self):
         output, _, status = support.run("trace", "play", "true", data=TEXT)
@@ -46,7 +47,7 @@ class Trace(unittest.TestCase):
         self.assertEqual(status, 1)
 
     def test_output_that_nobody_reads(self):
-        words = "set -o pipefail; tools/trace play < examples/token.txt | true"
+        words = "set -o pipefail; tools/people/trace play < examples/token.txt | true"
         done = subprocess.run(["bash", "-c", words], cwd=support.TOP, capture_output=True, check=False)
         self.assertEqual((done.returncode, done.stderr), (1, b""))
 
@@ -111,12 +112,14 @@ class Words(unittest.TestCase):
                 self.assertIn("example:\n", output.decode())
                 self.assertIn(f"  $ {tool}", output.decode())
 
-    def test_wrong_use_is_one_line_and_status_2(self):
+    def test_wrong_use_is_one_line_and_a_status(self):
+        """The plain servers have the status of the program that they are beside."""
         nonesuch = [[support.TOP / tool, "--nonesuch"] for tool in TOOLS]
         for words in nonesuch + [["trace"], ["trace", "foo"], ["row", "trace", "none"]]:
             with self.subTest(words=words):
                 output, said, status = support.run(*words)
-                self.assertEqual((output, status, said.count("\n")), (b"", 2, 1), said)
+                wanted = 6 if pathlib.Path(words[0]).name in ("plain-serve", "plain-store") else 2
+                self.assertEqual((output, status, said.count("\n")), (b"", wanted, 1), said)
 
 
 class Senses(unittest.TestCase):

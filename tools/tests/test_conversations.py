@@ -2,23 +2,20 @@
 
 import collections
 import random
-import sys
 import types
 import unittest
 
-from . import support
-
-sys.path.insert(0, str(support.TOP / "clients/python"))
-
-# pylint: disable=wrong-import-position
 from copymgr import Shape
+from copymgr_formats import cdbs, frames, lists, rod_token
+from copymgr_formats.senses import RecordFull
 from histories import talking
 from histories.following import Differs, noted_units, unfolded
 from killing import conversations
-from replay import acts, cdbs, frames, journals, lists, player, readback, rod_token, storing
+from replay import acts, journals, player, readback, storing
 from replay.entries import Actors, NotedUnit
 from replay.requests import Requests
-from replay.senses import RecordFull
+
+from . import support
 
 SHAPES = [Shape(3000, entries=16), Shape(60, entries=14), Shape(40, payload=9000)]
 MACHINE = frames.Machine(frames.SECRET, SHAPES)

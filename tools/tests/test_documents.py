@@ -8,15 +8,16 @@ import subprocess
 import tempfile
 import unittest
 
-from . import support
-from replay import cdbs
+from copymgr_formats import cdbs
 from tracetext import requests, traces
+
+from . import support
 
 # seconds
 PATIENCE = 300
 DOCUMENTS = ["docs/first-trace.md", "clients/python/README.md"]
 HELPS = [
-    "tools/trace", "tools/plain-replay", "tools/plain-serve", "tools/plain-store", "tools/row", "tools/headline",
+    "tools/people/trace", "tools/people/plain-replay", "tools/people/plain-serve", "tools/people/plain-store", "tools/people/row", "tools/proofs/headline",
     "clients/python/cmgr", "clients/iscsi/iscsi-target",
 ]
 
@@ -66,7 +67,7 @@ class Typed(unittest.TestCase):
             commands = typed(blocks((support.TOP / document).read_text(encoding="utf-8"), "    "))
             self.assertGreater(len(commands), 7)
             for command, output in commands:
-                wanted = [line for line in output if not line.startswith("tools/trace play crates/")]
+                wanted = [line for line in output if not line.startswith("tools/people/trace play crates/")]
                 self.assertEqual(self.said(command)[0], wanted, command)
 
     def test_the_table_of_commands(self):

@@ -6,10 +6,12 @@ import sys
 import tempfile
 import unittest
 
-from . import support
+from copymgr_formats import cdbs, frames
 from fuzzing import changes, fields, traces
 from fuzzing.bases import BASES, MACHINE
-from replay import cdbs, frames, player
+from replay import player
+
+from . import support
 
 SAYS_ANOTHER_SENSE = """#!{python}
 import subprocess, sys
@@ -64,7 +66,7 @@ class Fuzz(unittest.TestCase):
         return output.decode().splitlines(), status
 
     def test_the_plain_replay_differs_from_itself_nowhere(self):
-        lines, status = self.last("tools/plain-replay", "2000", "3", "--part", "requests")
+        lines, status = self.last("tools/people/plain-replay", "2000", "3", "--part", "requests")
         self.assertEqual(status, 0)
         self.assertRegex(lines[0], "requests and items: 2[0-9]{3} inputs, no difference")
         self.assertRegex(lines[-1], "^2[0-9]{3} passed, 0 failed$")
@@ -72,7 +74,7 @@ class Fuzz(unittest.TestCase):
     def test_a_difference_is_found(self):
         with tempfile.TemporaryDirectory() as folder:
             program = pathlib.Path(folder) / "program"
-            program.write_text(SAYS_ANOTHER_SENSE.format(python=sys.executable, plain=support.TOOLS / "plain-replay"))
+            program.write_text(SAYS_ANOTHER_SENSE.format(python=sys.executable, plain=support.TOOLS / "people/plain-replay"))
             program.chmod(0o755)
             lines, status = self.last(str(program), "4000", "--part", "requests")
         for line in lines:

@@ -1,8 +1,10 @@
-"""What tools/gate-cost tells of a run of the gate."""
+"""What tools/proofs/gate-cost tells of a run of the gate."""
 
 import os
 import pathlib
+import re
 import signal
+import subprocess
 import tempfile
 import unittest
 import unittest.mock
@@ -56,6 +58,19 @@ class GateCost(unittest.TestCase):
     def test_what_earlier_runs_passed_may_be_kept(self):
         self.assertEqual(self.cost("--kept")[3], ["ci"])
 
+    def test_one_line_tells_what_a_gate_beside_it_paid_by_kind(self):
+        gate = f"#!/bin/sh\n{support.TOP}/tools/proofs/gate-cost --beside $$ &\n" + RT.partition("\n")[2].replace("exit 3", "kill $! && wait $!")
+        with tempfile.TemporaryDirectory() as name:
+            top = pathlib.Path(name)
+            (top / "crates/cm_base").mkdir(parents=True)
+            (top / "edit").mkdir()
+            (top / "gate").write_text(gate.replace("low", "cm_base"))
+            done = subprocess.run(["setsid", "sh", "gate"], cwd=top, env=os.environ | {"LOG": "log"}, stdout=subprocess.PIPE, check=False)
+        told = re.fullmatch(r"processor minutes: checks (.*), tests (.*), wrong bodies (.*), all (.*)\n", done.stdout.decode())
+        checks, tests, edits, whole = map(float, told.groups())
+        self.assertTrue(min(checks, tests, edits) > 0, done.stdout)
+        self.assertAlmostEqual(checks + tests + edits, whole, delta=0.02)
+
     def test_at_an_interrupt_what_was_seen_is_told(self):
         for number in (signal.SIGINT, signal.SIGTERM):
             with unittest.mock.patch.dict(os.environ, {"SIGNAL": str(number.value)}):
@@ -65,4 +80,4 @@ class GateCost(unittest.TestCase):
 
     def test_a_crate_that_is_none_is_refused(self):
         _, said, status, ran = self.cost("none")
-        self.assertEqual((said, status, ran), ("tools/gate-cost: crates.txt has no crate none\n", 2, []))
+        self.assertEqual((said, status, ran), ("tools/proofs/gate-cost: crates.txt has no crate none\n", 2, []))

@@ -1,8 +1,9 @@
-"""What tools/headline prints: of a small made-up repository, and of this one."""
+"""What tools/proofs/headline prints: of a small made-up repository, and of this one."""
 
 import pathlib
 import tempfile
 import unittest
+import unittest.mock
 
 from . import support
 from definitions.telling import Headline
@@ -222,6 +223,11 @@ class MadeUp(unittest.TestCase):
         self.assertEqual(names(self.tree.clauses("high", "*_law")), {"mix_law"})
         self.assertEqual(self.tree.clauses("high", "inner"), [])
 
+    def test_methods_are_named_by_their_type(self):
+        self.assertEqual(names(self.tree.clauses("low", "Can::*")), {"give"})
+        self.assertEqual(self.tree.clauses("low", "Shop::give") + self.tree.clauses("low", "give"), [])
+        self.assertIn("dripped", names(self.headline("low", "Can::give").reached))
+
     def test_the_reading_order(self):
         text = "\n".join(self.headline().text())
         order = [
@@ -249,9 +255,22 @@ class MadeUp(unittest.TestCase):
                 "     5     18  crates/low/specs/Pots.antt",
                 "     1      3  crates/high/specs/Paints.antt",
                 "",
-                "6 definitions: 21 lines; 3 types of code: 18 lines; 1 functions with the clauses: 7 lines",
+                "6 definitions: 21 lines; 0 of them on bytes: 0 lines; 3 types of code: 18 lines; 1 functions with the clauses: 7 lines",
             ],
         )
+
+    def test_what_lays_out_bytes(self):
+        with unittest.mock.patch("definitions.telling.LAYOUTS", {"low"}):
+            self.assertIn("; 5 of them on bytes: 18 lines; ", self.headline().total())
+
+    def test_names_that_stand_twice(self):
+        self.assertEqual(self.headline().twice(), ["", "0 names stand twice, of 9"])
+        path = self.tree.top / "crates/high/specs/Paints.antt"
+        path.write_text(path.read_text(encoding="utf-8").replace("IsPainted", "Pot"), encoding="utf-8")
+        code = self.tree.top / "crates/high/src/lib.rt"
+        code.write_text(code.read_text(encoding="utf-8").replace("IsPainted", "Pot"), encoding="utf-8")
+        self.tree = Tree(self.tree.top)
+        self.assertEqual(self.headline().twice()[0], "Pot: crates/low/specs/Pots.antt, crates/high/specs/Paints.antt")
 
     def test_long_ones_and_those_without_a_sentence(self):
         path = self.tree.top / "crates/low/specs/Pots.antt"

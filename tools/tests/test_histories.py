@@ -12,35 +12,33 @@ import tempfile
 import unittest
 from unittest import mock
 
-from . import support
-
-sys.path.insert(0, str(support.TOP / "clients/python"))
-
-# pylint: disable=wrong-import-position
 from copymgr.hosts import Reply
 from copymgr.server import can_serve, report_of
+from copymgr_formats import cdbs, frames, lists, rod_token
 from histories import judging, talking
 from histories.following import Differs, followed, told
 from loading.results import Results
-from replay import cdbs, entries, frames, lists, player, rod_token, written
+from replay import entries, player, written
 from replay.recording import recorded_units
 from replay.traces import STYLES, Trace
 
-PLAIN = [str(support.TOOLS / "plain-replay")]
+from . import support
+
+PLAIN = [str(support.TOOLS / "people/plain-replay")]
 NO_PROGRAM = None if can_serve(support.PROGRAM) else f"no program that serves at {support.PROGRAM}"
 
 # it serves as the plain server does, but for what it tells of an operation
 ANOTHER = """#!{python}
 import runpy, sys
-sys.dont_write_bytecode = True
 sys.path.insert(0, "{tools}")
+import house
 from replay import told
 right = told.operation_bytes
 is_serving = sys.argv[1] == "serve"
 if is_serving:
     told.operation_bytes = lambda report, behind: bytes([1]) + right(report, behind)[1:]
     sys.argv.pop(1)
-runpy.run_path("{tools}/plain-" + ("serve" if is_serving else "replay"), run_name="__main__")
+runpy.run_path("{tools}/people/plain-" + ("serve" if is_serving else "replay"), run_name="__main__")
 """
 
 # the record of the first has room for one WRITE

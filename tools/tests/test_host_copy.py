@@ -7,13 +7,10 @@ import sys
 import tempfile
 import unittest
 
+from copymgr import Server, Shape, plans
+from copymgr_formats import lists
+
 from . import support
-
-sys.path.insert(0, str(support.TOP / "clients/python"))
-
-# pylint: disable=wrong-import-position
-from copymgr import plans
-from replay import lists
 
 NO_PROGRAM = support.NO_PROGRAM
 host_copy = support.tool("host-copy")
@@ -21,10 +18,10 @@ host_copy = support.tool("host-copy")
 # it copies by tokens, or by READ and WRITE
 ANOTHER = """#!{python}
 import struct, sys
-sys.dont_write_bytecode = True
-sys.path[:0] = ["{tools}", "{client}"]
+sys.path.insert(0, "{tools}")
+import house
 from copymgr import Connection, Disk, plans
-from replay.serving import address_of
+from copymgr_formats.addresses import address_of
 job = sys.stdin.buffer.read()
 source, target, _, n, m = struct.unpack_from(">HHIII", job)
 extents = [struct.unpack_from(">QI", job, 16 + 12 * at) for at in range(n + m)]
@@ -44,8 +41,7 @@ class HostCopy(unittest.TestCase):
         return support.run("host-copy", *words)
 
     def another(self, by_tokens):
-        client = support.TOP / "clients/python"
-        text = ANOTHER.format(python=sys.executable, tools=support.TOOLS, client=client, by_tokens=by_tokens)
+        text = ANOTHER.format(python=sys.executable, tools=support.TOOLS, by_tokens=by_tokens)
         with tempfile.TemporaryDirectory() as folder:
             path = f"{folder}/copier"
             with open(path, "w", encoding="utf-8") as file:
@@ -82,10 +78,33 @@ class HostCopy(unittest.TestCase):
         output, said, status = self.run_on(support.PROGRAM)
         self.assertEqual((said, status), ("", 0), output.decode())
 
+    def copied(self, job, address="127.0.0.1:1"):
+        """The status of `copy ADDRESS`, and its lines."""
+        words = [support.PROGRAM, "copy", address]
+        done = subprocess.run(words, input=job, capture_output=True, check=False, timeout=60)
+        return done.returncode, done.stderr.decode().splitlines()
+
     @unittest.skipIf(NO_PROGRAM, NO_PROGRAM)
-    def test_nobody_is_at_the_address(self):
-        done = subprocess.run([support.PROGRAM, "copy", "127.0.0.1:1"], stdin=subprocess.DEVNULL, capture_output=True, check=False)
-        self.assertEqual((done.returncode, done.stderr), (1, b"copymgr: read failed\n"))
+    def test_a_job_is_judged_before_anybody_is_asked(self):
+        job = host_copy.job_bytes([(5, 2)], [(9, 1), (7, 1)])
+        status, said = self.copied(job)
+        self.assertEqual((status, said[0], len(said)), (1, "copymgr: read failed", 2))
+        self.assertIn("127.0.0.1:1", said[1])
+        for data, said in [
+            (b"", (4, ["copymgr: input ends inside the part at byte 0"])),
+            (job[:-1], (4, ["copymgr: input ends inside the part at byte 0"])),
+            (job + b"x", (5, [f"copymgr: bad header at byte {len(job)}"])),
+            (job[:4] + bytes(4) + job[8:], (5, ["copymgr: bad header at byte 4"])),
+        ]:
+            self.assertEqual(self.copied(data), said)
+
+    @unittest.skipIf(NO_PROGRAM, NO_PROGRAM)
+    def test_a_refusal_is_told(self):
+        """By the step, and by the status and the sense of its reply."""
+        with Server([Shape(100), Shape(100)], 1, [support.PROGRAM, "serve"]) as server:
+            status, said = self.copied(host_copy.job_bytes([(99, 2)], [(0, 2)]), "{}:{}".format(*server.address))
+        wanted = ["copymgr: refused at step 1", "copymgr: the reply: CHECK CONDITION, sense 05/21/00"]
+        self.assertEqual((status, said), (13, wanted))
 
 
 if __name__ == "__main__":

@@ -5,22 +5,19 @@ import pathlib
 import random
 import socket
 import subprocess
-import sys
 import tempfile
 import unittest
 from unittest import mock
 
-from . import support
-
-sys.path.insert(0, str(support.TOP / "clients/python"))
-
-# pylint: disable=wrong-import-position
 from copymgr import Connection, Disk, Server
 from copymgr.server import can_store, report_of
-from replay import acts, entries, frames, journals, player, readback, resuming, storing, told
+from copymgr_formats import frames
+from copymgr_formats.senses import RecordFull
+from replay import acts, entries, journals, player, readback, resuming, storing, told
 from replay.entries import Entry, NotedUnit
-from replay.senses import RecordFull
 from replay.traces import STYLES, Trace
+
+from . import support
 
 NO_PROGRAM = None if can_store(support.PROGRAM) else f"no program that stores at {support.PROGRAM}"
 SECONDS = 60
@@ -251,7 +248,7 @@ class Files:
         self.path = pathlib.Path(folder.name, "journal-0")
 
     def ending(self, data, machine=MACHINE, folder=None):
-        """The last line on standard error, the status, and the report, of a program that is served a connection which
+        """What it says on standard error but for what a second line says of the cause, the status, and the report, of a program that is served a connection which
         asks for nothing, over a journal of unit 0 of these bytes and no other, or over those that are there."""
         if data is not None:
             for path in pathlib.Path(self.folder).iterdir():
@@ -269,7 +266,7 @@ class Files:
                 pass  # it has ended
             report, said = program.communicate(timeout=SECONDS)
         said = (first if "serving at" not in first else "") + said.decode()
-        return said, program.returncode, report.decode()
+        return "".join(said.splitlines(True)[:1]), program.returncode, report.decode()
 
     def judge(self, data, machine=MACHINE):
         """It opens a file, or refuses it, as docs/formats.md says."""
@@ -384,7 +381,7 @@ class Files:
 
 
 class PlainFiles(Files, unittest.TestCase):
-    words, step, changes = [str(support.TOOLS / "plain-store")], 37, 5
+    words, step, changes = [str(support.TOOLS / "people/plain-store")], 37, 5
 
     def setUp(self):
         super().setUp()

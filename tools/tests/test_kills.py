@@ -11,13 +11,13 @@ import tempfile
 import unittest
 from unittest import mock
 
-from . import support
-from .test_journals import ENTRIES, NO_PROGRAM, opened
-
-# pylint: disable=wrong-import-position
+from copymgr_formats import frames
 from histories.following import Differs
 from killing import lives, losing
-from replay import frames, journals
+from replay import journals
+
+from . import support
+from .test_journals import ENTRIES, NO_PROGRAM, opened
 
 HAS_COMPILER = shutil.which(os.environ.get("CC", "cc"))
 LOST = [losing.Write(0, 4, b"abcd", b"ABCD"), losing.Write(6, 4, b"", b"XY")]
@@ -26,8 +26,8 @@ LOST = [losing.Write(0, 4, b"abcd", b"ABCD"), losing.Write(6, 4, b"", b"XY")]
 # the folder N, up to the child that has fewer calls.
 ADDING = """
 import itertools, os, pathlib, sys
-sys.dont_write_bytecode = True
 sys.path.insert(0, "{tools}")
+import house
 from replay import entries, journals
 from tests.test_journals import ENTRIES, MACHINE
 {patch}
@@ -67,10 +67,10 @@ os.fsync = lambda file: None
 # it stores as the plain server does, but for this
 ANOTHER = """#!{python}
 import runpy, sys
-sys.dont_write_bytecode = True
 sys.path.insert(0, "{tools}")
+import house
 {patch}
-runpy.run_path("{tools}/plain-store", run_name="__main__")
+runpy.run_path("{tools}/people/plain-store", run_name="__main__")
 """
 IS_STORE = """
 if sys.argv[1] != "store":
@@ -99,7 +99,8 @@ storing.next_nexus = lambda histories: 0
 
 # as each reply is, or `other` than it is
 REPLIES = """
-from replay import frames, serving
+from copymgr_formats import frames
+from replay import serving
 right = serving.Server.reply
 def reply(self, nexus, request):
     return other(self, request, right(self, nexus, request))
@@ -137,6 +138,16 @@ def another(folder, patch):
     """The path of that server."""
     path = pathlib.Path(folder, "another")
     path.write_text(ANOTHER.format(python=sys.executable, tools=support.TOOLS, patch=patch), encoding="utf-8")
+    path.chmod(0o755)
+    return str(path)
+
+
+def unsynced(folder):
+    """The path of the program, of which each sync says that it is done and does nothing."""
+    source, library, path = (pathlib.Path(folder, name) for name in ("unsynced.c", "unsynced.so", "unsynced"))
+    source.write_text("int fsync(int file) { (void)file; return 0; }\n", encoding="utf-8")
+    subprocess.run([os.environ.get("CC", "cc"), "-shared", "-fPIC", "-o", library, source], check=True)
+    path.write_text(f'#!/bin/sh\nLD_PRELOAD="{library} $LD_PRELOAD" exec "{support.PROGRAM}" "$@"\n', encoding="utf-8")
     path.chmod(0o755)
     return str(path)
 
@@ -247,7 +258,7 @@ class FullRecords(unittest.TestCase):
             self.lived([another(self.folder, patch)], 20)
 
     def test_the_plain_server(self):
-        counts = self.lived([support.TOOLS / "plain-store"], 4)
+        counts = self.lived([support.TOOLS / "people/plain-store"], 4)
         self.assertEqual(counts["failing"], 4)
         self.assertGreater(counts["full"], 0)
 
@@ -315,6 +326,12 @@ class Tool(unittest.TestCase):
     def test_power_cuts_of_the_program(self):
         lines = self.killed(support.PROGRAM, "--kills", "12", "--lives", "6", "--power")
         self.assertEqual(lines[-1], "12 passed, 0 failed")
+
+    @unittest.skipIf(NO_PROGRAM, NO_PROGRAM)
+    @unittest.skipUnless(HAS_COMPILER, "there is no C compiler")
+    def test_a_program_that_does_not_sync_is_found(self):
+        lines = self.killed(unsynced(self.folder), "--kills", "200", "--failures", "1", "--power")
+        self.assertRegex("\n".join(lines), "FAILED: ")
 
 
 if __name__ == "__main__":

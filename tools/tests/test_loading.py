@@ -1,23 +1,19 @@
-"""What tools/serving-load counts of a command holds: the acts of each unit lie within the bounds; and a run of it."""
+"""What tools/campaigns/serving-load counts of a command holds: the acts of each unit lie within the bounds; and a run of it."""
 
 import collections
 import random
 import socket
-import sys
 import unittest
 
-from . import support
-
-sys.path.insert(0, str(support.TOP / "clients/python"))
-
-# pylint: disable=wrong-import-position
 from copymgr.server import can_serve
+from copymgr_formats import frames
 from loading import bounds, clients
 from loading.tallies import Row, Tallies
-from replay import frames
 from replay.player import Player
 from replay.requests import Requests
 from replay.traces import STYLES
+
+from . import support
 
 NO_PROGRAM = None if can_serve(support.PROGRAM) else f"no program that serves at {support.PROGRAM}"
 STATUS_OF = {0x00: "good", 0x02: "check", 0x28: "full"}

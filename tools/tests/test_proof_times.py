@@ -1,4 +1,4 @@
-"""What tools/proof-times tells of the files that a check wrote."""
+"""What tools/proofs/proof-times tells of the files that a check wrote."""
 
 import os
 import pathlib
@@ -71,9 +71,9 @@ class ProofTimes(unittest.TestCase):
     def test_a_name_that_is_no_regular_expression(self):
         lines, said, status = self.told("low", "--those", "(")
         self.assertEqual((lines, status), ([], 2))
-        self.assertIn("tools/proof-times: --those (: ", said)
+        self.assertIn("tools/proofs/proof-times: --those (: ", said)
 
     def test_a_crate_that_was_not_checked(self):
         lines, said, status = self.told("high")
         self.assertEqual((lines, status), ([], 2))
-        self.assertEqual(said, "tools/proof-times: no check has left crates/high/out/incremental\n")
+        self.assertEqual(said, "tools/proofs/proof-times: no check has left crates/high/out/incremental\n")

@@ -6,11 +6,13 @@ import subprocess
 import tempfile
 import unittest
 
-from . import support
+from copymgr_formats import frames
 from refusing.preloaded import Refusal
 from refusing.replaying import Ended, Generated, Replay
 from refusing.serving import Served, Serving, Session, report_of
-from replay import frames, generated
+from replay import generated
+
+from . import support
 
 TRACE = support.run("row", "trace", "write then read")[0]
 REPLIES = support.run("row", "replies", "write then read")[0]

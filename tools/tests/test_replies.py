@@ -3,10 +3,12 @@
 import struct
 import unittest
 
-from . import support  # has the path of the tools
-from replay import frames, senses, told
+from copymgr_formats import frames, replies, senses
+from replay import told
 from replay.acts import Result, Told
-from tracetext import playing, replies, traces
+from tracetext import playing, traces
+
+from . import support
 
 UNITS = "unit 0 blocks=100\n"
 

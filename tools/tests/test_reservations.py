@@ -3,13 +3,14 @@
 import subprocess
 import unittest
 
-from . import support
-from replay import cdbs, frames, lists
-from replay.player import Player
-from replay.reservations import (
+from copymgr_formats import cdbs, frames, lists
+from copymgr_formats.reservations import (
     CLEAR, EXCLUSIVE_ACCESS, EXCLUSIVE_ACCESS_REGISTRANTS, PREEMPT, REGISTER, RELEASE, RESERVE, WRITE_EXCLUSIVE,
     WRITE_EXCLUSIVE_REGISTRANTS,
 )
+from replay.player import Player
+
+from . import support
 
 SHAPE = frames.Shape(100, 512, 1000, 100, 65_536, 0)
 MACHINE = frames.Machine(frames.SECRET, [SHAPE])
@@ -21,7 +22,7 @@ WRITE = frames.Request(0, cdbs.encode(0x8A, lba=0, count=1), bytes(512))
 
 class Rows(unittest.TestCase):
     def test_the_rows_of_the_crate_are_those_of_the_plain_model(self):
-        rows = subprocess.run([support.TOOLS / "reservation-rows"], capture_output=True, check=True).stdout
+        rows = subprocess.run([support.TOOLS / "proofs/reservation-rows"], capture_output=True, check=True).stdout
         self.assertEqual(rows, (support.TOOLS.parent / "crates/pr_keys/src/rows.rt").read_bytes())
 
 

@@ -2,9 +2,10 @@
 
 import unittest
 
-from . import support  # has the path of the tools
-from replay import frames
+from copymgr_formats import frames
 from tracetext import traces
+
+from . import support
 
 FIRST = ["unit 0 blocks=9000", "unit 1 blocks=9000", "i9 lun=0 populate-token id=1 ranges=0+3000 go"]
 

@@ -3,23 +3,21 @@
 import os
 import pathlib
 import shutil
+import signal
 import socket
 import struct
 import subprocess
-import sys
 import tempfile
 import unittest
 
-from . import support
-
-sys.path.insert(0, str(support.TOP / "clients/python"))
-
-# pylint: disable=wrong-import-position
 from copymgr import Ended, Server, Shape
 from copymgr.server import UnitReport, can_serve
-from replay import acts, cdbs, entries, frames, lists, player, rod_token, serving
+from copymgr_formats import addresses, cdbs, frames, lists, rod_token
+from replay import acts, entries, player
 
-PLAIN = [str(support.TOOLS / "plain-serve")]
+from . import support
+
+PLAIN = [str(support.TOOLS / "people/plain-serve")]
 PROGRAM = [support.PROGRAM, "serve"] if can_serve(support.PROGRAM) else None
 NO_PROGRAM = f"no program that serves at {support.PROGRAM}: the plain server alone was asked"
 SECONDS = 60
@@ -189,30 +187,140 @@ class Serving(Links):
             (["127.0.0.1:0", "1"], header[:55], 5, "copymgr: bad header at byte 54\n"),
             (["127.0.0.1:0", "1"], header[:73], 5, "copymgr: bad header at byte 71\n"),
             (["127.0.0.1:0", "1"], b"X" + header[1:], 5, "copymgr: bad header at byte 0\n"),
+            (["127.0.0.1:0", "1"], header[:40] + b"\0\0", 5, "copymgr: bad header at byte 40\n"),
+            (["127.0.0.1:0", "1"], header[:40] + b"\0\2", 5, "copymgr: bad header at byte 42\n"),
+            (["127.0.0.1:0", "1"], header[:40] + b"\0\2" + bytes(50), 5, "copymgr: bad header at byte 90\n"),
+            (["127.0.0.1:0", "0"], b"\0", 6, ""),
+            (["127.0.0.1:0", "+1"], header, 6, ""),
+            (["127.0.0.1:0", "1x"], header, 6, ""),
+            (["127.0.0.1:0", ""], header, 6, ""),
+            (["127.0.0.1:0", "4294967297"], header, 6, ""),
             (["127.0.0.1:0", "1"], header + b"\0", 5, "copymgr: bad header at byte 74\n"),
-            (["127.0.0.1:0", "0"], header, None, ""),
-            (["127.0.0.1:0", "257"], header, None, ""),
-            (["127.0.0.1:0", "01"], header, None, ""),
-            (["127.0.0.1:0"], header, None, ""),
-            (["nowhere", "1"], header, None, ""),
+            (["127.0.0.1:0", "0"], header, 6, ""),
+            (["127.0.0.1:0", "257"], header, 6, ""),
+            (["127.0.0.1:0", "01"], header, 6, ""),
+            (["127.0.0.1:0"], header, 6, ""),
+            (["nowhere", "1"], header, 9, "copymgr: accept failed\n"),
+            (["127.0.0.1:70000", "1"], header, 9, "copymgr: accept failed\n"),
+            (["192.0.2.1:1", "1"], header, 9, "copymgr: accept failed\n"),
         ]:
             with self.subTest(words=words, length=len(data)):
                 words = [*self.WORDS, *words]
                 done = subprocess.run(words, input=data, capture_output=True, timeout=SECONDS, check=False)
-                lines = [line for line in done.stderr.decode().splitlines(True) if "serving at" not in line]
-                self.assertEqual((done.stdout, len(lines)), (b"", 1))
-                if status is None:
-                    self.assertNotEqual(done.returncode, 0)
-                else:
-                    self.assertEqual((done.returncode, lines[0]), (status, said))
+                lines = done.stderr.decode().splitlines(True)
+                self.assertEqual((done.stdout, done.returncode), (b"", status))
+                # a second line names the address that can't be bound; nothing is served, so no address is told
+                self.assertEqual(len(lines), 2 if status == 9 else 1)
+                self.assertTrue(lines[0].startswith(said), lines)
+                self.assertTrue(all(words[-2] in line for line in lines[1:]), lines)
+
+    def test_every_cut_of_a_configuration(self):
+        """It is refused at the field that is not whole."""
+        header = frames.header_bytes(frames.Machine(frames.SECRET, SHAPES))
+        fields = [0, 8, 40, 42, 50, 54, 58, 66, 70, 71]
+        for cut in range(len(header)):
+            words = [*self.WORDS, "127.0.0.1:0", "1"]
+            done = subprocess.run(words, input=header[:cut], capture_output=True, timeout=SECONDS, check=False)
+            place = max(field for field in fields if field <= cut)
+            wanted = (5, b"", f"copymgr: bad header at byte {place}\n".encode())
+            self.assertEqual((done.returncode, done.stdout, done.stderr), wanted, cut)
+
+    def test_connections_go_their_ways(self):
+        """One asks for more than it reads, one says nothing, and one breaks inside a request. Another is served to its end
+        meanwhile."""
+        server = self.start(4, [Shape(1_048_576)])
+        greedy, silent, torn, whole = [self.link(server) for _ in range(4)]
+        long_read = frames.Request(0, cdbs.encode(0x88, lba=0, count=2048), b"")
+        greedy.sendall(frames.request_bytes(long_read) * 40)
+        torn.sendall(frames.request_bytes(WRITE)[:-1])
+        torn.close()
+        self.assertEqual(self.asked(whole, WRITE, READ), GOOD + DATA)
+        for link in (whole, silent, greedy):
+            link.close()
+        report = server.report(SECONDS)
+        self.assertEqual((report.sessions, report.faults, report.memory), (4, 2, 0))
+
+    def test_a_port_that_is_in_use(self):
+        with socket.create_server(("127.0.0.1", 0)) as other:
+            address = f"127.0.0.1:{other.getsockname()[1]}"
+            header = frames.header_bytes(frames.Machine(frames.SECRET, SHAPES))
+            words = [*self.WORDS, address, "1"]
+            done = subprocess.run(words, input=header, capture_output=True, timeout=SECONDS, check=False)
+            self.assertEqual((done.returncode, done.stdout), (9, b""))
+            first, why = done.stderr.decode().splitlines()
+            self.assertEqual(first, "copymgr: accept failed")
+            self.assertIn(address, why)
+            self.assertIn("in use", why)
 
 
 class Plain(Serving, unittest.TestCase):
     WORDS = PLAIN
 
+    def ended(self, sessions=1, **streams):
+        """The program after its one connection, with other streams."""
+        pipe = subprocess.PIPE
+        with subprocess.Popen([*PLAIN, "127.0.0.1:0", "1"], bufsize=0, stdin=pipe, stderr=pipe, **streams) as program:
+            program.stdin.write(frames.header_bytes(frames.Machine(frames.SECRET, SHAPES)))
+            program.stdin.close()
+            place = program.stderr.readline().decode().rsplit(":", 1)
+            if sessions:
+                socket.create_connection(("127.0.0.1", int(place[1])), SECONDS).close()
+            else:
+                program.send_signal(signal.SIGINT)
+            said = program.stderr.read().decode()
+            return program.wait(SECONDS), said
+
+    def test_ends_quietly(self):
+        """A full device and a closed output are a write that failed; an interrupt ends it without a word."""
+        with open("/dev/full", "wb") as full:
+            self.assertEqual(self.ended(stdout=full), (2, "copymgr: write failed\n"))
+        self.assertEqual(self.ended(preexec_fn=lambda: os.close(1)), (2, "copymgr: write failed\n"))
+        self.assertEqual(self.ended(sessions=0, stdout=subprocess.DEVNULL), (-signal.SIGINT, ""))
+
+    def test_a_closed_input(self):
+        done = subprocess.run(
+            [*PLAIN, "127.0.0.1:0", "1"], capture_output=True, preexec_fn=lambda: os.close(0), check=False, timeout=SECONDS,
+        )
+        self.assertEqual((done.returncode, done.stdout, done.stderr), (1, b"", b"copymgr: read failed\n"))
+
 
 class Program(Serving, unittest.TestCase):
     WORDS = PROGRAM
+
+    def said_with_folder(self, folder, shapes=SHAPES):
+        """What it says, line by line, of a folder, where one connection writes ten times; and its report."""
+        pipe = subprocess.PIPE
+        words = [*self.WORDS, "127.0.0.1:0", "1", str(folder)]
+        with subprocess.Popen(words, bufsize=0, stdin=pipe, stdout=pipe, stderr=pipe) as program:
+            program.stdin.write(frames.header_bytes(frames.Machine(frames.SECRET, shapes)))
+            program.stdin.close()
+            lines = []
+            while "serving at" not in "".join(lines[-1:]):
+                lines.append(program.stderr.readline().decode())
+                self.assertTrue(lines[-1])
+            link = socket.create_connection(("127.0.0.1", int(lines.pop().rsplit(":", 1)[1])), SECONDS)
+            self.asked(link, *[WRITE] * 10)
+            link.close()
+            report, said = program.stdout.read().decode(), program.stderr.read().decode()
+            return lines, said.splitlines(), report
+
+    def test_what_is_said_of_a_folder(self):
+        folder = tempfile.TemporaryDirectory()
+        self.addCleanup(folder.cleanup)
+        self.assertEqual(self.said_with_folder(folder.name)[:2], ([], []))
+        size = pathlib.Path(folder.name, "unit-0").stat().st_size
+        before, after, report = self.said_with_folder(folder.name)
+        said = f"copymgr: {folder.name}/unit-0 has {size} bytes of an earlier run, and is emptied when entries are written\n"
+        self.assertEqual((before, after), ([said], []))
+        self.assertIn("kept 0\n", report)
+        before, after, report = self.said_with_folder("/nowhere/at/all")
+        self.assertEqual(len(before), 1)
+        self.assertRegex(before[0], "^copymgr: /nowhere/at/all: .*, so no entry is written\n$")
+        # the file begins to fail once, and what was kept is told at the end
+        self.assertEqual(len(after), 2, after)
+        self.assertRegex(after[0], "^copymgr: /nowhere/at/all/unit-0: .*, so entries are kept in memory$")
+        self.assertEqual(after[1], "copymgr: 11 entries are in no file, and are lost with the program")
+        self.assertIn("kept 11\n", report)
 
 
 class Floor(Links, unittest.TestCase):
@@ -286,11 +394,11 @@ class Load(Links, unittest.TestCase):
 
 class Addresses(unittest.TestCase):
     def test_addresses(self):
-        self.assertEqual(serving.address_of("127.0.0.1:3260"), ("127.0.0.1", 3260))
-        self.assertEqual(serving.address_of("[::1]:0"), ("::1", 0))
+        self.assertEqual(addresses.address_of("127.0.0.1:3260"), ("127.0.0.1", 3260))
+        self.assertEqual(addresses.address_of("[::1]:0"), ("::1", 0))
         for text in ["", ":1", "host", "host:", "host:x", "host:65536", "host:-1"]:
             with self.assertRaisesRegex(ValueError, "no HOST:PORT"):
-                serving.address_of(text)
+                addresses.address_of(text)
 
     def test_a_port_that_is_taken(self):
         with socket.create_server(("127.0.0.1", 0)) as taken:

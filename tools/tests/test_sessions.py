@@ -5,10 +5,12 @@ import random
 import re
 import unittest
 
-from . import support
-from replay import frames, player
+from copymgr_formats import frames
+from replay import player
 from replay.sessions import Session
 from replay.traces import STYLES
+
+from . import support
 
 SESSIONS = support.tool("random-sessions")
 ROWS = support.tool("row")

@@ -4,10 +4,12 @@ import re
 import struct
 import unittest
 
-from . import support
-from replay import cdbs, frames, lists, rod_token, told
+from copymgr_formats import cdbs, frames, lists, rod_token
+from replay import told
 from replay.acts import Advance, End
-from replay.player import ACT, BEGIN, STEP, Player, play
+from replay.player import ACT, BEGIN, Player, STEP, play
+
+from . import support
 
 TABLES = support.TOP / "crates/refusing_runs/src/tests.rt"
 BUSY, GOOD = frames.busy(), frames.good(b"")

@@ -7,13 +7,13 @@ import subprocess
 import tempfile
 import unittest
 
-from . import support, test_serving
-
-# pylint: disable=wrong-import-position
 from copymgr import Connection, Disk, Ended, Report, Server, Shape
 from copymgr.server import can_store
-from replay import acts, entries, frames, journals, written
+from copymgr_formats import frames
+from replay import acts, entries, journals, written
 from replay.player import PUMP
+
+from . import support, test_serving
 
 PROGRAM = [support.PROGRAM, "store"] if can_store(support.PROGRAM) else None
 SECONDS = test_serving.SECONDS
@@ -68,16 +68,20 @@ class Storing(unittest.TestCase):
         self.addCleanup(server.close)
         return server
 
-    def end_of(self, server):
-        """Connects once, and gives the report, or what the program says of its end with its status."""
+    def ended(self, **named):
+        """Starts it, connects once, and gives the report; or its status, what it says of its end, and the lines behind."""
         try:
+            server = self.start(**named)
             socket.create_connection(server.address, SECONDS).close()
-        except OSError:
-            pass  # it has ended already
-        try:
             return server.report(SECONDS)
         except Ended as ended:
-            return re.fullmatch(r"the server ended with status (\d+): copymgr: (.*)", str(ended)).groups()
+            said = re.fullmatch(r"the server ended with status (\d+): copymgr: (.*?)(?:\n(.*))?", str(ended), re.S)
+            return said[1], said[2], said[3] or ""
+
+    def end_of(self, **named):
+        """Without the lines behind."""
+        ended = self.ended(**named)
+        return ended if isinstance(ended, Report) else ended[:2]
 
     def journal(self, machine=MACHINE, unit=0):
         data = (self.folder / f"journal-{unit}").read_bytes()
@@ -108,7 +112,7 @@ class Storing(unittest.TestCase):
         self.assertEqual([entry.stamp for entry in found], sorted({entry.stamp for entry in found}))
 
     def test_the_bytes_of_a_file(self):
-        self.end_of(self.start(shapes=[Shape(100), Shape(50)]))
+        self.end_of(shapes=[Shape(100), Shape(50)])
         machine = frames.Machine(frames.SECRET, [Shape(100), Shape(50)])
         self.assertEqual(sorted(path.name for path in self.folder.iterdir()), ["journal-0", "journal-1"])
         for unit in (0, 1):
@@ -156,14 +160,14 @@ class Storing(unittest.TestCase):
         server = self.start(256, shapes)
         self.asked(server, begin)
         server.close()
-        report = self.end_of(self.start(shapes=shapes))
+        report = self.end_of(shapes=shapes)
         self.assertEqual((report.kept, report.units[0].mapped), (0, 4096))
 
     def test_work_in_the_foreground_is_ended(self):
         start = entries.Entry(5, 0, 512, 8, 3, 77, acts.Start(1, False, [(0, 1)], [None]))
         data = journals.with_records(journals.new(MACHINE, 0), [entries.text(start)])
         (self.folder / "journal-0").write_bytes(data)
-        self.end_of(self.start())
+        self.end_of()
         end = entries.Entry(6, 0, 512, 8, 0, 77, acts.End(1))
         found = self.journal()
         self.assertEqual([entry.text for entry in found[:2]], [entries.text(start), entries.text(end)])
@@ -174,21 +178,38 @@ class Storing(unittest.TestCase):
         start = entries.Entry(1, 0, 512, 0, 0, 0, acts.Start(1, True, [(0, 1)], [None]))
         data = journals.with_records(journals.new(frames.Machine(frames.SECRET, shapes), 0), [entries.text(start)])
         (self.folder / "journal-0").write_bytes(data)
-        self.assertEqual(self.end_of(self.start(shapes=shapes)), ("19", "bad history of unit 0 at entry 0"))
+        self.assertEqual(self.end_of(shapes=shapes), ("19", "bad history of unit 0 at entry 0"))
 
     def test_journals_of_others(self):
-        self.end_of(self.start())
-        said = ("11", "bad journal of unit 0 at byte 1")
-        self.assertEqual(self.end_of(self.start(shapes=[Shape(101)])), said)
+        """Which file it is, and how its configuration differs, stands in a second line."""
+        self.end_of()
+        path, said = f"copymgr: {self.folder}/journal-0: ", ("11", "bad journal of unit 0 at byte 1")
+        for shapes, why in [
+            ([Shape(101)], "its unit 0 has 100 blocks, and this one 101"),
+            ([Shape(100, 4096)], "its unit 0 has 512 bytes a block, and this one 4096"),
+            ([Shape(100, quota=5)], "its unit 0 has 100 blocks of its quota, and this one 5"),
+            ([Shape(100, group=1)], "its unit 0 has 0 as its group, and this one 1"),
+            (SHAPES * 2, "its configuration has 1 units, and this one 2"),
+        ]:
+            self.assertEqual(self.ended(shapes=shapes), (*said, path + why))
         (self.folder / "journal-0").rename(self.folder / "journal-1")
-        shapes = SHAPES * 2
-        self.assertEqual(self.end_of(self.start(shapes=shapes)), ("11", "bad journal of unit 1 at byte 1"))
+        why = f"copymgr: {self.folder}/journal-1: it is the journal of unit 0"
+        self.assertEqual(self.ended(shapes=SHAPES * 2), ("11", "bad journal of unit 1 at byte 1", why))
+        (self.folder / "journal-0").write_bytes(b"\xa5" + b"x" * 200)
+        self.assertEqual(self.ended(), (*said, path + "it is no journal"))
 
     def test_files_that_fail(self):
-        said = ("12", "disk failed")
-        self.assertEqual(self.end_of(self.start(folder=self.folder / "missing")), said)
+        """Why stands in a second line."""
+        for folder, why in [
+            (self.folder / "missing", "not found|No such file"),
+            (self.folder / "file", "not a directory|Not a directory"),
+        ]:
+            (self.folder / "file").write_bytes(b"")
+            status, said, cause = self.ended(folder=folder)
+            self.assertEqual((status, said), ("12", "disk failed"))
+            self.assertRegex(cause, f"^copymgr: {folder}.*: ({why})")
         (self.folder / "journal-0").mkdir()
-        self.assertEqual(self.end_of(self.start()), said)
+        self.assertEqual(self.end_of(), ("12", "disk failed"))
 
     def test_a_folder_that_another_program_has(self):
         first = self.start()
@@ -196,14 +217,14 @@ class Storing(unittest.TestCase):
         self.addCleanup(link.close)
         link.sendall(frames.request_bytes(test_serving.READ))
         self.assertEqual(link.recv(1), b"\0")
-        self.assertEqual(self.end_of(self.start()), ("12", "disk failed"))
+        self.assertEqual(self.end_of(), ("12", "disk failed"))
         link.close()
         first.report(SECONDS)
 
     def opened(self, data):
         """How many entries a file has, or what the program says."""
         (self.folder / "journal-0").write_bytes(data)
-        end = self.end_of(self.start())
+        end = self.end_of()
         if not isinstance(end, Report):
             self.assertEqual((end[0], (self.folder / "journal-0").read_bytes()), ("11", data))
             return end[1]

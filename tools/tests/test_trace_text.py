@@ -3,11 +3,12 @@
 import random
 import unittest
 
-from . import support  # has the path of the tools
-from replay import cdbs, frames, rod_token
+from copymgr_formats import cdbs, frames, rod_token
+from copymgr_formats.words import Fault
 from replay.traces import Trace
 from tracetext import traces
-from tracetext.words import Fault
+
+from . import support
 
 HEADER = "unit 0 blocks=100\nunit 1 blocks=50 block_length=4096 quota=40 entries=9 payload=8 group=3\n"
 MACHINE = frames.Machine(

@@ -4,9 +4,8 @@ import os
 import struct
 import subprocess
 
-from replay import frames, player
-
-from . import replies
+from copymgr_formats import frames, replies
+from replay import player
 
 PROGRAM = os.path.join(os.path.dirname(os.path.abspath(__file__)), "../../crates/copymgr/out/copymgr")
 DIFFERS = 10

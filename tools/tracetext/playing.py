@@ -4,11 +4,12 @@ import collections
 import itertools
 import subprocess
 
-from replay import acts, frames
+from copymgr_formats import frames
+from copymgr_formats.replies import INDENT, counted, records_of, reply_lines
+from copymgr_formats.senses import BadInput, Conflict, RecordFull, Refused, sense_text
+from replay import acts
 from replay.player import line_of, played_items
-from replay.senses import BadInput, Conflict, RecordFull, Refused, sense_text
 
-from .replies import INDENT, counted, records_of, reply_lines
 from .traces import bytes_of
 
 # how a replay ended: the bytes of its replies, its exit status, and what it said on standard error

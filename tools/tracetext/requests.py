@@ -3,12 +3,10 @@
 import collections
 import struct
 
-from replay import cdbs, lists
-from replay.frames import DATA_LIMIT, Request
-from replay.senses import Refused
-
-from . import values
-from .words import Fault, Fields, Word
+from copymgr_formats import cdbs, lists, values
+from copymgr_formats.frames import DATA_LIMIT, Request
+from copymgr_formats.senses import Refused
+from copymgr_formats.words import Fault, Fields, Word
 
 ALLOCATION = 4096
 # fields that are written even where they are what is read in their absence
@@ -129,7 +127,8 @@ def fields_of_list(command, data, machine):
     try:
         texts = {name: str(value) for name, value in writer(data, machine).items() if name in ALWAYS or value}
         again = reader(Fields([Word(f"{name}={text}", 0, 0) for name, text in texts.items()]), machine)
-    except (Refused, Fault, struct.error, TypeError):
+    except (Refused, Fault, struct.error, TypeError, IndexError):
+        # the list is cut, or says what no field says
         return None
     return texts if again == data else None
 

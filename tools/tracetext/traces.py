@@ -2,16 +2,15 @@
 
 import collections
 
-from replay import frames
-from replay.frames import (
-    BLOCKS_LIMIT, ENTRIES_LIMIT, GROUP_LIMIT, PAYLOAD_LIMIT, SECRET, UNITS_LIMIT, Begin, Pump, Run,
+from copymgr_formats import frames, values
+from copymgr_formats.frames import (
+    BLOCKS_LIMIT, Begin, ENTRIES_LIMIT, GROUP_LIMIT, PAYLOAD_LIMIT, Pump, Run, SECRET, UNITS_LIMIT,
 )
+from copymgr_formats.senses import BadInput
+from copymgr_formats.words import Fault, Fields, number_of, words_of
 from replay.player import Player
-from replay.senses import BadInput
 
-from . import values
 from .requests import COMMANDS, request_of, request_text
-from .words import Fault, Fields, number_of, words_of
 
 # what a unit has where its line does not say it; the quota is then all blocks
 UNIT = {

@@ -1,8 +1,9 @@
-"""The login of a session: without authentication, and with the keys of RFC 7143 that this target takes."""
+"""The login of a session, without authentication or by CHAP, and with the keys of RFC 7143 that this target takes."""
 
 import struct
 
 from . import pdus
+from .access import Challenge
 from .pdus import Broken, Counters
 
 # the stage behind the login
@@ -10,7 +11,8 @@ FULL = 3
 TRANSIT, CONTINUE = 0x80, 0x40
 PORTAL_GROUP = 1
 # status class and detail of a login that is refused
-NO_AUTHENTICATION, NO_TARGET, NO_VERSION, MISSING, NO_SUCH_SESSION = 0x0201, 0x0203, 0x0205, 0x0207, 0x020A
+NO_AUTHENTICATION, NO_AUTHORIZATION, NO_TARGET, NO_VERSION, MISSING = 0x0201, 0x0202, 0x0203, 0x0205, 0x0207
+NO_SUCH_SESSION = 0x020A
 INITIATOR_ERROR, NO_SERVICE = 0x0200, 0x0301
 
 BURST, FIRST_BURST = 1_048_576, 262_144
@@ -30,7 +32,8 @@ FIXED = {
     "IFMarkInt": "Irrelevant", "OFMarkInt": "Irrelevant",
 }
 # keys of which one of the values that are offered is taken, and that the initiator tells alone
-NONE_OF_LIST = ("HeaderDigest", "DataDigest", "AuthMethod")
+NONE_OF_LIST = ("HeaderDigest", "DataDigest")
+AUTHENTICATION = ("AuthMethod", "CHAP_A", "CHAP_N", "CHAP_R", "CHAP_I", "CHAP_C")
 TOLD = ("InitiatorName", "InitiatorAlias", "SessionType", "TargetName", "MaxRecvDataSegmentLength")
 
 
@@ -76,11 +79,7 @@ class Agreed:
             self.told[key] = value
             return None
         if key in NONE_OF_LIST:
-            if "None" in value.split(","):
-                return "None"
-            if key == "AuthMethod":
-                raise Refused(NO_AUTHENTICATION)
-            return "Reject"
+            return "None" if "None" in value.split(",") else "Reject"
         if key == "ImmediateData":
             self.immediate_data = value == "Yes"
             return value
@@ -93,11 +92,12 @@ class Agreed:
 class Login:
     """One login, up to the full feature phase. `send` sends bytes, and `opens` opens what a target of a name has."""
 
-    def __init__(self, first, send, opens):
-        self.send, self.opens = send, opens
+    def __init__(self, first, send, opens, access):
+        self.send, self.opens, self.access = send, opens, access
         self.agreed, self.counters = Agreed(), Counters(0, first.number(24))
         self.isid, self.is_first = first.header[8:14], True
         self.data = b""
+        self.challenge, self.is_known = None, not access.chap
 
     def respond(self, request, flags, pairs=(), status=0, session=0):
         rest = struct.pack(">4x12sH", self.counters.told(), status)
@@ -119,10 +119,42 @@ class Login:
         told = self.agreed.told
         if not told.get("InitiatorName") or not (self.agreed.is_discovery or told.get("TargetName")):
             raise Refused(MISSING)
-        if self.agreed.is_discovery:
-            return []
-        self.opens(told["TargetName"])
-        return [("TargetPortalGroupTag", PORTAL_GROUP)]
+        if not self.access.admits(told["InitiatorName"]):
+            raise Refused(NO_AUTHORIZATION)
+        return [] if self.agreed.is_discovery else [("TargetPortalGroupTag", PORTAL_GROUP)]
+
+    def authenticated(self, keys):
+        """What is answered to the keys of authentication: the method, a challenge, or nothing where it was met."""
+        if "AuthMethod" in keys:
+            method = "CHAP" if self.access.chap else "None"
+            if method not in keys["AuthMethod"].split(","):
+                raise Refused(NO_AUTHENTICATION)
+            return [("AuthMethod", method)]
+        if "CHAP_A" in keys and self.access.chap:
+            self.challenge = Challenge(self.access.chap, keys["CHAP_A"])
+            if self.challenge.algorithm is None:
+                raise Refused(NO_AUTHENTICATION)
+            return self.challenge.told()
+        if keys:
+            self.judge_response(keys)
+        return []
+
+    def judge_response(self, keys):
+        """A response to the challenge. The target does not show a secret of its own."""
+        challenge, self.challenge = self.challenge, None
+        is_mutual = "CHAP_I" in keys or "CHAP_C" in keys
+        if is_mutual or not challenge or not challenge.is_met(keys.get("CHAP_N"), keys.get("CHAP_R")):
+            raise Refused(NO_AUTHENTICATION)
+        self.is_known = True
+
+    def leaves(self, request, is_asked):
+        """The flags and the stage to which it goes on, where the initiator wants it and is known by then. While it is
+        asked who it is, it stays in the first stage; without that it gets no further."""
+        if self.is_known:
+            return request.flags & (TRANSIT | 3) if request.flags & TRANSIT else 0
+        if request.flags & 0x0C or (request.flags & TRANSIT and not is_asked):
+            raise Refused(NO_AUTHENTICATION)
+        return 0
 
     def take(self, request, session):
         """Answers a request; whether the login ended with it, and the session of that number begins."""
@@ -133,12 +165,17 @@ class Login:
             self.respond(request, stage)
             return False
         pairs, self.data = pdus.read_text(self.data), b""
-        answers = [(key, answer) for key, value in pairs if (answer := self.agreed.answer(key, value)) is not None]
+        keys = {key: value for key, value in pairs if key in AUTHENTICATION}
+        others = [(key, value) for key, value in pairs if key not in AUTHENTICATION]
+        answers = [(key, answer) for key, value in others if (answer := self.agreed.answer(key, value)) is not None]
         if self.is_first:
             answers += self.judge_names()
+        answers += self.authenticated(keys)
         if any(key == "MaxRecvDataSegmentLength" for key, _ in pairs):
             answers.append(("MaxRecvDataSegmentLength", pdus.DATA_LIMIT))
-        goes_on = request.flags & (TRANSIT | 3) if request.flags & TRANSIT else 0
+        goes_on = self.leaves(request, bool(keys))
         ends = goes_on == TRANSIT | FULL
+        if ends and not self.agreed.is_discovery:
+            self.opens(self.agreed.told["TargetName"])
         self.respond(request, stage | goes_on, answers, session=session if ends else 0)
         return ends

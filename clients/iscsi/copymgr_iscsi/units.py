@@ -48,6 +48,16 @@ def name_of(cdb):
     return cdbs.FORMS[key].name if key in cdbs.FORMS else NAMES.get(cdb[0], f"{cdb[0]:02x}h")
 
 
+def place_of(cdb):
+    """The first block and the number of blocks, or the bytes of a list, of a command that has them."""
+    try:
+        read = cdbs.decode(cdb)
+    except senses.Refused:
+        return ""
+    fields = cdbs.FORMS[cdb[0], cdb[1] & 0x1F if cdb[0] in cdbs.WITH_ACTION else None].fields
+    return "".join(f" {name}={getattr(read, name)}" for name in ("lba", "count", "length") if name in fields)
+
+
 class Units:
     """The units of a connection to the program. `tells` is called with a line for each command, if there is one."""
 
@@ -79,7 +89,7 @@ class Units:
         reply = self.reply(unit, cdb, out)
         if self.tells:
             sense = "/".join(f"{part:02x}" for part in frames.sense_of(reply.sense)) if reply.sense else ""
-            self.tells(f"unit {unit} {name_of(cdb)}: {sense or STATUSES.get(reply.status)}")
+            self.tells(f"unit {unit} {name_of(cdb)}{place_of(cdb)}: {sense or STATUSES.get(reply.status)}")
         return reply
 
     def reply(self, unit, cdb, out):

@@ -39,8 +39,8 @@ class Disk:
         parts = range(lba, lba + count, BLOCKS_OF_COMMAND) or [lba]
         return b"".join(self.command(0x88, lba=at, count=min(BLOCKS_OF_COMMAND, lba + count - at)) for at in parts)
 
-    def write(self, lba, data):
-        """Writes whole blocks, 2048 at a time: those before a refusal stay."""
+    def write(self, lba, data, progress=None):
+        """Writes whole blocks, 2048 at a time: those before a refusal stay. `progress` is called with the blocks so far."""
         length = self.capacity().block_length
         if len(data) % length:
             raise ValueError(f"{len(data)} bytes are no whole blocks of {length}")
@@ -48,6 +48,8 @@ class Disk:
         for at in range(0, len(data), size):
             part = data[at : at + size]
             self.command(0x8A, out=part, lba=lba + at // length, count=len(part) // length)
+            if progress:
+                progress((at + len(part)) // length)
 
     def unmap(self, ranges):
         """Unmaps ranges, 64 at a time."""

@@ -5,6 +5,7 @@ POPULATE TOKEN, and its blocks are written by as many WRITE USING TOKEN as they 
 blocks as 64 extents allow, and a part at most 1,048,576. No other plan has fewer parts."""
 
 import collections
+import struct
 
 from .wire import lists
 
@@ -81,6 +82,13 @@ def moves(extents, to_extents):
         [(lba, _)], [(to_lba, _)] = source.next_ranges(count), target.next_ranges(count)
         found.append((lba, to_lba, count))
     return found
+
+
+def job_bytes(source, target, extents, to_extents, polls):
+    """The job by which `copymgr copy` copies blocks of a unit to those of another one (docs/formats.md)."""
+    judge(extents, to_extents)
+    front = struct.pack(">HHIII", source, target, polls, len(extents), len(to_extents))
+    return front + b"".join(struct.pack(">QI", lba, count) for lba, count in [*extents, *to_extents])
 
 
 def judge(extents, to_extents):

@@ -57,12 +57,13 @@ class Server:
         self.address = self.told_address()
 
     def told_address(self):
-        line = self.program.stderr.readline().decode(errors="replace")
-        found = re.fullmatch(r"copymgr: serving at (.*):([0-9]+)\n", line)
-        if not found:
-            said = (line + self.program.stderr.read().decode(errors="replace")).strip()
-            raise Ended(f"the server ended with status {self.program.wait()}: {said}")
-        return found[1].strip("[]"), int(found[2])
+        """Where it serves. Lines before that one say what is to be known of its folder."""
+        said = ""
+        while line := self.program.stderr.readline().decode(errors="replace"):
+            if found := re.fullmatch(r"copymgr: serving at (.*):([0-9]+)\n", line):
+                return found[1].strip("[]"), int(found[2])
+            said += line
+        raise Ended(f"the server ended with status {self.program.wait()}: {said.strip()}")
 
     def report(self, seconds=None):
         """Waits for its end, at most so long, and gives what it reports."""

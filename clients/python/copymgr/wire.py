@@ -1,17 +1,13 @@
-"""The formats, which stand once in this repository: tools/replay has CDBs, parameter lists, frames and senses, and
-tools/tracetext the data that commands return."""
+"""The formats, and where the programs are that this repository has."""
 
 import pathlib
-import sys
+
+# pylint: disable=unused-import
+from copymgr_formats import cdbs, frames, lists, reservations, returned, rod_token, senses
+from copymgr_formats.returned import Capacity, Reservation, Run, State
 
 TOP = pathlib.Path(__file__).resolve().parents[3]
-sys.path.insert(0, str(TOP / "tools"))
 
-# pylint: disable=wrong-import-position,unused-import
-from replay import cdbs, frames, lists, reservations, rod_token, senses
-from tracetext import returned
-from tracetext.returned import Capacity, Reservation, Run, State
-
-PLAIN_REPLAY = TOP / "tools/plain-replay"
-PLAIN_SERVE = TOP / "tools/plain-serve"
+PLAIN_REPLAY = TOP / "tools/people/plain-replay"
+PLAIN_SERVE = TOP / "tools/people/plain-serve"
 PROGRAM = TOP / "crates/copymgr/out/copymgr"

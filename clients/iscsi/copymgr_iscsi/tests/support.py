@@ -21,13 +21,13 @@ INITIATOR = "iqn.2026-01.example:tester"
 class Behind:
     """A target in a thread of the test, before a plain server."""
 
-    def __init__(self, test, sessions=8):
+    def __init__(self, test, sessions=8, access=None):
         try:
             self.server = Server(SHAPES, sessions, [str(PLAIN_SERVE)])
         except Ended as error:
             test.skipTest(f"no sockets here: {error}")
         test.addCleanup(self.server.close)
-        self.target = target.Target(target.NAME, self.server.address, False)
+        self.target = target.Target(target.NAME, self.server.address, False, access)
         self.listener = socket.create_server(("127.0.0.1", 0))
         test.addCleanup(self.listener.close)
         # the socket's own accept is not ended by its close

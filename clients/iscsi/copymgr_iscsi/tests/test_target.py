@@ -1,14 +1,16 @@
 """The target by its PDUs."""
 
 import contextlib
+import hashlib
 import io
 import os
 import signal
 import socket
 import struct
+import tempfile
 import unittest
 
-from copymgr_iscsi import login, pdus, target, units
+from copymgr_iscsi import access, login, pdus, target, units
 from copymgr_iscsi.wire import cdbs, frames, lists
 
 from .support import SHAPES, Behind, Initiator, run_command
@@ -109,6 +111,80 @@ class Logins(unittest.TestCase):
         second = self.behind.initiator(self)
         self.assertTrue(first.is_closed())
         self.assertEqual(second.command(0x00).status, GOOD)
+
+
+class Admitted(unittest.TestCase):
+    """Who may log in."""
+
+    SECRET = b"a secret that is long"
+
+    def new(self, access):
+        return Initiator(self, Behind(self, access=access).listener.getsockname())
+
+    def test_a_list_of_initiators(self):
+        one = access.Access(["iqn.2026-01.example:tester"])
+        self.assertEqual(self.new(one).login(), 0)
+        self.assertEqual(self.new(one).login(InitiatorName="iqn.2026-01.example:other"), login.NO_AUTHORIZATION)
+
+    def asked(self, algorithms="5,7"):
+        """An initiator that is asked who it is, and what it is asked."""
+        one = self.new(access.Access(None, {"host": self.SECRET}))
+        self.assertEqual(one.login(0x81, AuthMethod="CHAP,None"), 0)
+        self.assertEqual(one.told["AuthMethod"], "CHAP")
+        answer = one.login_request([("CHAP_A", algorithms)], 0x00)
+        return one, dict(pdus.read_text(answer.data)), answer.number(36, 2)
+
+    def response(self, told, secret, algorithm=hashlib.sha256):
+        digest = algorithm(bytes([int(told["CHAP_I"])]) + secret + bytes.fromhex(told["CHAP_C"][2:])).hexdigest()
+        return [("CHAP_N", "host"), ("CHAP_R", f"0x{digest}")]
+
+    def test_chap(self):
+        for algorithms, taken, algorithm in [("5,7", "7", hashlib.sha256), ("5", "5", hashlib.md5)]:
+            one, told, _ = self.asked(algorithms)
+            self.assertEqual(told["CHAP_A"], taken)
+            answer = one.login_request(self.response(told, self.SECRET, algorithm), 0x81)
+            self.assertEqual((answer.flags, answer.number(36, 2)), (0x81, 0))
+            self.assertEqual(one.login_request([], 0x87).flags, 0x87)
+            self.assertEqual(one.command(0x00).status, GOOD)
+
+    def test_who_is_not_known(self):
+        for change in [
+            lambda told: self.response(told, b"another secret"),
+            lambda told: [("CHAP_N", "other"), self.response(told, self.SECRET)[1]],
+            lambda told: [("CHAP_N", "host"), ("CHAP_R", "0xzz")],
+            lambda told: [("CHAP_N", "host")],
+            lambda told: [*self.response(told, self.SECRET), ("CHAP_I", "1"), ("CHAP_C", "0x00")],
+        ]:
+            one, told, _ = self.asked()
+            answer = one.login_request(change(told), 0x81)
+            self.assertEqual(answer.number(36, 2), login.NO_AUTHENTICATION)
+            self.assertTrue(one.is_closed())
+        self.assertEqual(self.asked("9")[2], login.NO_AUTHENTICATION)
+
+    def test_nobody_goes_around_it(self):
+        for flags, keys in [(0x87, {}), (0x87, {"AuthMethod": "None"}), (0x81, {}), (0x83, {})]:
+            one = self.new(access.Access(None, {"host": self.SECRET}))
+            self.assertEqual(one.login(flags, **keys), login.NO_AUTHENTICATION, (flags, keys))
+        one, told, _ = self.asked()
+        # the response to another challenge
+        other = self.asked()[1]
+        answer = one.login_request(self.response(other, self.SECRET), 0x81)
+        self.assertEqual(answer.number(36, 2), login.NO_AUTHENTICATION)
+
+    def test_files_of_secrets(self):
+        with tempfile.NamedTemporaryFile("w+", encoding="utf-8") as file:
+            for text, found in [
+                ("# hosts\nhost a-long-secret-1 # the first\n\n", {"host": b"a-long-secret-1"}),
+                ("host short\n", None), ("host\n", None), ("# none\n", None),
+            ]:
+                file.seek(0)
+                file.truncate()
+                file.write(text)
+                file.flush()
+                if found:
+                    self.assertEqual(access.read_secrets(file.name), found)
+                else:
+                    self.assertRaises(ValueError, access.read_secrets, file.name)
 
 
 class Sessions(unittest.TestCase):
@@ -278,6 +354,14 @@ class Sessions(unittest.TestCase):
         self.assertEqual(other.command(0x84, 0x05, id=5, length=100, expected=100).sense, (5, 0x24, 0))
 
 
+class Good:
+    """A host all of whose commands are GOOD."""
+
+    @staticmethod
+    def ask(*_):
+        return units.good(bytes(32))
+
+
 class Command(unittest.TestCase):
     def said(self, listen):
         """What the command says before it serves at a port of its choice."""
@@ -305,6 +389,24 @@ class Command(unittest.TestCase):
             _, said = process.communicate(timeout=60)
         self.assertEqual((process.returncode, said.count(b"\n")), (15, 1))
         self.assertRegex(said.decode(), "^iscsi-target: 127.0.0.1:[0-9]+: ")
+
+    def test_names(self):
+        for name in ["", "disks", "iqn.2026.example", "iqn.2026-01.example:" + "x" * 223]:
+            process = run_command("--connect", "127.0.0.1:1", "--name", name)
+            _, said = process.communicate(timeout=60)
+            self.assertEqual((process.returncode, said.count(b"\n")), (2, 1), name)
+            self.assertIn(b"is no iSCSI name", said)
+        for name in [target.NAME, "eui.02004567A425678D", "naa.52004567BA64678D"]:
+            self.assertEqual(target.iscsi_name(name), name)
+
+    def test_a_line_of_the_log(self):
+        with contextlib.redirect_stderr(io.StringIO()) as said:
+            tells = target.say_of("iqn.2026-01.example:tester")
+            units.Units(Good(), tells).answer(3, cdbs.encode(0x88, lba=5, count=9), b"")
+        time = r"[0-9]{4}-[0-9]{2}-[0-9]{2}T[0-9:.]+[+-][0-9:]+"
+        self.assertRegex(
+            said.getvalue(), f"^iscsi-target: {time} iqn.2026-01.example:tester unit 3 read lba=5 count=9: good\n$",
+        )
 
     def test_loopback(self):
         self.assertTrue(all(map(target.is_loopback, ["127.0.0.1", "127.9.9.9", "::1", "localhost"])))

@@ -3,6 +3,7 @@
 import os
 import pathlib
 import pty
+import struct
 import subprocess
 import tempfile
 import unittest
@@ -25,7 +26,7 @@ class Traces(unittest.TestCase):
         self.good("new", self.trace, "--unit", "10000", "--unit", "0x2710", "--unit", "50/4096")
 
     def run_words(self, *words, data=b""):
-        if words[0] != "new":
+        if words[0] not in ("new", "job"):
             words += ("--program", self.PROGRAM)
         return subprocess.run([CMGR, *words], input=data, capture_output=True, check=False)
 
@@ -123,7 +124,7 @@ class Traces(unittest.TestCase):
         self.good("readcap", self.trace, "--moment", "100")
         self.good("copy", self.trace, "--from", "0:0", "--to", "1:0", "--count", "1")
         trace = pathlib.Path(self.trace).read_bytes()
-        text = subprocess.run([TOP / "tools/trace", "text"], input=trace, capture_output=True, check=True)
+        text = subprocess.run([TOP / "tools/people/trace", "text"], input=trace, capture_output=True, check=True)
         self.assertEqual(text.stdout.count(b"@"), 1)
         self.assertIn(b"\n@100 i1 lun=0 read-capacity-16 length=32\n", text.stdout)
 
@@ -149,6 +150,50 @@ class Traces(unittest.TestCase):
         self.good("clear", self.trace, "--key", "0x22", *other)
         self.assertEqual(self.good("keys", self.trace), b"generation 4\nno reservation\n")
 
+    def test_numbers_and_sizes(self):
+        self.good("write", self.trace, "--lba", "ah", data=b"a" * 512)
+        self.assertEqual(self.good("map", self.trace), b"0+10 deallocated\n10+1 mapped\n11+9989 deallocated\n")
+        for words in [["--lba", "0x270f"], ["--lba", "270fh"], ["--lba", "9999", "--count", "1c"]]:
+            self.assertEqual(self.good("read", self.trace, *words), bytes(512))
+        # to the end of the unit, and nothing behind it
+        self.assertEqual(len(self.good("read", self.trace)), 10_000 * 512)
+        self.assertEqual(self.good("read", self.trace, "--lba", "10000"), b"")
+        sizes = str(self.folder / "sizes")
+        self.good("new", sizes, *"--unit 1G --unit 64M/4096 --unit 512b".split())
+        for lun, said in enumerate([b"2097152 blocks of 512", b"16384 blocks of 4096", b"512 blocks of 512"]):
+            self.assertEqual(self.good("readcap", sizes, "--lun", str(lun)).split(b" bytes:")[0], said)
+
+    def test_secrets(self):
+        """Nobody can forge the tokens of units that were made without a word on their secret."""
+        found = [pathlib.Path(self.trace).read_bytes()[8:40]]
+        for name, words in [("a", []), ("b", []), ("c", ["--secret", "5a" * 32])]:
+            self.good("new", str(self.folder / name), "--unit", "1", *words)
+            found.append((self.folder / name).read_bytes()[8:40])
+        self.assertEqual(found[3], b"Z" * 32)
+        self.assertEqual(len(set(found)), 4)
+
+    def test_what_was_written(self):
+        data = bytes(512) * 3000
+        why = "out of range (05/21/00); 2048 blocks written"
+        self.bad(22, why, "write", self.trace, "--lba", "7500", data=data)
+        done = self.run_words("write", self.trace, "-v", data=data)
+        commands = [f"cmgr: unit 0 write lba={lba} count={count}: GOOD" for lba, count in [(0, 2048), (2048, 952)]]
+        said = done.stderr.decode().splitlines()
+        self.assertEqual(said[1:], [*commands, "3000+0 records in", "3000+0 records out"])
+        self.assertEqual((done.returncode, said[0]), (0, "cmgr: unit 0 read capacity 16: GOOD"))
+
+    def test_a_full_device(self):
+        for words in [["read", "--count", "1"], ["map"], ["readcap"]]:
+            with open("/dev/full", "wb") as full:
+                words = [CMGR, words[0], self.trace, *words[1:], "--program", self.PROGRAM]
+                done = subprocess.run(words, stdout=full, stderr=subprocess.PIPE, check=False)
+            self.assertEqual((done.returncode, done.stderr), (15, b"cmgr: standard output: No space left on device\n"))
+
+    def test_a_job(self):
+        job = self.good("job", "--from", "0:5+2,9+3", "--to", "1:100", "--polls", "7")
+        extents = [(5, 2), (9, 3), (100, 5)]
+        self.assertEqual(job, struct.pack(">HHIII", 0, 1, 7, 2, 1) + b"".join(struct.pack(">QI", *each) for each in extents))
+
     def test_exit_statuses(self):
         self.bad(22, "out of range (05/21/00)", "read", self.trace, "--lba", "9999", "--count", "2")
         self.bad(5, "not supported (05/25/00)", "read", self.trace, "--lun", "7", "--count", "1")
@@ -163,8 +208,10 @@ class Traces(unittest.TestCase):
     def test_wrong_use(self):
         for words in [
             ["foo"],
-            ["read", self.trace],
+            ["read"],
             ["read", self.trace, "--count", "x"],
+            ["read", self.trace, "--count", "2q"],
+            ["job", "--from", "0:0", "--to", "1:0"],
             ["copy", self.trace, "--from", "0", "--to", "1:0", "--count", "1"],
             ["copy", self.trace, "--from", "0:0", "--to", "1:0", "--count", "1", "--segments", "--id", "256"],
             ["copy", self.trace, "--from", "0:0", "--to", "1:0"],
@@ -180,6 +227,9 @@ class Traces(unittest.TestCase):
             ["readcap", "--connect", "127.0.0.1:1", self.trace],
             ["readcap"],
             ["new", self.trace + "2", "--unit", "5/100"],
+            ["new", self.trace + "2", "--unit", "1X"],
+            ["new", self.trace + "2", "--unit", "1k/4096"],
+            ["new", self.trace + "2", "--unit", "5", "--secret", "00"],
             ["register", self.trace, "--key", "1"],
             ["reserve", self.trace, "--key", "1", "--type", "shared"],
         ]:
