@@ -6,15 +6,12 @@ keep; where there is more, EXTENDED COPY fills the rest of it. Copies go to unit
 """
 
 import collections
-import os
 import struct
 import sys
 
-sys.path.insert(0, os.path.join(os.path.dirname(os.path.abspath(__file__)), "../tools"))
-sys.dont_write_bytecode = True
+import house  # pylint: disable=unused-import
 
-# pylint: disable=wrong-import-position
-from replay import cdbs, frames, lists, rod_token
+from copymgr_formats import cdbs, frames, lists, rod_token
 from replay.acts import pieces
 
 BLOCK = 512

@@ -20,13 +20,13 @@ import socket
 import struct
 import sys
 
-HERE = os.path.dirname(os.path.abspath(__file__))
-sys.path[:0] = [os.path.join(HERE, "../tools")]
-sys.dont_write_bytecode = True
+import house  # pylint: disable=unused-import
 
-# pylint: disable=wrong-import-position
-from replay import commands, frames, senses, serving
-from tracetext.command_line import Parser
+from copymgr_formats import frames, senses
+from copymgr_formats.command_line import Parser
+from replay import commands, serving
+
+HERE = os.path.dirname(os.path.abspath(__file__))
 
 FRONT = struct.Struct(">IH16s")
 LONG = 1 << 16
@@ -127,6 +127,7 @@ def main():
         sessions = serving.sessions_of(words.sessions)
         floor = Floor(serving.read_configuration(sys.stdin.buffer.read()))
         listener = serving.listening(words.address)
+        serving.tell_address(listener, words.address, lambda line: print(f"copymgr: {line}", file=sys.stderr, flush=True))
     except (ValueError, senses.BadInput) as error:
         parser.error(str(error))
     with listener:

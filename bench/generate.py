@@ -11,7 +11,7 @@
     generate.py unmap COUNT     UNMAPs of 2 MiB, in 64 ranges
 
 example:
-  $ bench/generate.py small 1000 | tools/plain-replay replay | wc -c
+  $ bench/generate.py small 1000 | tools/people/plain-replay replay | wc -c
 
 The last four are made by copy_traces.py: a fill, and then COUNT copies or UNMAPs.
 

@@ -7,10 +7,9 @@ import sys
 import tempfile
 import time
 
-sys.path.insert(0, os.path.join(os.path.dirname(os.path.abspath(__file__)), "../tools"))
-sys.dont_write_bytecode = True
+import house  # pylint: disable=unused-import
 
-# pylint: disable=wrong-import-position
+
 import replies
 from loading import memory
 

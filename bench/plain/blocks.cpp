@@ -4,8 +4,6 @@
 
 namespace {
 
-constexpr size_t STATUS_RUNS = 64;
-constexpr uint64_t STATUS_RUN_LIMIT = 0xFFFFFFFF;
 #ifdef APART
 constexpr bool JOINS = false;
 #else
@@ -160,20 +158,4 @@ void Extents::cut(Range range, BlockList &list) const
     walk(range, [&](const Place *place, uint64_t before, uint32_t count) {
         list.add(place ? behind(*place, before) : Place{}, count);
     });
-}
-
-// The first runs from a block on, of blocks that are all mapped or all unmapped.
-std::vector<StatusRun> Extents::status(uint64_t lba) const
-{
-    std::vector<StatusRun> runs;
-    auto extent = first_behind(lba);
-    while (lba < blocks_ && runs.size() < STATUS_RUNS) {
-        bool mapped = extent != extents_.end() && extent->first <= lba;
-        uint64_t end = extent == extents_.end() ? blocks_ : extent->first;
-        for (; mapped && extent != extents_.end() && extent->first <= std::max(lba, end); ++extent)
-            end = end_of(extent);
-        for (; end > lba && runs.size() < STATUS_RUNS; lba += runs.back().count)
-            runs.push_back({lba, static_cast<uint32_t>(std::min(end - lba, STATUS_RUN_LIMIT)), mapped});
-    }
-    return runs;
 }

@@ -58,24 +58,16 @@ struct BlockSlice {
     uint64_t mapped() const;
 };
 
-struct StatusRun {
-    uint64_t lba;
-    uint32_t count;
-    bool mapped;
-};
-
 // The mapped blocks of a unit: runs that each lie in one payload, by their first block.
 class Extents {
   public:
-    Extents(uint64_t blocks, uint32_t block_length) : blocks_(blocks), block_length_(block_length) {}
+    explicit Extents(uint32_t block_length) : block_length_(block_length) {}
 
     uint64_t mapped() const { return mapped_; }
     uint64_t mapped_in(Range range) const;
     void write(Range range, Shared<Payload> payload);
     void put(uint64_t lba, const BlockSlice &slice);
-    void unmap(Range range) { carve(range.lba, range.lba + range.count); }
     void cut(Range range, BlockList &list) const;
-    std::vector<StatusRun> status(uint64_t lba) const;
 
     // Shows the blocks of a range in order, as mapped(View) and unmapped(how many bytes).
     template <class Sink> void show(Range range, Sink &&sink) const;
@@ -95,7 +87,6 @@ class Extents {
     void insert(Map::iterator next, uint64_t lba, uint32_t count, Place place);
     template <class Visit> void walk(Range range, Visit &&visit) const;
 
-    uint64_t blocks_;
     uint32_t block_length_;
     uint64_t mapped_ = 0;
     // so that the nodes of the map lie side by side, and not each beside its payload

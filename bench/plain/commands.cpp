@@ -7,11 +7,9 @@ namespace {
 bool has_list(Operation operation)
 {
     switch (operation) {
-    case Operation::UNMAP:
     case Operation::POPULATE_TOKEN:
     case Operation::WRITE_USING_TOKEN:
-    case Operation::EXTENDED_COPY:
-    case Operation::PERSISTENT_RESERVE_OUT: return true;
+    case Operation::EXTENDED_COPY: return true;
     default: return false;
     }
 }
@@ -57,24 +55,13 @@ Command begin_judged(const Configuration &configuration, uint32_t initiator, Req
         auto data = request.payload ? std::move(request.payload) : Payload::copy_of(request.out);
         return WriteCommand{unit, {cdb.lba, cdb.count}, std::move(data)};
     }
-    case Operation::UNMAP: return UnmapCommand{unit, read_unmap_list(request.out)};
-    case Operation::GET_LBA_STATUS: return StatusCommand{unit, cdb.lba, cdb.length};
     case Operation::POPULATE_TOKEN: return PopulateCommand{unit, cdb.id, read_populate_list(request.out)};
     case Operation::WRITE_USING_TOKEN:
         return std::make_unique<TokenWrite>(configuration, unit, cdb.id, read_write_token_list(request.out));
-    case Operation::COPY_OPERATION_ABORT: return AbortCommand{unit, cdb.id};
-    case Operation::RECEIVE_ROD_TOKEN_INFORMATION: return ReportCommand{unit, cdb.id, cdb.length, true};
-    case Operation::RECEIVE_COPY_STATUS_4: return ReportCommand{unit, cdb.id, cdb.length, false};
-    case Operation::RECEIVE_COPY_STATUS_1: return RecallCommand{unit, static_cast<uint8_t>(cdb.id), cdb.length};
-    case Operation::EXTENDED_COPY: return begin_copy(configuration, initiator, request, output);
-    case Operation::PERSISTENT_RESERVE_OUT: return ReserveCommand{unit, read_reserve_list(cdb, request.out)};
-    case Operation::READ_KEYS: return KeysCommand{unit, cdb.length};
-    case Operation::READ_RESERVATION: return HolderCommand{unit, cdb.length};
-    default: break;
+    case Operation::RECEIVE_ROD_TOKEN_INFORMATION: return ReportCommand{unit, cdb.id, cdb.length};
+    case Operation::EXTENDED_COPY: break;
     }
-    uint32_t length = cdb.operation == Operation::READ_CAPACITY_10 ? UINT32_MAX : cdb.length;
-    write_cut(output, initiator, fixed_data(configuration, unit, cdb), length);
-    return {};
+    return begin_copy(configuration, initiator, request, output);
 }
 
 // Where a READ's blocks go.
@@ -116,48 +103,15 @@ struct Running {
         at(command.unit).write(turn.asking, command.range.lba, command.range.count, std::move(command.data));
         return good();
     }
-    bool operator()(UnmapCommand &command)
-    {
-        at(command.unit).unmap(turn.asking, std::move(command.ranges));
-        return good();
-    }
-    bool operator()(StatusCommand &command)
-    {
-        return good(status_data(at(command.unit).map_status(turn.asking, command.lba)), command.length);
-    }
     bool operator()(PopulateCommand &command)
     {
         at(command.unit).populate(turn.asking, command.id, command.list.timeout, std::move(command.list.ranges));
         return good();
     }
-    bool operator()(AbortCommand &command)
-    {
-        at(command.unit).abort(turn.asking, command.id);
-        return good();
-    }
     bool operator()(ReportCommand &command)
     {
         const KeptOperation &operation = at(command.unit).report(turn.asking, command.id);
-        if (!command.tells_token)
-            return good(copy_status_4_data(operation), command.length);
         return good(token_information_data(turn.configuration, command.unit, operation), command.length);
-    }
-    bool operator()(RecallCommand &command)
-    {
-        return good(copy_status_1_data(at(command.unit).recall(turn.asking, command.id)), command.length);
-    }
-    bool operator()(ReserveCommand &command)
-    {
-        at(command.unit).reserve(turn.asking, command.asked);
-        return good();
-    }
-    bool operator()(KeysCommand &command)
-    {
-        return good(keys_data(at(command.unit).keys(turn.asking)), command.length);
-    }
-    bool operator()(HolderCommand &command)
-    {
-        return good(reservation_data(at(command.unit).holder(turn.asking)), command.length);
     }
     bool operator()(std::unique_ptr<TokenWrite> &command) { return command->run(turn); }
     bool operator()(std::unique_ptr<SegmentCopy> &command) { return command->run(turn); }
@@ -181,8 +135,6 @@ bool run(Command &command, Turn &turn)
         return std::visit(Running{turn}, command);
     } catch (const Refused &refused) {
         write_check(turn.output, turn.initiator, refused.sense);
-    } catch (const Conflict &) {
-        write_reservation_conflict(turn.output, turn.initiator);
     } catch (const RecordFull &) {
         write_task_set_full(turn.output, turn.initiator);
     }

@@ -1,8 +1,8 @@
 // Commands that wait for their next Run, each of which does one act.
 #pragma once
 
-#include <exception>
 #include <memory>
+#include <optional>
 #include <variant>
 
 #include "requests.h"
@@ -26,47 +26,15 @@ struct WriteCommand {
     Range range;
     Shared<Payload> data;
 };
-struct UnmapCommand {
-    uint16_t unit;
-    Ranges ranges;
-};
-struct StatusCommand {
-    uint16_t unit;
-    uint64_t lba;
-    uint32_t length;
-};
 struct PopulateCommand {
     uint16_t unit;
     uint32_t id;
     PopulateList list;
 };
-struct AbortCommand {
-    uint16_t unit;
-    uint32_t id;
-};
-// RECEIVE ROD TOKEN INFORMATION and RECEIVE COPY STATUS (LID4)
+// RECEIVE ROD TOKEN INFORMATION
 struct ReportCommand {
     uint16_t unit;
     uint32_t id;
-    uint32_t length;
-    bool tells_token;
-};
-struct RecallCommand {
-    uint16_t unit;
-    uint8_t id;
-    uint32_t length;
-};
-
-struct ReserveCommand {
-    uint16_t unit;
-    ReserveOut asked;
-};
-struct KeysCommand {
-    uint16_t unit;
-    uint32_t length;
-};
-struct HolderCommand {
-    uint16_t unit;
     uint32_t length;
 };
 
@@ -118,7 +86,6 @@ class SegmentCopy {
     void close(Turn &turn, CopyState state);
     void next_segment();
     void stop(Sense sense);
-    void end_segments(std::exception_ptr refusal);
 
     uint16_t unit_;
     uint8_t id_;
@@ -128,13 +95,12 @@ class SegmentCopy {
     BlockSlice captured_;
     uint32_t put_ = 0;
     CopyResult result_;
-    // the Refused or the Conflict that ended the segments, which is thrown again in the end
-    std::exception_ptr refusal_;
+    // what ended the segments, and is told in the end
+    std::optional<Refused> refusal_;
     Next next_;
 };
 
-using Command = std::variant<std::monostate, ReadCommand, WriteCommand, UnmapCommand, StatusCommand, PopulateCommand,
-                             AbortCommand, ReportCommand, RecallCommand, ReserveCommand, KeysCommand, HolderCommand,
+using Command = std::variant<std::monostate, ReadCommand, WriteCommand, PopulateCommand, ReportCommand,
                              std::unique_ptr<TokenWrite>, std::unique_ptr<SegmentCopy>>;
 
 inline bool waits(const Command &command)

@@ -11,7 +11,7 @@ constexpr size_t RUN_LENGTH = 13, PUMP_LENGTH = 11, REQUEST_AT = 13, REQUEST_FRO
 // data that is at least so long is read to where it stays, past the buffer of the input
 constexpr size_t LONG_DATA = 65'536;
 
-enum class Status : uint8_t { GOOD = 0x00, CHECK_CONDITION = 0x02, RESERVATION_CONFLICT = 0x18, TASK_SET_FULL = 0x28 };
+enum class Status : uint8_t { GOOD = 0x00, CHECK_CONDITION = 0x02, TASK_SET_FULL = 0x28 };
 constexpr size_t REPLY_FRONT = 10;
 
 // The place in a unit's part of the header of the first field that breaks its limit; its length where none does.
@@ -168,11 +168,6 @@ void write_check(Output &output, uint32_t initiator, Sense sense)
     auto bytes = sense_bytes(sense);
     write_front(output, initiator, Status::CHECK_CONDITION, SENSE_LENGTH, 0);
     output.write({bytes.data(), bytes.size()});
-}
-
-void write_reservation_conflict(Output &output, uint32_t initiator)
-{
-    write_front(output, initiator, Status::RESERVATION_CONFLICT, 0, 0);
 }
 
 void write_task_set_full(Output &output, uint32_t initiator)

@@ -53,7 +53,6 @@ bool read_item(Input &input, Item &item);
 void write_good(Output &output, uint32_t initiator, size_t length);
 void write_good(Output &output, uint32_t initiator, View data);
 void write_check(Output &output, uint32_t initiator, Sense sense);
-void write_reservation_conflict(Output &output, uint32_t initiator);
 void write_task_set_full(Output &output, uint32_t initiator);
 
 constexpr size_t SENSE_LENGTH = 18;

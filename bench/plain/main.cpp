@@ -1,4 +1,5 @@
-// Plays a recorded trace as copymgr does, without proof: the measure of what a command costs beside a plain program.
+// Plays a recorded trace as copymgr does, without proof: the measure of what a command costs beside a plain program. It
+// has the commands that bench/run-commands measures, and no others.
 //
 //     plain replay < TRACE > REPLIES
 //

@@ -26,12 +26,6 @@ struct Write {
     uint32_t count;
     Shared<Payload> data;
 };
-struct Unmap {
-    Ranges ranges;
-};
-struct MapStatus {
-    uint64_t lba;
-};
 struct Populate {
     uint32_t id;
     uint32_t timeout;
@@ -57,9 +51,6 @@ struct Pump {};
 struct End {
     uint32_t id;
 };
-struct Abort {
-    uint32_t id;
-};
 struct Report {
     uint32_t id;
 };
@@ -78,22 +69,12 @@ struct Close {
     uint8_t id;
     CopyResult result;
 };
-struct Recall {
-    uint8_t id;
-};
-struct PrOut {
-    ReserveOut asked;
-};
-struct PrKeys {};
-struct PrHolder {};
 
 } // namespace act
 
 // A Start is large and rare, so it lies apart.
-using Act = std::variant<act::Read, act::Write, act::Unmap, act::MapStatus, act::Populate, act::Redeem, act::Delete,
-                         std::unique_ptr<act::Start>, act::Advance, act::Pump, act::End, act::Abort, act::Report,
-                         act::Open, act::Capture, act::Put, act::Close, act::Recall, act::PrOut, act::PrKeys,
-                         act::PrHolder>;
+using Act = std::variant<act::Read, act::Write, act::Populate, act::Redeem, act::Delete, std::unique_ptr<act::Start>,
+                         act::Advance, act::Pump, act::End, act::Report, act::Open, act::Capture, act::Put, act::Close>;
 
 // Who asks: a nexus, or the pump of a unit.
 struct Actor {

@@ -23,7 +23,6 @@ struct Field {
 
 struct Form {
     Operation operation;
-    uint8_t size;
     Field lba, count, id, length;
 };
 
@@ -32,66 +31,31 @@ constexpr Field NONE{0, 0}, LENGTH_AT_10{10, 4}, ID_AT_2{2, 4}, ID_AT_6{6, 4};
 Form form_of(uint16_t operation_and_action)
 {
     switch (operation_and_action) {
-    case code(0x00): return {Operation::TEST_UNIT_READY, 6, NONE, NONE, NONE, NONE};
-    case code(0x03): return {Operation::REQUEST_SENSE, 6, NONE, NONE, NONE, {4, 1}};
-    case code(0x12): return {Operation::INQUIRY, 6, NONE, NONE, NONE, {3, 2}};
-    case code(0x25): return {Operation::READ_CAPACITY_10, 10, NONE, NONE, NONE, NONE};
-    case code(0x28): return {Operation::READ, 10, {2, 4}, {7, 2}, NONE, NONE};
-    case code(0x2A): return {Operation::WRITE, 10, {2, 4}, {7, 2}, NONE, NONE};
-    case code(0x42): return {Operation::UNMAP, 10, NONE, NONE, NONE, {7, 2}};
-    case code(0x5E, 0x00): return {Operation::READ_KEYS, 10, NONE, NONE, NONE, {7, 2}};
-    case code(0x5E, 0x01): return {Operation::READ_RESERVATION, 10, NONE, NONE, NONE, {7, 2}};
-    case code(0x5F, 0x00):
-    case code(0x5F, 0x01):
-    case code(0x5F, 0x02):
-    case code(0x5F, 0x03):
-    case code(0x5F, 0x04):
-    case code(0x5F, 0x06): return {Operation::PERSISTENT_RESERVE_OUT, 10, NONE, NONE, NONE, {5, 4}};
-    case code(0x88): return {Operation::READ, 16, {2, 8}, {10, 4}, NONE, NONE};
-    case code(0x8A): return {Operation::WRITE, 16, {2, 8}, {10, 4}, NONE, NONE};
-    case code(0x83, 0x00): return {Operation::EXTENDED_COPY, 16, NONE, NONE, NONE, LENGTH_AT_10};
-    case code(0x83, 0x10): return {Operation::POPULATE_TOKEN, 16, NONE, NONE, ID_AT_6, LENGTH_AT_10};
-    case code(0x83, 0x11): return {Operation::WRITE_USING_TOKEN, 16, NONE, NONE, ID_AT_6, LENGTH_AT_10};
-    case code(0x83, 0x1C): return {Operation::COPY_OPERATION_ABORT, 16, NONE, NONE, ID_AT_2, NONE};
-    case code(0x84, 0x00): return {Operation::RECEIVE_COPY_STATUS_1, 16, NONE, NONE, {2, 1}, LENGTH_AT_10};
-    case code(0x84, 0x03): return {Operation::RECEIVE_COPY_OPERATING_PARAMETERS, 16, NONE, NONE, NONE, LENGTH_AT_10};
-    case code(0x84, 0x05): return {Operation::RECEIVE_COPY_STATUS_4, 16, NONE, NONE, ID_AT_2, LENGTH_AT_10};
-    case code(0x84, 0x07): return {Operation::RECEIVE_ROD_TOKEN_INFORMATION, 16, NONE, NONE, ID_AT_2, LENGTH_AT_10};
-    case code(0x9E, 0x10): return {Operation::READ_CAPACITY_16, 16, NONE, NONE, NONE, LENGTH_AT_10};
-    case code(0x9E, 0x12): return {Operation::GET_LBA_STATUS, 16, {2, 8}, NONE, NONE, LENGTH_AT_10};
-    case code(0xA0): return {Operation::REPORT_LUNS, 12, NONE, NONE, NONE, {6, 4}};
+    case code(0x88): return {Operation::READ, {2, 8}, {10, 4}, NONE, NONE};
+    case code(0x8A): return {Operation::WRITE, {2, 8}, {10, 4}, NONE, NONE};
+    case code(0x83, 0x00): return {Operation::EXTENDED_COPY, NONE, NONE, NONE, LENGTH_AT_10};
+    case code(0x83, 0x10): return {Operation::POPULATE_TOKEN, NONE, NONE, ID_AT_6, LENGTH_AT_10};
+    case code(0x83, 0x11): return {Operation::WRITE_USING_TOKEN, NONE, NONE, ID_AT_6, LENGTH_AT_10};
+    case code(0x84, 0x07): return {Operation::RECEIVE_ROD_TOKEN_INFORMATION, NONE, NONE, ID_AT_2, LENGTH_AT_10};
     default: throw Refused{INVALID_COMMAND_OPERATION_CODE};
     }
 }
 
 bool has_action(uint8_t operation)
 {
-    switch (operation) {
-    case 0x5E:
-    case 0x5F:
-    case 0x83:
-    case 0x84:
-    case 0x9E: return true;
-    default: return false;
-    }
+    return operation == 0x83 || operation == 0x84;
 }
 
-// What a command may not ask for: protection information, more blocks than a READ or WRITE has, ANCHOR, DESC.
+// What a READ or WRITE may not ask for: protection information, or more blocks than it has.
 bool is_invalid(const Cdb &cdb, uint8_t second)
 {
-    switch (cdb.operation) {
-    case Operation::READ:
-    case Operation::WRITE: return second >> 5 || cdb.count > READ_WRITE_LIMIT;
-    case Operation::UNMAP:
-    case Operation::REQUEST_SENSE: return second & 1;
-    default: return false;
-    }
+    bool moves = cdb.operation == Operation::READ || cdb.operation == Operation::WRITE;
+    return moves && (second >> 5 || cdb.count > READ_WRITE_LIMIT);
 }
 
 // ---- parameter lists
 
 constexpr size_t RANGE_LENGTH = 16, RANGES_LIMIT = 64, CSCD_LENGTH = 32, SEGMENT_LENGTH = 28, COPY_FRONT = 16;
-constexpr size_t RESERVE_LENGTH = 24;
 constexpr uint32_t ROD_BLOCKS_LIMIT = 1'048'576;
 constexpr uint32_t TIMEOUT_LIMIT = 3600, TIMEOUT_DEFAULT = 300;
 constexpr uint32_t POINT_IN_TIME_ROD = 0x00800000, ANY_ROD = 0x0080FFFF;
@@ -160,7 +124,7 @@ Segment segment_in(View rest, size_t cscds)
 Cdb decode(const std::array<uint8_t, 16> &bytes)
 {
     Form form = form_of(code(bytes[0], has_action(bytes[0]) ? bytes[1] & 0x1F : NO_ACTION));
-    refuse_if(bytes[form.size - 1] & 0x04, INVALID_FIELD_IN_CDB);
+    refuse_if(bytes.back() & 0x04, INVALID_FIELD_IN_CDB);
     auto field = [&](Field where) { return number(&bytes[where.at], where.size); };
     Cdb cdb{};
     cdb.operation = form.operation;
@@ -168,27 +132,8 @@ Cdb decode(const std::array<uint8_t, 16> &bytes)
     cdb.count = static_cast<uint32_t>(field(form.count));
     cdb.id = static_cast<uint32_t>(field(form.id));
     cdb.length = static_cast<uint32_t>(field(form.length));
-    if (form.operation == Operation::INQUIRY) {
-        cdb.evpd = bytes[1] & 1;
-        cdb.page = bytes[2];
-    }
-    if (form.operation == Operation::PERSISTENT_RESERVE_OUT) {
-        cdb.action = static_cast<ReserveAction>(bytes[1] & 0x1F);
-        cdb.scope = bytes[2] >> 4;
-        cdb.type = bytes[2] & 0x0F;
-    }
     refuse_if(is_invalid(cdb, bytes[1]), INVALID_FIELD_IN_CDB);
     return cdb;
-}
-
-Ranges read_unmap_list(View list)
-{
-    if (!list.length)
-        return {};
-    refuse_if(list.length < 8, PARAMETER_LIST_LENGTH_ERROR);
-    size_t count = std::min<size_t>(number16(list.bytes + 2), list.length - 8) / RANGE_LENGTH;
-    refuse_if(count > RANGES_LIMIT, INVALID_FIELD_IN_PARAMETER_LIST);
-    return ranges_in(list.bytes + 8, count);
 }
 
 PopulateList read_populate_list(View list)
@@ -229,10 +174,4 @@ CopyList read_copy_list(View list)
     for (size_t at = 0; at < segments; at += SEGMENT_LENGTH)
         made.segments.push_back(segment_in(rest.from(at), made.cscds.size()));
     return made;
-}
-
-ReserveOut read_reserve_list(const Cdb &cdb, View list)
-{
-    refuse_if(list.length != RESERVE_LENGTH, PARAMETER_LIST_LENGTH_ERROR);
-    return {cdb.action, cdb.scope, cdb.type, number64(list.bytes), number64(list.bytes + 8)};
 }

@@ -5,30 +5,15 @@
 #include <vector>
 
 #include "blocks.h"
-#include "reservations.h"
 
+// What run-commands measures; any other command is refused as one that is not there.
 enum class Operation : uint8_t {
-    TEST_UNIT_READY,
-    REQUEST_SENSE,
-    INQUIRY,
-    READ_CAPACITY_10,
-    READ_CAPACITY_16,
-    REPORT_LUNS,
-    RECEIVE_COPY_OPERATING_PARAMETERS,
     READ,
     WRITE,
-    UNMAP,
-    GET_LBA_STATUS,
     POPULATE_TOKEN,
     WRITE_USING_TOKEN,
-    COPY_OPERATION_ABORT,
-    RECEIVE_ROD_TOKEN_INFORMATION,
-    RECEIVE_COPY_STATUS_4,
     EXTENDED_COPY,
-    RECEIVE_COPY_STATUS_1,
-    PERSISTENT_RESERVE_OUT,
-    READ_KEYS,
-    READ_RESERVATION,
+    RECEIVE_ROD_TOKEN_INFORMATION,
 };
 
 // The fields of a CDB; those that the command has not are 0.
@@ -39,12 +24,6 @@ struct Cdb {
     uint32_t id;
     // the allocation length, or the length of the parameter list
     uint32_t length;
-    uint8_t page;
-    bool evpd;
-    // of a PERSISTENT RESERVE OUT
-    ReserveAction action;
-    uint8_t scope;
-    uint8_t type;
 };
 
 Cdb decode(const std::array<uint8_t, 16> &bytes);
@@ -86,8 +65,6 @@ struct CopyList {
     std::vector<Segment> segments;
 };
 
-Ranges read_unmap_list(View list);
 PopulateList read_populate_list(View list);
 WriteTokenList read_write_token_list(View list);
 CopyList read_copy_list(View list);
-ReserveOut read_reserve_list(const Cdb &cdb, View list);

@@ -114,12 +114,7 @@ void SegmentCopy::step(Turn &turn)
 void SegmentCopy::stop(Sense sense)
 {
     refuse_if(next_ != Next::CAPTURE && next_ != Next::PUT, sense);
-    end_segments(std::make_exception_ptr(Refused{{COPY_ABORTED, sense.code, sense.qualifier}}));
-}
-
-void SegmentCopy::end_segments(std::exception_ptr refusal)
-{
-    refusal_ = std::move(refusal);
+    refusal_ = Refused{{COPY_ABORTED, sense.code, sense.qualifier}};
     next_ = keeps_id_ ? Next::CLOSE : Next::NOTHING;
 }
 
@@ -132,9 +127,6 @@ bool SegmentCopy::run(Turn &turn)
     } catch (const Refused &refused) {
         if (!gave_up)
             stop(refused.sense);
-    } catch (const Conflict &) {
-        // only a Capture or a Put has one
-        end_segments(std::current_exception());
     } catch (const RecordFull &) {
         if (gave_up || !keeps_id_ || asked == Next::OPEN)
             throw;
@@ -146,7 +138,7 @@ bool SegmentCopy::run(Turn &turn)
     if (next_ != Next::NOTHING)
         return false;
     if (refusal_)
-        std::rethrow_exception(refusal_);
+        throw *refusal_;
     write_good(turn.output, turn.initiator, size_t{0});
     return true;
 }

@@ -41,9 +41,6 @@ struct Refused {
     Sense sense;
 };
 
-// A registration or a reservation stands against an act: RESERVATION CONFLICT.
-struct Conflict {};
-
 // The unit's record has no room for an act.
 struct RecordFull {};
 
@@ -59,10 +56,4 @@ inline void refuse_if(bool wrong, Sense sense)
 {
     if (wrong)
         throw Refused{sense};
-}
-
-inline void conflict_if(bool wrong)
-{
-    if (wrong)
-        throw Conflict{};
 }

@@ -9,8 +9,7 @@ constexpr size_t LIVE_TOKENS = 64;
 } // namespace
 
 Unit::Unit(const Configuration &configuration, uint16_t number)
-    : configuration_(configuration), number_(number),
-      extents_(configuration.units[number].blocks, configuration.units[number].block_length)
+    : configuration_(configuration), number_(number), extents_(configuration.units[number].block_length)
 {
 }
 
@@ -31,12 +30,6 @@ Entry &Unit::admit(const Asking &asking, Act &&act, uint32_t need, uint64_t payl
 Entry &Unit::serve(const Asking &asking, Act &&act, KeptOperation *operation)
 {
     return admit(asking, std::move(act), operation ? 0 : 1);
-}
-
-// An act that a reservation bars is judged no further. It is an entry as any other.
-void Unit::judge_access(const Asking &asking, Access access) const
-{
-    conflict_if(!reservations_.allows(asking.actor.number, access));
 }
 
 // ---- blocks
@@ -64,42 +57,21 @@ bool Unit::has_room(uint64_t mapped, const Range *ranges, size_t count) const
 void Unit::read(const Asking &asking, uint64_t lba, uint32_t count)
 {
     admit(asking, act::Read{lba, count}, 1);
-    judge_access(asking, Access::READS);
     judge_bounds(lba, count);
 }
 
 void Unit::write(const Asking &asking, uint64_t lba, uint32_t count, Shared<Payload> data)
 {
     admit(asking, act::Write{lba, count, data}, 1, data->length);
-    judge_access(asking, Access::WRITES);
     judge_bounds(lba, count);
     Range range{lba, count};
     refuse_if(!has_room(count, &range, 1), SPACE_ALLOCATION_FAILED);
     extents_.write(range, std::move(data));
 }
 
-void Unit::unmap(const Asking &asking, Ranges ranges)
-{
-    const Entry &entry = admit(asking, act::Unmap{std::move(ranges)}, 1);
-    const Ranges &asked = std::get<act::Unmap>(entry.act).ranges;
-    judge_access(asking, Access::WRITES);
-    judge_bounds(asked);
-    for (const Range &range : asked)
-        extents_.unmap(range);
-}
-
-std::vector<StatusRun> Unit::map_status(const Asking &asking, uint64_t lba)
-{
-    admit(asking, act::MapStatus{lba}, 1);
-    judge_access(asking, Access::READS);
-    refuse_if(lba >= shape().blocks, LBA_OUT_OF_RANGE);
-    return extents_.status(lba);
-}
-
 BlockSlice Unit::capture(const Asking &asking, uint64_t lba, uint32_t count)
 {
     admit(asking, act::Capture{lba, count}, 1);
-    judge_access(asking, Access::READS);
     judge_bounds(lba, count);
     auto list = BlockList::empty();
     extents_.cut({lba, count}, *list);
@@ -109,7 +81,6 @@ BlockSlice Unit::capture(const Asking &asking, uint64_t lba, uint32_t count)
 void Unit::put(const Asking &asking, uint64_t lba, BlockSlice slice)
 {
     admit(asking, act::Put{lba, slice}, 1);
-    judge_access(asking, Access::WRITES);
     judge_bounds(lba, slice.count);
     Range range{lba, slice.count};
     refuse_if(!has_room(slice.mapped(), &range, 1), SPACE_ALLOCATION_FAILED);
@@ -160,7 +131,6 @@ void Unit::populate(const Asking &asking, uint32_t id, uint32_t timeout, Ranges 
 {
     const Entry &entry = admit(asking, act::Populate{id, timeout, std::move(ranges)}, 1);
     const Ranges &asked = std::get<act::Populate>(entry.act).ranges;
-    judge_access(asking, Access::READS);
     refuse_if(operations_.running(token_key(asking, id)), OPERATION_IN_PROGRESS);
     judge_bounds(asked);
     make_room();
@@ -202,24 +172,4 @@ void Unit::remove(const Asking &asking, uint64_t serial)
         return;
     end_token(serial, Fate::DELETED);
     live_.erase(std::find(live_.begin(), live_.end(), serial));
-}
-
-// ---- reservations
-
-void Unit::reserve(const Asking &asking, const ReserveOut &asked)
-{
-    admit(asking, act::PrOut{asked}, 1);
-    reservations_.apply(asking.actor.number, asked);
-}
-
-const Reservations &Unit::keys(const Asking &asking)
-{
-    admit(asking, act::PrKeys{}, 1);
-    return reservations_;
-}
-
-const Reservations &Unit::holder(const Asking &asking)
-{
-    admit(asking, act::PrHolder{}, 1);
-    return reservations_;
 }

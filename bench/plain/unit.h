@@ -1,11 +1,10 @@
-// A unit: its blocks, its tokens, its operations, its reservations and its record.
+// A unit: its blocks, its tokens, its operations and its record.
 #pragma once
 
 #include <deque>
 
 #include "frames.h"
 #include "operations.h"
-#include "reservations.h"
 
 // Who asks for an act, and when. The numbers are those of its last entry and of the last entry of all units.
 struct Asking {
@@ -30,8 +29,6 @@ class Unit {
 
     void read(const Asking &asking, uint64_t lba, uint32_t count);
     void write(const Asking &asking, uint64_t lba, uint32_t count, Shared<Payload> data);
-    void unmap(const Asking &asking, Ranges ranges);
-    std::vector<StatusRun> map_status(const Asking &asking, uint64_t lba);
 
     void populate(const Asking &asking, uint32_t id, uint32_t timeout, Ranges ranges);
     BlockSlice redeem(const Asking &asking, std::unique_ptr<TokenText> text, uint16_t target);
@@ -42,18 +39,12 @@ class Unit {
     const KeptOperation &advance(const Asking &asking, uint32_t id);
     void pump(const Asking &asking);
     void end(const Asking &asking, uint32_t id);
-    void abort(const Asking &asking, uint32_t id);
     const KeptOperation &report(const Asking &asking, uint32_t id);
 
     void open(const Asking &asking, uint8_t id);
     BlockSlice capture(const Asking &asking, uint64_t lba, uint32_t count);
     void put(const Asking &asking, uint64_t lba, BlockSlice slice);
     void close(const Asking &asking, uint8_t id, CopyResult result);
-    CopyResult recall(const Asking &asking, uint8_t id);
-
-    void reserve(const Asking &asking, const ReserveOut &asked);
-    const Reservations &keys(const Asking &asking);
-    const Reservations &holder(const Asking &asking);
 
   private:
     enum class Fate : uint8_t { LIVE, EXPIRED, CANCELLED, DELETED };
@@ -70,7 +61,6 @@ class Unit {
     const Shape &shape() const { return configuration_.units[number_]; }
     Entry &admit(const Asking &asking, Act &&act, uint32_t need, uint64_t payload = 0);
     Entry &serve(const Asking &asking, Act &&act, KeptOperation *operation);
-    void judge_access(const Asking &asking, Access access) const;
     void judge_bounds(uint64_t lba, uint64_t count) const;
     void judge_bounds(const Ranges &ranges) const;
     bool has_room(uint64_t mapped, const Range *ranges, size_t count) const;
@@ -91,7 +81,6 @@ class Unit {
     std::vector<uint64_t> live_;
     uint64_t no_end_before_ = UINT64_MAX;
     Operations operations_;
-    Reservations reservations_;
     // the ranges of the piece that is being written
     Ranges piece_;
     std::deque<Entry> record_;

@@ -23,7 +23,6 @@ const KeptOperation &Unit::start(const Asking &asking, std::unique_ptr<act::Star
     KeptOperation made(token_key(asking, asked.id));
     uint32_t reserved = pieces(asked.rod.count) + 1;
     admit(asking, std::move(start), 1 + reserved);
-    judge_access(asking, Access::WRITES);
     refuse_if(operations_.running(made.key), OPERATION_IN_PROGRESS);
     judge_bounds(asked.ranges);
     refuse_if(operations_.is_crowded(), INSUFFICIENT_RESOURCES);
@@ -101,14 +100,6 @@ void Unit::end(const Asking &asking, uint32_t id)
     operations_.serve(*operation, OperationState::TERMINATED);
 }
 
-void Unit::abort(const Asking &asking, uint32_t id)
-{
-    KeptOperation *operation = only_if(true, operations_.running(token_key(asking, id)));
-    serve(asking, act::Abort{id}, operation);
-    refuse_if(!operation, INVALID_FIELD_IN_CDB);
-    operations_.serve(*operation, OperationState::TERMINATED);
-}
-
 const KeptOperation &Unit::report(const Asking &asking, uint32_t id)
 {
     admit(asking, act::Report{id}, 1);
@@ -134,12 +125,4 @@ void Unit::close(const Asking &asking, uint8_t id, CopyResult result)
     refuse_if(!operation, INVALID_FIELD_IN_CDB);
     operation->result = result;
     operations_.serve(*operation, OperationState::DONE);
-}
-
-CopyResult Unit::recall(const Asking &asking, uint8_t id)
-{
-    admit(asking, act::Recall{id}, 1);
-    const KeptOperation *operation = operations_.of(copy_key(asking, id));
-    refuse_if(!operation, INVALID_FIELD_IN_CDB);
-    return operation->result;
 }
