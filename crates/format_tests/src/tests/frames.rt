@@ -2,10 +2,10 @@
 ghost use Rattle.std.specs.Prelude.{◌≤◌, length};
 ghost use Rattle.cm_frame.specs.Grammar.{data_limit, data_in, data_out};
 
-use cm_base::{Bytes, CallList, Config, InputBuffer, MemorySource, Payload};
+use cm_base::{Bytes, Config, Payload};
 use cm_frame::{
-    ItemBuffer, Parsed, Reply, TraceItem, read_header, read_item, read_reply, read_request,
-    write_header, write_item, write_reply, write_request,
+    Parsed, Reply, TraceItem, read_header, read_item, read_reply, read_request, write_header,
+    write_item, write_reply, write_request,
 };
 use scsi_sense::Sense;
 use std::test::Fail;
@@ -178,122 +178,11 @@ fn items_are_read_and_written(rt: HostRuntime) -> Result<(), Fail> {
     Ok(())
 }
 
-/// Whether an item begins a command with so many bytes of data-out, and these first and last ones.
-fn begins_with(item: &TraceItem, count: usize, first: u8, last: u8) -> bool {
-    let TraceItem::Begin { request, .. } = item else {
-        return false;
-    };
-    let out = request.out.as_slice();
-    out.len() == count && out.first() == Some(&first) && out.last() == Some(&last)
-}
-
 /// Initiator 1 runs at moment 5.
 const RUN: [u8; 13] = [2, 0, 0, 0, 1, 0, 0, 0, 0, 0, 0, 0, 5];
 
 /// Unit 7 is pumped at moment 5.
 const PUMP: [u8; 11] = [3, 0, 7, 0, 0, 0, 0, 0, 0, 0, 5];
-
-/// A WRITE of 65,536 bytes, the first one 3 and the last one 7, and then a run.
-fn long_write(rt: &HostRuntime) -> Result<Bytes, Fail> {
-    let mut bytes = Bytes::copy(rt.alloc(), &WRITE[..13])?;
-    bytes.extend(&[0, 1, 0, 0])?;
-    bytes.extend(&WRITE[17..])?;
-    bytes.push(3)?;
-    repeat(&mut bytes, 1, 65_534)?;
-    bytes.push(7)?;
-    bytes.extend(&RUN)?;
-    Ok(bytes)
-}
-
-/// Whether the item at the front is whole and the long WRITE. It is passed.
-fn takes_write(rt: &HostRuntime, waits: &mut ItemBuffer) -> Result<bool, Fail> {
-    match &waits.item(rt.alloc())? {
-        Parsed::Whole { value, used } => {
-            waits.pass(*used);
-            Ok(begins_with(value, 65_536, 3, 7))
-        }
-        _ => Ok(false),
-    }
-}
-
-/// Whether the item at the front is whole and the run. It is passed.
-fn takes_run(rt: &HostRuntime, waits: &mut ItemBuffer) -> Result<bool, Fail> {
-    match &waits.item(rt.alloc())? {
-        Parsed::Whole { value, used } => {
-            waits.pass(*used);
-            Ok(matches!(value, TraceItem::Run { moment: 5, .. }))
-        }
-        _ => Ok(false),
-    }
-}
-
-/// No item is whole yet.
-fn is_waiting(rt: &HostRuntime, waits: &mut ItemBuffer) -> Result<bool, Fail> {
-    Ok(!matches!(&waits.item(rt.alloc())?, Parsed::Whole { .. }))
-}
-
-/// Pulls once more, where no item is whole yet: how many bytes came.
-fn pull_more(
-    rt: &HostRuntime,
-    waits: &mut ItemBuffer,
-    source: &mut MemorySource,
-) -> Result<usize, Fail> {
-    if !is_waiting(rt, waits)? {
-        return Err(Fail::new("an item before its end"));
-    }
-    Ok(waits.fill(&mut rt.alloc(), source)?)
-}
-
-/// Whether pulls give so many bytes, and no item is whole before each of them.
-fn pulls(
-    rt: &HostRuntime,
-    waits: &mut ItemBuffer,
-    source: &mut MemorySource,
-    counts: &[usize],
-) -> Result<bool, Fail> {
-    let mut told = true;
-    for count in counts {
-        told &= pull_more(rt, waits, source)? == *count;
-    }
-    Ok(told)
-}
-
-/// Whether both items are taken, and no byte is left.
-fn are_taken(rt: &HostRuntime, waits: &mut ItemBuffer) -> Result<bool, Fail> {
-    let taken = takes_write(rt, waits)? && takes_run(rt, waits)?;
-    Ok(taken && waits.is_empty())
-}
-
-/// Whether both items come by these pulls.
-fn come_by(
-    rt: &HostRuntime,
-    waits: &mut ItemBuffer,
-    source: &mut MemorySource,
-    counts: &[usize],
-) -> Result<bool, Fail> {
-    let begun = waits.is_empty() && pulls(rt, waits, source, counts)?;
-    Ok(begun && are_taken(rt, waits)?)
-}
-
-/// A source of both items, of which a pull gives 20,000 bytes.
-fn long_source(rt: &HostRuntime) -> Result<MemorySource, Fail> {
-    let bytes = long_write(rt)?;
-    Ok(MemorySource::new(bytes, 20_000, CallList::empty(rt.alloc())))
-}
-
-/// Whether both items are gathered by these pulls.
-fn is_gathered(rt: &HostRuntime, counts: &[usize]) -> Result<bool, Fail> {
-    let mut source = long_source(rt)?;
-    let mut waits = ItemBuffer::new(InputBuffer::new(rt.alloc()));
-    come_by(rt, &mut waits, &mut source, counts)
-}
-
-/// A long data-out comes in four pulls, and the item behind it with the last of them.
-#[test]
-fn a_long_item_is_gathered(rt: HostRuntime) -> Result<(), Fail> {
-    assert!(rt; is_gathered(&rt, &[20_000, 20_000, 20_000, 5584])?);
-    Ok(())
-}
 
 /// How the reading of an item ends.
 fn item_ending(rt: &HostRuntime, bytes: &[u8]) -> Result<Ending, Fail> {

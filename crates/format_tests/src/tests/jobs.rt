@@ -1,6 +1,6 @@
 // Jobs of a host copier, and their plans.
 use cm_base::{Bytes, Parsed};
-use copy_plan::{CutList, ExtentCursor, ExtentList, Job, JobFault, plan, read_job, write_job};
+use copy_plan::{CutList, ExtentList, Job, JobFault, plan, read_job, write_job};
 use lba_ranges::Range;
 use std::alloc::Global;
 use std::test::Fail;
@@ -40,23 +40,6 @@ fn ends_of(alloc: Global, extents: ExtentList) -> Result<CutList, Fail> {
 }
 
 #[test]
-fn plans_have_the_fewest_parts(rt: HostRuntime) -> Result<(), Fail> {
-    let alloc = rt.alloc();
-    for (extents, count, parts) in [
-        (65, 1, 2),
-        (1, 1_048_577, 2),
-        (64, 16_384, 1),
-        (0, 1, 0),
-        (65_536, 1, 1_024),
-        (1, u32::MAX, 4_096),
-    ] {
-        let ends = ends_of(alloc, spaced(alloc, extents, count)?)?;
-        assert!(rt; ends.len() == parts);
-    }
-    Ok(())
-}
-
-#[test]
 fn parts_end_where_64_extents_or_a_token_end(rt: HostRuntime) -> Result<(), Fail> {
     let alloc = rt.alloc();
     let mut extents = spaced(alloc, 64, 1)?;
@@ -70,48 +53,6 @@ fn parts_end_where_64_extents_or_a_token_end(rt: HostRuntime) -> Result<(), Fail
     })?;
     let ends = ends_of(alloc, extents)?;
     assert!(rt; ends.as_slice() == [64, 1_048_640, 2_000_164].as_slice());
-    Ok(())
-}
-
-/// The first block, the ranges and the blocks of the next run, and the place behind it.
-fn next_run(
-    alloc: Global,
-    cursor: &mut ExtentCursor,
-    most: u64,
-) -> Result<(u64, usize, u64, u64), Fail> {
-    let ranges = cursor.next_ranges(alloc, most)?;
-    let first = if ranges.len() > 0 {
-        ranges.at(0).lba
-    } else {
-        0
-    };
-    Ok((first, ranges.len(), ranges.total(), cursor.place()))
-}
-
-/// Of 130 extents of three blocks: of how many blocks a run may be, and the run.
-const RUNS: [(u64, (u64, usize, u64, u64)); 4] = [
-    (1_000, (0, 64, 192, 192)),
-    (2, (256, 1, 2, 194)),
-    (0, (0, 0, 0, 194)),
-    (1_000, (258, 64, 190, 384)),
-];
-
-/// The next runs are these, and behind them are six more blocks.
-fn are_next(alloc: Global, cursor: &mut ExtentCursor) -> Result<bool, Fail> {
-    for (most, run) in RUNS {
-        if next_run(alloc, cursor, most)? != run {
-            return Ok(false);
-        }
-    }
-    Ok(cursor.pass(5) == 5 && cursor.pass(5) == 1 && cursor.pass(5) == 0)
-}
-
-#[test]
-fn runs_have_64_ranges_or_as_many_blocks_as_asked(rt: HostRuntime) -> Result<(), Fail> {
-    let alloc = rt.alloc();
-    let job = job_of(alloc, spaced(alloc, 130, 3)?)?;
-    let mut cursor = ExtentCursor::new(job.from());
-    assert!(rt; are_next(alloc, &mut cursor)?);
     Ok(())
 }
 
@@ -288,18 +229,6 @@ fn a_job_is_refused_for_its_first_fault(rt: HostRuntime) -> Result<(), Fail> {
     assert!(rt; fault_of(alloc, 1, &[(0, 9), (8, 9)], &[])? == Some(JobFault::SharedBlock));
     assert!(rt; fault_of(alloc, 1, &[(0, 9)], &[(0, 8)])? == Some(JobFault::BadTotals));
     assert!(rt; fault_of(alloc, 1, &[(0, 9)], &[(0, 9)])?.is_none());
-    Ok(())
-}
-
-#[test]
-fn a_job_has_at_most_65536_extents_of_each_kind(rt: HostRuntime) -> Result<(), Fail> {
-    let alloc = rt.alloc();
-    let many = spaced(alloc, 65_537, 1)?;
-    let fault = Job::new(alloc, 0, 1, 1, many, ExtentList::empty(alloc)).err();
-    assert!(rt; fault == Some(JobFault::ManySources));
-    let many = spaced(alloc, 65_537, 1)?;
-    let fault = Job::new(alloc, 0, 1, 1, ExtentList::empty(alloc), many).err();
-    assert!(rt; fault == Some(JobFault::ManyTargets));
     Ok(())
 }
 

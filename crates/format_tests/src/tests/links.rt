@@ -1,11 +1,7 @@
-// Links and listeners in memory and over sockets, and clocks.
-ghost use Rattle.std.specs.Prelude.{◌≡◌, ◌+◌, [], length, All, IfOk, OnOk};
-ghost use Rattle.cm_base.specs.Memory.{IsFresh};
-
+// Links and listeners over sockets, and clocks.
 use cm_base::{
-    Bytes, CallList, Clock, InputBuffer, Link, LinkList, Listener, MemoryLink, MemoryListener,
-    MemorySink, MemorySource, ReadFailed, SetClock, Sink, Source, SystemClock, TcpConnections,
-    TcpLink, WriteFailed, push_all,
+    Clock, InputBuffer, Link, Listener, ReadFailed, SetClock, Sink, Source, SystemClock,
+    TcpConnections, TcpLink, WriteFailed, push_all,
 };
 use std::alloc::Global;
 use std::io::{Read, Write};
@@ -41,131 +37,6 @@ fn a_clock_shows_whole_seconds(rt: HostRuntime) -> Result<(), Fail> {
     let after = time::Clock::since_1970(&rt)?.as_secs();
     assert!(rt; before <= shown && shown <= after);
     assert_eq!(rt; SystemClock::new(Timeless).now(), 0);
-    Ok(())
-}
-
-/// A source of these bytes, which gives two at a time. Its second pull fails.
-fn source_of(alloc: Global, bytes: &[u8]) -> Result<MemorySource, Fail>
-    ensures { IfOk result (λ s. s.faults ≡ 0) }
-{
-    let failing = CallList::copy(alloc, &[2])?;
-    Ok(MemorySource::new(Bytes::copy(alloc, bytes)?, 2, failing))
-}
-
-/// A link that gives these bytes two at a time and takes three at a time. Its second pull and its
-/// third push fail.
-fn link_of(alloc: Global, bytes: &[u8]) -> Result<MemoryLink, Fail>
-    ensures { IfOk result IsFresh }
-{
-    let source = source_of(alloc, bytes)?;
-    let failing = CallList::copy(alloc, &[3])?;
-    Ok(MemoryLink::new(source, MemorySink::new(alloc, 3, failing)))
-}
-
-/// What is done with a link, and what comes of it.
-#[derive(Drop)]
-enum LinkStep {
-    /// A pull of four bytes ends so, and leaves these in the place of zeros.
-    Pull(Result<usize, ReadFailed>, [u8; 4]),
-    /// A push of these bytes ends so.
-    Push(&'static [u8], Result<(), WriteFailed>),
-}
-
-/// How a pull of four bytes ended, and what it left in the place of four zeros.
-fn pulled(link: &mut MemoryLink) -> (Result<usize, ReadFailed>, [u8; 4]) {
-    let mut bytes = [0; 4];
-    let end = link.pull(&mut bytes);
-    (end, bytes)
-}
-
-/// Whether a step goes as told.
-fn goes(link: &mut MemoryLink, step: &LinkStep) -> bool {
-    match step {
-        LinkStep::Pull(end, bytes) => pulled(link) == (*end, *bytes),
-        LinkStep::Push(bytes, end) => push_all(link, bytes) == *end,
-    }
-}
-
-/// Whether a link that gives these bytes goes through the steps as told, and has taken those then.
-fn is_linked(alloc: Global, given: &[u8], steps: &[LinkStep], taken: &[u8]) -> Result<bool, Fail> {
-    let mut link = link_of(alloc, given)?;
-    let mut told = true;
-    for step in steps {
-        told &= goes(&mut link, step);
-    }
-    Ok(told && link.taken() == taken)
-}
-
-#[test]
-fn a_link_has_two_sides(rt: HostRuntime) -> Result<(), Fail> {
-    let steps = [
-        LinkStep::Pull(Ok(2), *b"re\0\0"),
-        LinkStep::Push(b"write", Ok(())),
-        LinkStep::Pull(Err(ReadFailed), [0; 4]),
-        LinkStep::Push(b"again", Err(WriteFailed)),
-        LinkStep::Pull(Ok(2), *b"ad\0\0"),
-        LinkStep::Pull(Ok(0), [0; 4]),
-    ];
-    assert!(rt; is_linked(rt.alloc(), b"read", &steps, b"write")?);
-    Ok(())
-}
-
-/// Two links, on which nothing was done yet.
-fn two_links(alloc: Global) -> Result<LinkList, Fail>
-    ensures { IfOk result (λ links. All IsFresh links) }
-{
-    let mut links = LinkList::empty(alloc);
-    links.push(link_of(alloc, b"first")?)?;
-    links.push(link_of(alloc, b"second")?)?;
-    Ok(links)
-}
-
-/// A listener with two links, whose second accept fails.
-fn listener_of_two(alloc: Global) -> Result<MemoryListener, Fail>
-    ensures { IfOk result (λ l. l.gone ≡ []) }
-{
-    let failing = CallList::copy(alloc, &[2])?;
-    Ok(MemoryListener::new(alloc, two_links(alloc)?, failing)?)
-}
-
-/// Replies so on the next link, and gives it back.
-fn reply(listener: &mut MemoryListener, bytes: &[u8]) -> Result<(), Fail>
-    ensures { OnOk result (length listener.new.gone ≡ length listener.old.gone + 1) }
-{
-    let mut link = listener.accept()?;
-    push_all(&mut link, bytes)?;
-    listener.done(link);
-    Ok(())
-}
-
-/// Whether the next accept fails.
-fn fails(listener: &mut MemoryListener) -> bool
-    ensures { listener.new.gone ≡ listener.old.gone }
-{
-    listener.accept().is_err()
-}
-
-/// Replies so on two links, one after the other, behind each of which an accept fails.
-fn reply_twice(listener: &mut MemoryListener, first: &[u8], second: &[u8]) -> Result<bool, Fail>
-    ensures { OnOk result (length listener.new.gone ≡ length listener.old.gone + 2) }
-{
-    reply(listener, first)?;
-    let failed = fails(listener);
-    reply(listener, second)?;
-    Ok(failed && fails(listener))
-}
-
-/// Whether two links are handed out in order, around an accept that fails, and given back with
-/// these replies.
-fn are_given_back(alloc: Global, first: &[u8], second: &[u8]) -> Result<bool, Fail> {
-    let mut listener = listener_of_two(alloc)?;
-    let failed = reply_twice(&mut listener, first, second)?;
-    Ok(failed && listener.ended(0).taken() == first && listener.ended(1).taken() == second)
-}
-
-#[test]
-fn links_are_handed_out_and_given_back(rt: HostRuntime) -> Result<(), Fail> {
-    assert!(rt; are_given_back(rt.alloc(), b"one", b"two")?);
     Ok(())
 }
 
