@@ -2,8 +2,5 @@ mod blocks;
 mod lists;
 mod model;
 mod operations;
-mod quotas;
 mod ranges;
 mod table_steps;
-mod tokens;
-mod versions;

@@ -1,6 +1,5 @@
 // Lists of blocks, as the tests make them.
-ghost use Rattle.std.specs.Prelude.{◌≡◌, ◌*◌, ◌<◌, length, IfOk};
-ghost use Rattle.lba_ranges.specs.HeldBlocks.{IsFull};
+ghost use Rattle.std.specs.Prelude.{◌≡◌, ◌*◌, length, IfOk};
 
 use cm_base::{Bytes, Payload};
 use lba_ranges::{BlockList, Fill, Piece};
@@ -40,34 +39,6 @@ pub(super) fn add_hole(list: &mut BlockList, count: u32) -> Result<(), Fail>
         count,
         fill: Fill::Hole,
     })?;
-    Ok(())
-}
-
-/// Some blocks of one byte each, one piece.
-fn piece(alloc: Global, bytes: &'static [u8]) -> Result<Piece, Fail>
-    requires { length bytes.now < 100 }
-    ensures { IfOk result (λ piece. IsFull 1 piece.count piece.fill × (piece.count ≡ length bytes.now)) }
-{
-    let count = bytes.len() as u32;
-    let fill = Fill::Bytes(Payload::copy_from_slice(alloc, bytes)?);
-    Ok(Piece { count, fill })
-}
-
-/// Adds a piece of blocks of one byte each.
-pub(super) fn add_piece(
-    alloc: Global,
-    list: &mut BlockList,
-    bytes: &'static [u8],
-) -> Result<(), Fail>
-    requires size { list.old.block_length ≡ 1 }
-    requires few { length bytes.now < 100 }
-    ensures { list.new.block_length ≡ 1 }
-{
-    if list.blocks() > MOST {
-        return Err(too_long());
-    }
-    let piece = piece(alloc, bytes)?;
-    list.push(piece)?;
     Ok(())
 }
 

@@ -1,9 +1,8 @@
 // Ranges of blocks, and lists of blocks over shared payload.
-ghost use Rattle.std.specs.Prelude.{◌≡◌, ◌+◌, ◌≤◌, ◌^◌, ◌++◌, ◌∷◌, [], length, IsTrue, IfOk, OnOk, OnErr};
+ghost use Rattle.std.specs.Prelude.{◌≡◌, ◌^◌, IsTrue, IfOk};
 ghost use Rattle.lba_ranges.specs.Denoted.{total, is_within};
 
-use super::lists::{add_hole, add_piece, append, list_of, part, reads};
-use cm_base::OutOfMemory;
+use super::lists::{add_hole, append, list_of, part, reads};
 use lba_ranges::{BlockList, Range, RangeList};
 use std::alloc::Global;
 use std::test::Fail;
@@ -41,30 +40,6 @@ fn ranges(rt: HostRuntime) -> Result<(), Fail> {
     assert!(rt; are_five(two_ranges(alloc)?));
     assert!(rt; denotes(alloc, two_ranges(alloc)?, &[10, 11, 12, 20, 21])?);
     assert!(rt; denotes(alloc, two_ranges(alloc)?.slice(alloc, 2, 2)?, &[12, 20])?);
-    Ok(())
-}
-
-/// Adds both ranges, or none of them.
-fn add_both(list: &mut RangeList, first: Range, second: Range) -> Result<(), OutOfMemory>
-    requires { length list.old + 2 ≤ 64 }
-    ensures ok { OnOk result (list.new ≡ list.old ++ first ∷ second ∷ []) }
-    ensures err { OnErr result (list.new ≡ list.old) }
-{
-    let room = list.reserve(2)?;
-    room.append(first);
-    room.append(second);
-    Ok(())
-}
-
-/// A list of one range, and then two for which there was room.
-#[test]
-fn ranges_with_room(rt: HostRuntime) -> Result<(), Fail> {
-    let mut list = RangeList::empty(rt.alloc());
-    list.push(Range { lba: 0, count: 1 })?;
-    let first = Range { lba: 10, count: 3 };
-    add_both(&mut list, first, Range { lba: 20, count: 2 })?;
-    assert!(rt; list.len() == 3 && list.total() == 6);
-    assert!(rt; list.at(1).lba == 10 && list.at(2).lba == 20);
     Ok(())
 }
 
@@ -128,71 +103,5 @@ fn payload(rt: HostRuntime) -> Result<(), Fail> {
     let alloc = rt.alloc();
     assert!(rt; has_payload(alloc, &two_blocks(alloc)?, &[1, 2, 3, 4])?);
     assert!(rt; has_payload(alloc, &two_blocks_and_a_hole(alloc)?, &[1, 2, 3, 4, 0, 0])?);
-    Ok(())
-}
-
-/// Three blocks of one byte, two holes, a piece without blocks and two blocks.
-fn front(alloc: Global) -> Result<BlockList, Fail>
-    ensures { IfOk result (λ list. list.block_length ≡ 1) }
-{
-    let mut list = BlockList::empty(alloc, 1);
-    add_piece(alloc, &mut list, &[1, 2, 3])?;
-    add_hole(&mut list, 2)?;
-    add_piece(alloc, &mut list, &[])?;
-    add_piece(alloc, &mut list, &[6, 7])?;
-    Ok(list)
-}
-
-/// A hole and one block of one byte.
-fn back(alloc: Global) -> Result<BlockList, Fail>
-    ensures { IfOk result (λ list. list.block_length ≡ 1) }
-{
-    let mut list = BlockList::empty(alloc, 1);
-    add_hole(&mut list, 1)?;
-    add_piece(alloc, &mut list, &[9])?;
-    Ok(list)
-}
-
-/// The front, and the back behind it: nine blocks.
-fn pieces(alloc: Global) -> Result<BlockList, Fail> {
-    let mut list = front(alloc)?;
-    append(&mut list, back(alloc)?)?;
-    Ok(list)
-}
-
-fn holds(list: &BlockList, index: u64, byte: u8) -> bool {
-    matches!(list.held(index), Some(bytes) if bytes == [byte].as_slice())
-}
-
-fn is_hole(list: &BlockList, index: u64) -> bool {
-    list.held(index).is_none()
-}
-
-#[test]
-fn blocks_at_the_borders_of_pieces(rt: HostRuntime) -> Result<(), Fail> {
-    let list = pieces(rt.alloc())?;
-    assert!(rt; holds(&list, 0, 1) && holds(&list, 2, 3) && is_hole(&list, 3) && is_hole(&list, 4));
-    assert!(rt; holds(&list, 5, 6) && holds(&list, 6, 7) && is_hole(&list, 7));
-    assert!(rt; holds(&list, 8, 9) && is_hole(&list, 9));
-    assert!(rt; list.blocks() == 9 && list.mapped() == 6 && !list.is_mapped());
-    Ok(())
-}
-
-/// Whether the blocks of a part hold these bytes, one each, and 0 where one is unmapped.
-fn part_holds(alloc: Global, list: &BlockList, from: u64, bytes: &[u8]) -> Result<bool, Fail> {
-    let part = part(alloc, list, from, bytes.len() as u64)?;
-    reads(alloc, &part, bytes)
-}
-
-#[test]
-fn parts_across_the_borders_of_pieces(rt: HostRuntime) -> Result<(), Fail> {
-    let alloc = rt.alloc();
-    let list = pieces(alloc)?;
-    assert!(rt; part_holds(alloc, &list, 0, &[1, 2, 3, 0, 0, 6, 7, 0, 9])?);
-    assert!(rt; part_holds(alloc, &list, 1, &[2, 3, 0])?);
-    assert!(rt; part_holds(alloc, &list, 4, &[0, 6])?);
-    assert!(rt; part_holds(alloc, &list, 6, &[7, 0, 9])?);
-    assert!(rt; part_holds(alloc, &list, 8, &[9])?);
-    assert!(rt; part_holds(alloc, &list, 5, &[])?);
     Ok(())
 }

@@ -4,14 +4,14 @@ ghost use Rattle.std.specs.Prelude.{◌≡◌, length, IfOk};
 use super::*;
 use cm_history::{
     Actor, Entry, History, count_law, fold_law, kind_law, locality_law, refused_law,
-    reservation_law, reserve, standing_law, token_law, write_law,
+    reservation_law, standing_law, token_law, write_law,
 };
 
 /// A Read that initiator 1 asks of unit 0, and nothing else.
-fn one_read(rt: &HostRuntime) -> Result<History, Fail>
+fn one_read(alloc: Global) -> Result<History, Fail>
     ensures { IfOk result (λ history. length history.entries ≡ 1) }
 {
-    let mut history = History::empty(rt.alloc());
+    let mut history = History::empty(alloc);
     history.reserve(1)?;
     history.append(Entry {
         stamp: 0,
@@ -48,8 +48,8 @@ fn laws_of_one_history(config: &Config, history: &History) {
 /// The laws hold of histories that there are, also of one that is not legal: its two entries have one stamp.
 #[test]
 fn laws_can_be_called(rt: HostRuntime) -> Result<(), Fail> {
-    let config = one_unit(&rt)?;
-    let history = two_reads(&rt)?;
+    let config = one_unit(rt.alloc())?;
+    let history = two_reads(rt.alloc())?;
     laws_of_a_unit(&config, &history, 0);
     laws_of_the_first_entry(&config, &history);
     laws_of_one_history(&config, &history);
@@ -58,43 +58,12 @@ fn laws_can_be_called(rt: HostRuntime) -> Result<(), Fail> {
 }
 
 /// A history of two Reads, whose second one has number 1.
-fn two_reads(rt: &HostRuntime) -> Result<History, Fail>
+fn two_reads(alloc: Global) -> Result<History, Fail>
     ensures { IfOk result (λ history. length history.entries ≡ 2) }
 {
-    let mut history = one_read(rt)?;
-    let mut next = history.at(0).copy(rt.alloc())?;
+    let mut history = one_read(alloc)?;
+    let mut next = history.at(0).copy(alloc)?;
     next.seq = 1;
     history.push(next)?;
     Ok(history)
-}
-
-/// The entry is there, and has this number.
-fn has_number(entry: Option<&Entry>, number: u64) -> bool {
-    matches!(entry, Some(entry) if entry.seq == number)
-}
-
-#[test]
-fn a_history_grows_at_its_end(rt: HostRuntime) -> Result<(), Fail> {
-    let mut history = two_reads(&rt)?;
-    let last = history.pop();
-    assert!(rt; has_number(last.as_ref(), 1));
-    assert!(rt; history.len() == 1);
-    assert!(rt; history.at(0).seq == 0 && history.spare() == 0);
-    Ok(())
-}
-
-/// Two Reads with room for two more, of which the first is dropped.
-fn second_read(rt: &HostRuntime) -> Result<History, Fail> {
-    let mut history = two_reads(rt)?;
-    history.reserve(2)?;
-    history.drop_first(1);
-    Ok(history)
-}
-
-/// The other entries stay, and so does the room behind them.
-#[test]
-fn the_first_entries_are_dropped(rt: HostRuntime) -> Result<(), Fail> {
-    let history = second_read(&rt)?;
-    assert!(rt; history.len() == 1 && history.at(0).seq == 1 && history.spare() == 2);
-    Ok(())
 }
