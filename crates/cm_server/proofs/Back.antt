@@ -1,5 +1,5 @@
 -- Recorders come back
-use Rattle.std.proofs.Common.{◌≡◌, ◌≤◌, ℕ, zero, suc, ◌+◌, List, [], ◌∷◌, ◌++◌, length, refl, ap, sym, ◌∙◌, subst, arith}
+use Rattle.std.proofs.Common.{◌≡◌, ◌≤◌, ℕ, zero, suc, List, [], ◌∷◌, ◌++◌, length, refl, ap, sym, ◌∙◌, subst, arith}
 use Rattle.std.specs.Prelude.{Option, Some, IfSome, drop, map, take, slice_get, slice_set}
 use Rattle.std.proofs.lemmas.List.{drop_at, length-map}
 use Rattle.cm_base.specs.Configuration.{Configuration}

@@ -1,22 +1,22 @@
 -- The history of a world that was served and closed
 use Rattle.std.proofs.Common.{◌≡◌, ◌≢◌, ◌≤◌, ℕ, suc, List, [], ◌∷◌, ◌++◌, length, take, refl, ap, sym, ◌∙◌, subst, arith, inl, inr}
-use Rattle.std.specs.Prelude.{◌⊎◌, ◌==◌, Contains, map}
+use Rattle.std.specs.Prelude.{◌⊎◌, ◌==◌, map}
 use Rattle.std.proofs.lemmas.Bool.{eqb-true}
 use Rattle.std.proofs.lemmas.List.{take_at}
 use mathlib.Core.List.{IsPrefix}
 use Rattle.cm_history.specs.History.{on}
 use Rattle.cm_history.specs.declared.act.Actor.{Actor}
-use Rattle.cm_history.specs.declared.act.Actor.TheVariants.{Nexus}
+use Rattle.cm_history.specs.declared.act.Actor.TheVariants.{Nexus, Pump}
 use Rattle.cm_history.specs.declared.act.Entry.{Entry}
 use Rattle.cm_history.proofs.PublicLaws.{Each, Each-by, Each-in, In, filter-passes}
+use Rattle.cm_server.specs.inner.Links.{LinkState}
 use Rattle.cm_server.specs.inner.Opened.{IsOlder}
 use Rattle.cm_server.specs.inner.Passes.{Knows, HasJoined, joined_of}
 use Rattle.cm_server.specs.inner.Pumping.{IsSomePump, AreLast}
-use Rattle.cm_server.specs.inner.Serving.{AreSpare}
 use Rattle.cm_server.specs.inner.Sessions.{EndedSession, AreSessions}
 use Rattle.cm_server.proofs.Joined.{joined-then, own-in}
 use Rattle.cm_server.proofs.Passing.{prefix-in, prefix-then}
-use Rattle.merged_history.proofs.PublicLaws.{In-split, in-contains}
+use Rattle.merged_history.proofs.PublicLaws.{In-split}
 use Rattle.merged_history.specs.Merged.{IsSorted, RiseBehind, all_of, fronts, merged}
 use Rattle.merged_history.specs.Own.{by}
 use Rattle.merged_history.specs.PassRules.{AreLonger}
@@ -55,24 +55,28 @@ abbrev pub IsBelow : List (List ℕ) → PassView → Type 0
 IsBelow high p = AreAtMost p.marks high
 
 -- all passes that were joined
-abbrev pub all_passes : List PassView → List EndedSession → List PassView → List PassView → List PassView
-all_passes spare sessions workers lasts = ((spare ++ passes_of sessions) ++ workers) ++ lasts
+abbrev pub all_passes : List EndedSession → List PassView → List PassView → List PassView
+all_passes sessions workers lasts = (passes_of sessions ++ workers) ++ lasts
+
+-- the actor is a pump, or the nexus of one of the sessions
+abbrev pub IsOfSession : List EndedSession → Actor → Type 0
+IsOfSession sessions (Pump unit) = Unit {0}
+IsOfSession sessions (Nexus n) = (s : EndedSession) × In s sessions × (s.start.nexus ≡ n)
 
 -- one history of all units, and the passes that made it behind what the units had at the opening
-pub record IsClosedWorld (world : WorldView) (root : RootView) (Shows : ℕ → Type 0) (first : ℕ) (opening seen : List (List Entry)) (entries : List Entry) (high : List (List ℕ))
-    (spare : List PassView) (sessions : List EndedSession) (workers lasts : List PassView) : Type 0 where
-  pub are : AreSessions world root Shows first sessions
-  pub spare_are : AreSpare spare
+pub record IsClosedWorld (world : WorldView) (root : RootView) (Shows : ℕ → Type 0) (first : ℕ) (links : List LinkState) (opening seen : List (List Entry)) (entries : List Entry) (high : List (List ℕ))
+    (sessions : List EndedSession) (workers lasts : List PassView) : Type 0 where
+  pub are : AreSessions world root Shows first links sessions
   pub workers_are : Each (IsSomePump world Shows) workers
   pub lasts_are : AreLast world Shows seen 0 lasts
   pub each_unit : length lasts ≡ length world.config.units
-  pub earlier : Each (λ (p : PassView). AreLonger p.seen seen) ((spare ++ passes_of sessions) ++ workers)
-  pub seen_in : Each (SeesIn entries) (all_passes spare sessions workers lasts)
-  pub below : Each (IsBelow high) (all_passes spare sessions workers lasts)
+  pub earlier : Each (λ (p : PassView). AreLonger p.seen seen) (passes_of sessions ++ workers)
+  pub seen_in : Each (SeesIn entries) (all_passes sessions workers lasts)
+  pub below : Each (IsBelow high) (all_passes sessions workers lasts)
   pub begins : AreLonger opening seen
   pub opening_in : (u : ℕ) → IsPrefix (of_unit opening u) (on u entries)
-  pub made : Each (λ (e : Entry). In e (all_of opening) ⊎ In e (own_of e.actor (map joined_of (all_passes spare sessions workers lasts)))) entries
-  pub actors : (n : ℕ) → first ≤ n → by (Nexus n) entries ≡ own_of (Nexus n) (map joined_of (all_passes spare sessions workers lasts))
+  pub made : Each (λ (e : Entry). In e (all_of opening) ⊎ In e (own_of e.actor (map joined_of (all_passes sessions workers lasts)))) entries
+  pub actors : (n : ℕ) → first ≤ n → by (Nexus n) entries ≡ own_of (Nexus n) (map joined_of (all_passes sessions workers lasts))
   pub ordered : IsOrdered world.config entries
   pub sorted : IsSorted entries
   pub apart : RiseBehind (all_of opening) entries
@@ -91,16 +95,16 @@ new-to : (first n : ℕ) (es : List Entry) → first ≤ n → Each (IsOlder fir
 new-to first n es low older = Each-by (λ (e : Entry). e.actor ≢ Nexus n) es (λ e i is. (let less = Each-in (IsOlder first) es e older i n is in absurd (omega (arith, low, less))))
 
 -- what was served and settled, and then closed
-pub closes : (world : WorldView) (Shows : ℕ → Type 0) (first made : ℕ) (zero one two : RootView) (histories : List (List Entry)) (high : List (List ℕ))
-    (spare : List PassView) (sessions : List EndedSession) (workers lasts : List PassView)
-    → AreSessions world zero Shows first sessions → AreSpare spare → Each (IsSomePump world Shows) workers
+pub closes : (world : WorldView) (Shows : ℕ → Type 0) (first : ℕ) (links : List LinkState) (made : ℕ) (zero one two : RootView) (histories : List (List Entry)) (high : List (List ℕ))
+    (sessions : List EndedSession) (workers lasts : List PassView)
+    → AreSessions world zero Shows first links sessions → Each (IsSomePump world Shows) workers
     → AreLast world Shows one.seen 0 lasts → length lasts ≡ length world.config.units
-    → HasJoined zero one made ((spare ++ passes_of sessions) ++ workers) → HasJoined one two (length lasts) lasts → zero.joined ≡ [] → two.config ≡ world.config
+    → HasJoined zero one made (passes_of sessions ++ workers) → HasJoined one two (length lasts) lasts → zero.joined ≡ [] → two.config ≡ world.config
     → zero.openings ≡ map (λ (es : List Entry). length es) zero.seen → length zero.seen ≡ length histories → Each (IsOlder first) (all_of zero.seen)
     → AreLonger two.seen histories → IsResumed two.config two.openings histories two.joined → AreAtMost two.marks high
-    → IsClosedWorld world zero Shows first zero.seen one.seen (merged histories) high spare sessions workers lasts
-closes world Shows first made zero one two histories high spare sessions workers lasts are spares works last units served settled none config opens long older longer resumed marks =
-    let front = (spare ++ passes_of sessions) ++ workers in
+    → IsClosedWorld world zero Shows first links zero.seen one.seen (merged histories) high sessions workers lasts
+closes world Shows first links made zero one two histories high sessions workers lasts are works last units served settled none config opens long older longer resumed marks =
+    let front = passes_of sessions ++ workers in
     let all = front ++ lasts in
     let both = joined-then zero one two made (length lasts) front lasts served settled in
     let joined : two.joined ≡ map joined_of all = both.joined ∙ ap (λ l. l ++ map joined_of all) none in
@@ -108,7 +112,6 @@ closes world Shows first made zero one two histories high spare sessions workers
     let first-ones : fronts two.openings histories ≡ zero.seen = ap (λ ns. fronts ns histories) (both.openings ∙ opens) ∙ fronts-are zero.seen histories long begins in
     record {
       are = are;
-      spare_are = spares;
       workers_are = works;
       lasts_are = last;
       each_unit = units;
@@ -127,11 +130,11 @@ closes world Shows first made zero one two histories high spare sessions workers
       apart = subst (λ os. RiseBehind (all_of os) (merged histories)) first-ones resumed.apart;
     }
 
-module _ (world : WorldView) (root : RootView) (Shows : ℕ → Type 0) (first : ℕ) (opening seen : List (List Entry)) (entries : List Entry) (high : List (List ℕ))
-    (spare : List PassView) (sessions : List EndedSession) (workers lasts : List PassView)
-    (is : IsClosedWorld world root Shows first opening seen entries high spare sessions workers lasts) where
+module _ (world : WorldView) (root : RootView) (Shows : ℕ → Type 0) (first : ℕ) (links : List LinkState) (opening seen : List (List Entry)) (entries : List Entry) (high : List (List ℕ))
+    (sessions : List EndedSession) (workers lasts : List PassView)
+    (is : IsClosedWorld world root Shows first links opening seen entries high sessions workers lasts) where
   abbrev all : List PassView
-  all = all_passes spare sessions workers lasts
+  all = all_passes sessions workers lasts
 
   -- the pass that made an entry
   abbrev pub IsMaker : Entry → PassView → Type 0
@@ -155,22 +158,17 @@ module _ (world : WorldView) (root : RootView) (Shows : ℕ → Type 0) (first :
 
   -- where a pass stands in the list
   pub data Place (p : PassView) : Type 0 where
-    AtSpare : In p spare → Place p
     AtSession : In p (passes_of sessions) → Place p
     AtWorker : In p workers → Place p
     AtLast : In p lasts → Place p
 
   pub place-of : (p : PassView) → In p all → Place p
-  place-of p i = behind (In-split ((spare ++ passes_of sessions) ++ workers) lasts p i)
+  place-of p i = behind (In-split (passes_of sessions ++ workers) lasts p i)
     where
-      front : In p spare ⊎ In p (passes_of sessions) → Place p
-      front (inl j) = AtSpare j
-      front (inr j) = AtSession j
+      front : In p (passes_of sessions) ⊎ In p workers → Place p
+      front (inl j) = AtSession j
+      front (inr j) = AtWorker j
 
-      middle : In p (spare ++ passes_of sessions) ⊎ In p workers → Place p
-      middle (inl j) = front (In-split spare (passes_of sessions) p j)
-      middle (inr j) = AtWorker j
-
-      behind : In p ((spare ++ passes_of sessions) ++ workers) ⊎ In p lasts → Place p
-      behind (inl j) = middle (In-split (spare ++ passes_of sessions) workers p j)
+      behind : In p (passes_of sessions ++ workers) ⊎ In p lasts → Place p
+      behind (inl j) = front (In-split (passes_of sessions) workers p j)
       behind (inr j) = AtLast j

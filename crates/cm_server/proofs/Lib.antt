@@ -8,6 +8,8 @@ pub mod Passing
 pub mod Room
 pub mod Trailing
 pub mod Joined
+pub mod Times
+pub mod Out
 pub mod Coming
 pub mod Begins
 pub mod Ends

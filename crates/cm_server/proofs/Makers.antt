@@ -14,9 +14,10 @@ use Rattle.cm_history.proofs.PublicLaws.{Each, Each-all, Each-by, Each-in, In, I
 use Rattle.cmd_program.specs.Exchanges.{calls_of}
 use Rattle.cmd_program.specs.Running.{Call}
 use Rattle.cm_server.specs.Served.{works_behind, IsIdle}
+use Rattle.cm_server.specs.inner.Links.{LinkState}
 use Rattle.cm_server.specs.inner.Pumping.{IsSomePump, IsLast, AreLast}
 use Rattle.cm_server.specs.inner.Sessions.{EndedSession, IsStart, IsSession, AreSessions}
-use Rattle.cm_server.proofs.Closed.{IsClosedWorld, IsMaker, SeesIn, Place, AtSpare, AtSession, AtWorker, AtLast, all_passes, maker, opening-on, passes_of, place-of}
+use Rattle.cm_server.proofs.Closed.{IsClosedWorld, IsMaker, SeesIn, Place, IsOfSession, AtSession, AtWorker, AtLast, all_passes, maker, opening-on, passes_of, place-of}
 use Rattle.cm_server.proofs.Passing.{prefix-in, led-ticket, led-stands, led-shown}
 use Rattle.merged_history.proofs.PublicLaws.{In-append, in-contains}
 use Rattle.merged_history.specs.Merged.{all_of}
@@ -64,51 +65,39 @@ whole-front xs (x ∷ more) ys is order all =
 -- ---- sessions by their passes
 
 module _ (world : WorldView) (root : RootView) (Shows : ℕ → Type 0) where
-  -- a session, by its pass and its nexus
-  pub record IsSessionOf (n count : ℕ) (p : PassView) : Type 0 where
-    pub nexus : ℕ
+  -- a session, by its pass
+  pub record IsSessionOf (ss : List EndedSession) (p : PassView) : Type 0 where
     pub session : EndedSession
-    pub low : n ≤ nexus
-    pub high : nexus < n + count
+    pub among : In session ss
     pub pass : session.pass ≡ p
-    pub start : IsStart world root nexus session.start
-    pub fact : IsSession world.config Shows nexus session
 
-  pub session-of : (n : ℕ) (ss : List EndedSession) (p : PassView) → AreSessions world root Shows n ss → In p (passes_of ss) → IsSessionOf n (length ss) p
-  session-of n [] p are i = absurd i
-  session-of n (s ∷ ss) p are (inl here) = record {
-    nexus = n;
-    session = s;
-    low = omega arith;
-    high = omega arith;
-    pass = here;
-    start = are.0;
-    fact = are.1;
-  }
-  session-of n (s ∷ ss) p are (inr i) =
-      let later = session-of (suc n) ss p are.2 i in
-      let a = later.low in
-      let b = later.high in
-      record {
-        nexus = later.nexus;
-        session = later.session;
-        low = omega (arith, a);
-        high = omega (arith, b);
-        pass = later.pass;
-        start = later.start;
-        fact = later.fact;
-      }
+  pub session-of : (ss : List EndedSession) (p : PassView) → In p (passes_of ss) → IsSessionOf ss p
+  session-of [] p i = absurd i
+  session-of (s ∷ ss) p (inl here) = record { session = s; among = inl refl; pass = here }
+  session-of (s ∷ ss) p (inr i) = let later = session-of ss p i in record { session = later.session; among = inr later.among; pass = later.pass }
 
-  pub session-actor : (n : ℕ) (s : EndedSession) → IsStart world root n s.start → IsSession world.config Shows n s → s.pass.ticket.actor ≡ Nexus n
-  session-actor n s start fact =
+  -- how it was begun, and its fact
+  pub start-of : (first : ℕ) (links : List LinkState) (ss : List EndedSession) (s : EndedSession) → AreSessions world root Shows first links ss → In s ss
+      → IsStart world root first links s.start
+  start-of first links ss s are i = Each-in (λ (x : EndedSession). IsStart world root first links x.start) ss s are.begun i
+
+  pub fact-of : (first : ℕ) (links : List LinkState) (ss : List EndedSession) (s : EndedSession) → AreSessions world root Shows first links ss → In s ss
+      → IsSession world.config Shows s
+  fact-of first links ss s are i = Each-in (IsSession world.config Shows) ss s are.facts i
+
+  pub session-actor : (first : ℕ) (links : List LinkState) (s : EndedSession) → IsStart world root first links s.start → IsSession world.config Shows s
+      → s.pass.ticket.actor ≡ Nexus s.start.nexus
+  session-actor first links s start fact =
       ap (λ (t : Ticket). t.actor) (led-ticket s.start.pass (calls_of fact.spoken.exchanges) s.pass fact.spoken.made) ∙ start.pass.is
 
-  pub session-stands : (n : ℕ) (s : EndedSession) → IsStart world root n s.start → IsSession world.config Shows n s → AreSeen s.pass.seen s.pass.own
-  session-stands n s start fact =
+  pub session-stands : (first : ℕ) (links : List LinkState) (s : EndedSession) → IsStart world root first links s.start → IsSession world.config Shows s
+      → AreSeen s.pass.seen s.pass.own
+  session-stands first links s start fact =
       led-stands s.start.pass (calls_of fact.spoken.exchanges) s.pass fact.spoken.made (subst (AreSeen s.start.pass.seen) (sym start.pass.none) tt)
 
-  pub session-shown : (n : ℕ) (s : EndedSession) → IsStart world root n s.start → IsSession world.config Shows n s → Each (λ (e : Entry). Shows e.moment) s.pass.own
-  session-shown n s start fact =
+  pub session-shown : (first : ℕ) (links : List LinkState) (s : EndedSession) → IsStart world root first links s.start → IsSession world.config Shows s
+      → Each (λ (e : Entry). Shows e.moment) s.pass.own
+  session-shown first links s start fact =
       led-shown Shows s.start.pass (calls_of fact.spoken.exchanges) s.pass
       (recursion_from_All (λ (c : Call). Shows c.moment) (calls_of fact.spoken.exchanges) fact.spoken.shown) fact.spoken.made
       (subst (Each (λ (e : Entry). Shows e.moment)) (sym start.pass.none) tt)
@@ -151,29 +140,30 @@ module _ (world : WorldView) (Shows : ℕ → Type 0) (seen : List (List Entry))
 
 -- ---- all entries
 
-module _ (world : WorldView) (root : RootView) (Shows : ℕ → Type 0) (first : ℕ) (opening seen : List (List Entry)) (entries : List Entry) (high : List (List ℕ))
-    (spare : List PassView) (sessions : List EndedSession) (workers lasts : List PassView)
-    (is : IsClosedWorld world root Shows first opening seen entries high spare sessions workers lasts) where
+module _ (world : WorldView) (root : RootView) (Shows : ℕ → Type 0) (first : ℕ) (links : List LinkState) (opening seen : List (List Entry)) (entries : List Entry) (high : List (List ℕ))
+    (sessions : List EndedSession) (workers lasts : List PassView)
+    (is : IsClosedWorld world root Shows first links opening seen entries high sessions workers lasts) where
   abbrev Stood : PassView → Type 0
-  Stood p = Place world root Shows first opening seen entries high spare sessions workers lasts is p
+  Stood p = Place world root Shows first links opening seen entries high sessions workers lasts is p
 
   -- each pass has the moments of its entries from the clock
   shown-at : (p : PassView) → Stood p → Each (λ (e : Entry). Shows e.moment) p.own
-  shown-at p (AtSpare i) = subst (Each (λ (e : Entry). Shows e.moment)) (sym (Each-in (λ (x : PassView). x.own ≡ []) spare p is.spare_are i)) tt
   shown-at p (AtSession i) =
-      let s = session-of world root Shows first sessions p is.are i in
-      subst (λ (x : PassView). Each (λ (e : Entry). Shows e.moment) x.own) s.pass (session-shown world root Shows s.nexus s.session s.start s.fact)
+      let s = session-of world root Shows sessions p i in
+      subst (λ (x : PassView). Each (λ (e : Entry). Shows e.moment) x.own) s.pass
+      (session-shown world root Shows first links s.session (start-of world root Shows first links sessions s.session is.are s.among)
+      (fact-of world root Shows first links sessions s.session is.are s.among))
   shown-at p (AtWorker i) = (Each-in (IsSomePump world Shows) workers p is.workers_are i).1.shown
   shown-at p (AtLast i) = (last-of world Shows seen 0 lasts p is.lasts_are i).2.pump.shown
 
-  placed : (p : PassView) → In p (all_passes spare sessions workers lasts) → Stood p
-  placed p i = place-of world root Shows first opening seen entries high spare sessions workers lasts is p i
+  placed : (p : PassView) → In p (all_passes sessions workers lasts) → Stood p
+  placed p i = place-of world root Shows first links opening seen entries high sessions workers lasts is p i
 
   abbrev Made : Entry → PassView → Type 0
-  Made e p = IsMaker world root Shows first opening seen entries high spare sessions workers lasts is e p
+  Made e p = IsMaker world root Shows first links opening seen entries high sessions workers lasts is e p
 
   made-by : (e : Entry) → In e entries → In e (all_of opening) ⊎ ((p : PassView) × Made e p)
-  made-by e i = maker world root Shows first opening seen entries high spare sessions workers lasts is e i
+  made-by e i = maker world root Shows first links opening seen entries high sessions workers lasts is e i
 
   -- what is so of each entry that a pass made
   each-made : (P : Entry → Type 0) → ((e : Entry) (p : PassView) → Made e p → P e) → Each (λ (e : Entry). Contains (all_of opening) e ⊎ P e) entries
@@ -189,21 +179,20 @@ module _ (world : WorldView) (root : RootView) (Shows : ℕ → Type 0) (first :
       Each-all (λ (e : Entry). Contains (all_of opening) e ⊎ Shows e.moment) entries
       (each-made (λ e. Shows e.moment) (λ e p m. Each-in (λ (x : Entry). Shows x.moment) p.own e (shown-at p (placed p m.0)) m.2))
 
-  -- a pump, or the nexus of a session
-  abbrev pub IsOfServed : Actor → Type 0
-  IsOfServed (Pump unit) = Unit {0}
-  IsOfServed (Nexus n) = (first ≤ n) × (n < first + length sessions)
+  abbrev IsOfServed : Actor → Type 0
+  IsOfServed actor = IsOfSession sessions actor
 
   of-served : (p : PassView) → Stood p → (e : Entry) → In e p.own → IsOfServed p.ticket.actor
-  of-served p (AtSpare i) e j = absurd (subst (In e) (Each-in (λ (x : PassView). x.own ≡ []) spare p is.spare_are i) j)
   of-served p (AtSession i) e j =
-      let s = session-of world root Shows first sessions p is.are i in
-      subst IsOfServed (sym (session-actor world root Shows s.nexus s.session s.start s.fact) ∙ ap (λ (x : PassView). x.ticket.actor) s.pass) (s.low, s.high)
+      let s = session-of world root Shows sessions p i in
+      let actor = session-actor world root Shows first links s.session (start-of world root Shows first links sessions s.session is.are s.among)
+      (fact-of world root Shows first links sessions s.session is.are s.among) in
+      subst IsOfServed (sym actor ∙ ap (λ (x : PassView). x.ticket.actor) s.pass) (s.session, s.among, refl)
   of-served p (AtWorker i) e j = subst IsOfServed (sym (Each-in (IsSomePump world Shows) workers p is.workers_are i).1.actor) tt
   of-served p (AtLast i) e j = subst IsOfServed (sym (last-of world Shows seen 0 lasts p is.lasts_are i).2.pump.actor) tt
 
   -- each entry was there at the opening, or is a pump's or a session's
-  pub all-served : Each (λ (e : Entry). Contains (all_of opening) e ⊎ IsOfServed e.actor) entries
+  pub all-served : Each (λ (e : Entry). Contains (all_of opening) e ⊎ IsOfSession sessions e.actor) entries
   all-served = each-made (λ e. IsOfServed e.actor) (λ e p m. subst IsOfServed m.1 (of-served p (placed p m.0) e m.2))
 
   -- ---- each unit is idle
@@ -214,19 +203,20 @@ module _ (world : WorldView) (root : RootView) (Shows : ℕ → Type 0) (first :
       let was : In e (of_unit q.seen unit) = subst (λ u. In e (of_unit q.seen u)) here (Each-in (λ (x : Entry). In x (of_unit q.seen x.unit)) q.own e stands i) in
       prefix-in (of_unit seen unit) (of_unit p.seen unit) e (last.longer unit) (prefix-in (of_unit q.seen unit) (of_unit seen unit) e (longer unit) was)
 
-  front-longer : (q : PassView) → In q ((spare ++ passes_of sessions) ++ workers) → AreLonger q.seen seen
-  front-longer q i = Each-in (λ (x : PassView). AreLonger x.seen seen) ((spare ++ passes_of sessions) ++ workers) q is.earlier i
+  front-longer : (q : PassView) → In q (passes_of sessions ++ workers) → AreLonger q.seen seen
+  front-longer q i = Each-in (λ (x : PassView). AreLonger x.seen seen) (passes_of sessions ++ workers) q is.earlier i
 
   last-has : (unit : ℕ) (p q : PassView) (e : Entry) → In p lasts → IsLast world Shows seen unit p → Stood q → In e q.own → e.unit ≡ unit → In e (of_unit p.seen unit)
-  last-has unit p q e at last (AtSpare j) i here = absurd (subst (In e) (Each-in (λ (x : PassView). x.own ≡ []) spare q is.spare_are j) i)
   last-has unit p q e at last (AtSession j) i here =
-      let s = session-of world root Shows first sessions q is.are j in
-      let stands = subst (λ (x : PassView). AreSeen x.seen x.own) s.pass (session-stands world root Shows s.nexus s.session s.start s.fact) in
-      let there = In-append (spare ++ passes_of sessions) workers q (In-append_right spare (passes_of sessions) q j) in
+      let s = session-of world root Shows sessions q j in
+      let stands = subst (λ (x : PassView). AreSeen x.seen x.own) s.pass
+      (session-stands world root Shows first links s.session (start-of world root Shows first links sessions s.session is.are s.among)
+      (fact-of world root Shows first links sessions s.session is.are s.among)) in
+      let there = In-append (passes_of sessions) workers q j in
       stood-in unit p q e last (front-longer q there) stands i here
   last-has unit p q e at last (AtWorker j) i here =
       let w = Each-in (IsSomePump world Shows) workers q is.workers_are j in
-      stood-in unit p q e last (front-longer q (In-append_right (spare ++ passes_of sessions) workers q j)) w.1.stands i here
+      stood-in unit p q e last (front-longer q (In-append_right (passes_of sessions) workers q j)) w.1.stands i here
   last-has unit p q e at last (AtLast j) i here =
       let l = last-of world Shows seen 0 lasts q is.lasts_are j in
       let one : l.0 ≡ unit = sym (Each-in (λ (x : Entry). x.unit ≡ l.0) q.own e l.2.pump.on_unit i) ∙ here in
@@ -237,14 +227,14 @@ module _ (world : WorldView) (root : RootView) (Shows : ℕ → Type 0) (first :
   -- so did what was there at the opening
   opening-in : (unit : ℕ) (p : PassView) (e : Entry) → IsLast world Shows seen unit p → In e (all_of opening) → e.unit ≡ unit → In e (of_unit p.seen unit)
   opening-in unit p e last i here =
-      let was = subst (λ u. In e (of_unit opening u)) here (opening-on world root Shows first opening seen entries high spare sessions workers lasts is e i) in
+      let was = subst (λ u. In e (of_unit opening u)) here (opening-on world root Shows first links opening seen entries high sessions workers lasts is e i) in
       prefix-in (of_unit seen unit) (of_unit p.seen unit) e (last.longer unit) (prefix-in (of_unit opening unit) (of_unit seen unit) e (is.begins unit) was)
 
   -- no entry of a unit came behind what its last pass has seen
   pub last-sees : (unit : ℕ) (p : PassView) → In p lasts → IsLast world Shows seen unit p → of_unit p.seen unit ≡ on unit entries
   last-sees unit p at last =
       let begins : IsPrefix (of_unit p.seen unit) (on unit entries) =
-      Each-in (SeesIn entries) (all_passes spare sessions workers lasts) p is.seen_in (In-append_right ((spare ++ passes_of sessions) ++ workers) lasts p at) unit in
+      Each-in (SeesIn entries) (all_passes sessions workers lasts) p is.seen_in (In-append_right (passes_of sessions ++ workers) lasts p at) unit in
       whole-front (of_unit p.seen unit) begins.0 (on unit entries) begins.1 (AllPairs-filter InOrder (λ (e : Entry). e.unit == unit) entries is.ordered.rising)
       (Each-by (λ (e : Entry). In e (of_unit p.seen unit)) (on unit entries)
       (λ e i. (let there = In-filter (λ (x : Entry). x.unit == unit) entries e i in

@@ -1,5 +1,5 @@
 -- A root moves on, whether memory is wanted or not
-use Rattle.std.proofs.Common.{◌≡◌, ℕ, ◌+◌, List, [], ◌∷◌, length, refl, ap, sym, ◌∙◌, subst, arith}
+use Rattle.std.proofs.Common.{◌≡◌, ℕ, List, [], ◌∷◌, length, refl, ap, sym, ◌∙◌, subst, arith}
 use Rattle.cm_history.specs.declared.act.Actor.{Actor}
 use Rattle.cm_server.specs.inner.Passes.{HasJoined, HasMoved, IsReady}
 use Rattle.cm_server.specs.inner.Working.{HaveStarted, HaveStopped}

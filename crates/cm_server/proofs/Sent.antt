@@ -11,6 +11,8 @@ use Rattle.std.proofs.alloc.Global.TheSendSync as heap
 use Rattle.cm_base.proofs.config.Config.TheSendSync as config
 use Rattle.cm_base.specs.declared.clock.Clock as clock
 use Rattle.cm_server.proofs.pumps.bell.Bell.TheSendSync as bell
+use Rattle.cm_server.proofs.sessions.board.Board.TheSendSync as board
+use Rattle.cm_server.proofs.term.Term.TheSendSync as term
 use Rattle.cm_server.specs.contracts.sessions.beginning.Ended as Ended
 use Rattle.cm_server.specs.contracts.shared.Shared as Shared
 use Rattle.cm_server.specs.declared.sessions.meet.Meet as meet
@@ -28,7 +30,7 @@ pub shared_sync : (ℓ : NamedLft) (R C G W : RattleType) (t : clock.Ghosts C.De
     → IsSync (Shared.the_row ℓ R C G W t h g)
 shared_sync ℓ R C G W t h g r c m w = recorded_sync (Shared.the_field ℓ R C G W t h g).row _ _ (Shared.the_type ℓ R C G W t h g).to_one
     (struct_sync (shape (Shared.the_type ℓ R C G W t h g))
-    (search (sendable, w), (heap.the_field_sync, (config.the_sync, (world-shared R g r, (Vec-sync _ bell.the_sync, (c, (search (sendable, m), tt))))))))
+    (search (sendable, w), (heap.the_field_sync, (config.the_sync, (world-shared R g r, (Vec-sync _ bell.the_sync, (search (sendable, board.the_sync), (term.the_field_sync, (c, (search (sendable, m), tt))))))))))
 
 -- ---- what threads are given
 
@@ -39,13 +41,13 @@ module _ (R C G W : RattleType) (t : clock.Ghosts C.Denot) (h : meet.Ghosts G.De
   lent : (ℓ ℓ' : NamedLft) → IsSend (field.shr_ref_field ℓ (shared ℓ') tt).row
   lent ℓ ℓ' = let s = shared_sync ℓ' R C G W t h g r c m w in search (sendable, s) depth 20
 
-  -- what is shared, a link, a pass, and a number
+  -- what is shared, a link, a pass, a number, and a place
   pub session_send : (n : List ℕ) (ℓ ℓ' : NamedLft) (K : RattleType) → IsSend K
-      → IsSend (tuple.TupleAt n ((field.shr_ref_field ℓ (Shared.the_row ℓ' R C G W t h g) tt).row ∷ K ∷ Pass.the_row R g ∷ (field.u32-field).row ∷ []))
+      → IsSend (tuple.TupleAt n ((field.shr_ref_field ℓ (Shared.the_row ℓ' R C G W t h g) tt).row ∷ K ∷ Pass.the_row R g ∷ (field.u32-field).row ∷ (field.u8-field).row ∷ []))
   session_send n ℓ ℓ' K k =
-      let rows : List RattleType = (field.shr_ref_field ℓ (Shared.the_row ℓ' R C G W t h g) tt).row ∷ K ∷ Pass.the_row R g ∷ (field.u32-field).row ∷ [] in
+      let rows : List RattleType = (field.shr_ref_field ℓ (Shared.the_row ℓ' R C G W t h g) tt).row ∷ K ∷ Pass.the_row R g ∷ (field.u32-field).row ∷ (field.u8-field).row ∷ [] in
       recorded_send (tuple.field_at n rows).row _ _ (tuple.type_at n rows).to_one
-      (struct_send (shape (tuple.type_at n rows)) (lent ℓ ℓ', (k, (pass-sent R g r, (search sendable depth 20, tt)))))
+      (struct_send (shape (tuple.type_at n rows)) (lent ℓ ℓ', (k, (pass-sent R g r, (search sendable depth 20, (search sendable depth 20, tt))))))
 
   -- what is shared, a pass, and a unit
   pub pump_send : (n : List ℕ) (ℓ ℓ' : NamedLft)

@@ -1,11 +1,11 @@
 -- Words that ask for serving
 use Rattle.std.proofs.Common.{◌≡◌, ℕ, ◌<◌, ◌≤◌, ◌-◌, Bool, List, [], ◌∷◌, length, decimal, sym, ap, ap₂, ◌∙◌, arith, take}
-use Rattle.std.specs.Prelude.{slice_index_or, IsTrue, nat_eq, Option, Some, None, IfSome, IfNone}
+use Rattle.std.specs.Prelude.{◌≢◌, codes, slice_index_or, IsTrue, nat_eq, Option, Some, None, IfSome, IfNone}
 use lib.Pointwise.{pointwise}
 use Rattle.std.proofs.lemmas.Bool.Decides.{Decides-eqb}
 use Rattle.std.proofs.lemmas.Slice.Eq.{slice_eq-Decides}
 use Rattle.cm_base.specs.Numbers.{IsUpTo}
-use Rattle.cm_server.specs.Words.{AreFolderWords, AreSessionWords, IsPlain}
+use Rattle.cm_server.specs.Words.{AreFolderWords, AreManageWords, AreSessionWords, IsPlain}
 
 -- the three words of a list
 pub three-words : (ws : List (List ℕ)) (w a n : List ℕ) → 3 ≤ length ws → length ws < 4
@@ -45,3 +45,14 @@ pub none-asked : (r : Option ℕ) (word : List ℕ) (ws : List (List ℕ)) → I
     → IfNone r ((n : ℕ) → AreFolderWords word ws n → ⊥)
 none-asked None word ws none = λ n are. none n (without-folder word ws n are)
 none-asked (Some k) word ws none = tt
+
+-- the words that ask for a manager
+pub manage-words : (ws : List (List ℕ)) (word w a n : List ℕ) → ws ≡ w ∷ a ∷ n ∷ [] → w ≡ word → word ≡ codes "manage" → IsPlain a → IsPlain n × (n ≢ [])
+    → AreManageWords ws
+manage-words ws word w a n is same verb plain named = record {
+  address = a;
+  file = n;
+  spelled = is ∙ ap (λ v. v ∷ a ∷ n ∷ []) (same ∙ verb);
+  plain = (plain, named.0);
+  named = named.1;
+}

@@ -14,6 +14,7 @@ use Rattle.cmd_program.specs.Judging.{step}
 use Rattle.cmd_program.specs.Stepping.{Stepping}
 use Rattle.cm_server.specs.Recorders.{FoldsBy}
 use Rattle.cm_server.specs.Served.{WasServed, AreServed, IfTold}
+use Rattle.cm_server.specs.declared.term.Term.{Term}
 use Rattle.cm_server.specs.inner.Passes.{IsReady}
 use Rattle.cm_server.specs.inner.Opened.{AreNew, IsLegalBehind, IsOlder, IsOpened, OpenedUnit, entries_of, kins_of, opening_marks, recorders_of}
 use Rattle.cm_server.specs.inner.Recording.{finals, IsReckoned}
@@ -50,12 +51,12 @@ ready-begun config opened world root begun = record {
 }
 
 -- more may be said of the report, or less
-pub served-as : (step : Stepping) (config : Configuration) (Legal : List Entry → Type 0) (Folds : Folding) (opening : List Entry) (first : ℕ)
+pub served-as : (step : Stepping) (config : Configuration) (Legal : List Entry → Type 0) (Folds : Folding) (term : Term) (opening : List Entry) (first : ℕ)
     (Shows : ℕ → Type 0) (coming rest : Option (List (List ℕ))) (before after : Option (List Gone)) (Reports Others : List Entry → List SessionEnd → Type 0)
     → ((entries : List Entry) (ends : List SessionEnd) → Reports entries ends → Others entries ends)
-    → WasServed step config Legal Folds opening first Shows coming rest before after Reports
-    → WasServed step config Legal Folds opening first Shows coming rest before after Others
-served-as step config Legal Folds opening first Shows coming rest before after Reports Others more s = record {
+    → WasServed step config Legal Folds term opening first Shows coming rest before after Reports
+    → WasServed step config Legal Folds term opening first Shows coming rest before after Others
+served-as step config Legal Folds term opening first Shows coming rest before after Reports Others more s = record {
   entries = s.entries;
   ends = s.ends;
   legal = s.legal;
@@ -68,12 +69,12 @@ served-as step config Legal Folds opening first Shows coming rest before after R
 }
 
 -- the same, where it is known what is so of the history
-pub served-by : (step : Stepping) (config : Configuration) (Legal : List Entry → Type 0) (Folds : Folding) (opening : List Entry) (first : ℕ)
+pub served-by : (step : Stepping) (config : Configuration) (Legal : List Entry → Type 0) (Folds : Folding) (term : Term) (opening : List Entry) (first : ℕ)
     (Shows : ℕ → Type 0) (coming rest : Option (List (List ℕ))) (before after : Option (List Gone)) (Reports Others : List Entry → List SessionEnd → Type 0)
     → ((entries : List Entry) (ends : List SessionEnd) → Legal entries → Reports entries ends → Others entries ends)
-    → WasServed step config Legal Folds opening first Shows coming rest before after Reports
-    → WasServed step config Legal Folds opening first Shows coming rest before after Others
-served-by step config Legal Folds opening first Shows coming rest before after Reports Others more s = record {
+    → WasServed step config Legal Folds term opening first Shows coming rest before after Reports
+    → WasServed step config Legal Folds term opening first Shows coming rest before after Others
+served-by step config Legal Folds term opening first Shows coming rest before after Reports Others more s = record {
   entries = s.entries;
   ends = s.ends;
   legal = s.legal;
@@ -86,11 +87,11 @@ served-by step config Legal Folds opening first Shows coming rest before after R
 }
 
 -- the same of a history of which more may be said, or less
-pub legal-as : (step : Stepping) (config : Configuration) (Legal Other : List Entry → Type 0) (Folds : Folding) (opening : List Entry) (first : ℕ)
+pub legal-as : (step : Stepping) (config : Configuration) (Legal Other : List Entry → Type 0) (Folds : Folding) (term : Term) (opening : List Entry) (first : ℕ)
     (Shows : ℕ → Type 0) (coming rest : Option (List (List ℕ))) (before after : Option (List Gone)) (Reports : List Entry → List SessionEnd → Type 0)
     → ((entries : List Entry) → Legal entries → Other entries)
-    → WasServed step config Legal Folds opening first Shows coming rest before after Reports → WasServed step config Other Folds opening first Shows coming rest before after Reports
-legal-as step config Legal Other Folds opening first Shows coming rest before after Reports more s = record {
+    → WasServed step config Legal Folds term opening first Shows coming rest before after Reports → WasServed step config Other Folds term opening first Shows coming rest before after Reports
+legal-as step config Legal Other Folds term opening first Shows coming rest before after Reports more s = record {
   entries = s.entries;
   ends = s.ends;
   legal = more s.entries s.legal;
@@ -102,21 +103,24 @@ legal-as step config Legal Other Folds opening first Shows coming rest before af
   links = links-as coming rest before after s.links;
 }
   where
-    are-as : (coming rest : List (List ℕ)) (before after : List Gone) → AreServed step config Legal Folds opening s.entries first coming rest before after s.ends
-        → AreServed step config Other Folds opening s.entries first coming rest before after s.ends
+    are-as : (coming rest : List (List ℕ)) (before after : List Gone) → AreServed step config Legal Folds term opening s.entries first coming rest before after s.ends
+        → AreServed step config Other Folds term opening s.entries first coming rest before after s.ends
     are-as coming rest before after a = record {
       talks = a.talks;
+      came = a.came;
       accepted = a.accepted;
+      each_one = a.each_one;
+      on_links = a.on_links;
+      ordered = a.ordered;
       given_back = a.given_back;
       ended = a.ended;
-      numbered = a.numbered;
       each = a.each;
       run = record { legal = more s.entries a.run.legal; apart = a.run.apart; each = a.run.each; others = a.run.others };
     }
 
     links-as : (coming rest : Option (List (List ℕ))) (before after : Option (List Gone))
-        → IfTold coming rest before after (λ c r b a. AreServed step config Legal Folds opening s.entries first c r b a s.ends)
-        → IfTold coming rest before after (λ c r b a. AreServed step config Other Folds opening s.entries first c r b a s.ends)
+        → IfTold coming rest before after (λ c r b a. AreServed step config Legal Folds term opening s.entries first c r b a s.ends)
+        → IfTold coming rest before after (λ c r b a. AreServed step config Other Folds term opening s.entries first c r b a s.ends)
     links-as (Some c) (Some r) (Some b) (Some a) all = are-as c r b a all
     links-as None rest before after all = tt
     links-as (Some c) None before after all = tt
@@ -143,10 +147,10 @@ new-none : (opened : List OpenedUnit) → AreNew opened → AreNone (map (λ (es
 new-none [] new = tt
 new-none (u ∷ us) new = (ap (λ (es : List Entry). length es) new.0, new-none us new.1)
 
-module _ {R : Type 0} (facts : R → RecorderFacts) (fits : R → Entry → Type 0) (stays : StaysJudged read_request) (world : WorldView) (Shows : ℕ → Type 0)
+module _ {R : Type 0} (facts : R → RecorderFacts) (fits : R → Entry → Type 0) (stays : StaysJudged read_request) (term : Term) (world : WorldView) (Shows : ℕ → Type 0)
     (opened : List OpenedUnit) (zero one two : RootView) (coming rest : Option (List (List ℕ))) (before after : Option (List Gone)) (ends : List SessionEnd)
     (units : List (ClosedUnit R)) (begun : IsOpened world.config opened world zero)
-    (served : HasServed world Shows zero.made zero one coming rest before after ends) (settled : HasSettled world Shows one two)
+    (served : HasServed term world Shows zero.made zero one coming rest before after ends) (settled : HasSettled world Shows one two)
     (ended : WasEnded facts fits two units) where
   abbrev first : ℕ
   first = zero.made
@@ -175,11 +179,11 @@ module _ {R : Type 0} (facts : R → RecorderFacts) (fits : R → Entry → Type
       ∙ sym (kins-long world.config 0 opened) ∙ ap (λ (l : List (Option UnitKin)). length l) (sym begun.gates) ∙ length-map world.gates (λ (g : UnitGate). g.kin)
       ∙ left-long facts fits world.gates ended.histories units left-of
 
-  is-closed : IsClosedWorld world zero Shows first (entries_of opened) one.seen entries (marks_left facts fits units) served.spare served.sessions served.workers settled.lasts
+  is-closed : IsClosedWorld world zero Shows first served.links (entries_of opened) one.seen entries (marks_left facts fits units) served.sessions served.workers settled.lasts
   is-closed =
-      subst (λ o. IsClosedWorld world zero Shows first o one.seen entries (marks_left facts fits units) served.spare served.sessions served.workers settled.lasts) seen-first
-      (closes world Shows first served.made zero one two ended.histories (marks_left facts fits units) served.spare served.sessions served.workers settled.lasts
-      served.are served.spare_are served.workers_are settled.are settled.each_unit served.joined settled.joined (ap (λ (r : RootView). r.joined) begun.root_is)
+      subst (λ o. IsClosedWorld world zero Shows first served.links o one.seen entries (marks_left facts fits units) served.sessions served.workers settled.lasts) seen-first
+      (closes world Shows first served.links served.made zero one two ended.histories (marks_left facts fits units) served.sessions served.workers settled.lasts
+      served.are served.workers_are settled.are settled.each_unit served.joined settled.joined (ap (λ (r : RootView). r.joined) begun.root_is)
       settled.ready.of.config
       (ap (λ (r : RootView). r.openings) begun.root_is ∙ ap (λ l. map (λ (es : List Entry). length es) l) (sym seen-first)) long
       (subst (λ l. Each (IsOlder first) (all_of l)) (sym seen-first) begun.older)
@@ -211,7 +215,7 @@ module _ {R : Type 0} (facts : R → RecorderFacts) (fits : R → Entry → Type
       (sym marks-first) (folds-by facts fits world.config opened world.gates ended.histories units begun.gates begun.may left-of))
 
   -- what serving owes of a world that was served
-  pub world-recorded : WasServed step world.config (IsLegalBehind world.config opened) (FoldsBy (recorders_of opened) (finals facts units)) opening first Shows coming rest before after
+  pub world-recorded : WasServed step world.config (IsLegalBehind world.config opened) (FoldsBy (recorders_of opened) (finals facts units)) term opening first Shows coming rest before after
       (λ es is. (is ≡ ends) × IsReckoned facts fits opened world.gates units world.config es)
   world-recorded =
       let w = is-closed in
@@ -220,10 +224,10 @@ module _ {R : Type 0} (facts : R → RecorderFacts) (fits : R → Entry → Type
         entries = entries;
         ends = ends;
         legal = legal;
-        shown = all-shown world zero Shows first (entries_of opened) one.seen entries (marks_left facts fits units) served.spare served.sessions served.workers settled.lasts w;
+        shown = all-shown world zero Shows first served.links (entries_of opened) one.seen entries (marks_left facts fits units) served.sessions served.workers settled.lasts w;
         sorted = w.sorted;
         apart = w.apart;
-        idle = all-idle world zero Shows first (entries_of opened) one.seen entries (marks_left facts fits units) served.spare served.sessions served.workers settled.lasts w;
+        idle = all-idle world zero Shows first served.links (entries_of opened) one.seen entries (marks_left facts fits units) served.sessions served.workers settled.lasts w;
         reported = (
           refl,
           record {
@@ -239,10 +243,10 @@ module _ {R : Type 0} (facts : R → RecorderFacts) (fits : R → Entry → Type
             counts = counts-are facts fits world.config entries opened world.gates ended.histories units begun.gates begun.each_unit left-of ended.resumed.parts;
           },
         );
-        links = subst (λ (l : List SessionEnd). IfTold coming rest before after (λ c r b a. AreServed step world.config (IsLegalBehind world.config opened) Folds opening entries first c r b a l))
+        links = subst (λ (l : List SessionEnd). IfTold coming rest before after (λ c r b a. AreServed step world.config (IsLegalBehind world.config opened) Folds term opening entries first c r b a l))
             served.ends_are
-            (links-of stays world zero Shows (IsLegalBehind world.config opened) Folds opening entries (marks_left facts fits units) folds first served.sessions coming rest before after served.are
-            (closed-for world zero Shows first (entries_of opened) one.seen entries (marks_left facts fits units) served.spare served.sessions served.workers settled.lasts w)
+            (links-of stays term world zero Shows (IsLegalBehind world.config opened) Folds opening entries (marks_left facts fits units) folds first served.links served.sessions coming rest before after served.are served.ordered
+            (closed-for world zero Shows first served.links (entries_of opened) one.seen entries (marks_left facts fits units) served.sessions served.workers settled.lasts w)
             served.come served.back legal
-            (all-served world zero Shows first (entries_of opened) one.seen entries (marks_left facts fits units) served.spare served.sessions served.workers settled.lasts w));
+            (all-served world zero Shows first served.links (entries_of opened) one.seen entries (marks_left facts fits units) served.sessions served.workers settled.lasts w));
       }

@@ -15,6 +15,10 @@ pub record MayFold (before after : RecorderFacts) (count folded : ℕ) : Type 0 
   pub absent : before.absent ≡ true → folded ≡ 0
   pub whole : before.absent ≡ false → (folded ≡ count) ⊎ Rose before.faults after.faults
 
+-- all entries of a unit are given up, as soon as they were made
+abbrev pub GivesUpAll : Folding
+GivesUpAll unit count folded = folded ≡ count
+
 -- how many entries of a unit may be written out, while its recorder is at work
 abbrev pub FoldsBy : List RecorderFacts → List RecorderFacts → Folding
 FoldsBy before after unit count folded =

@@ -13,7 +13,8 @@ use Rattle.cm_history.specs.Operations.{Operation, running, is_background}
 use Rattle.cmd_program.specs.Conversations.{Folding}
 use Rattle.cmd_program.specs.Stepping.{Stepping}
 use Rattle.cm_server.specs.Runs.{IsRun}
-use Rattle.cm_server.specs.Talks.{Talk, IsTalk, AreNumbered}
+use Rattle.cm_server.specs.Talks.{Talk, IsTalk, IsOnLink, AreNumbered}
+use Rattle.cm_server.specs.declared.term.Term.{Term}
 use Rattle.merged_history.specs.Merged.{IsSorted, RiseBehind}
 use Rattle.session.specs.declared.end.SessionEnd.{SessionEnd}
 use Rattle.unit_gate.specs.declared.recorded_unit.UnitCount.{UnitCount}
@@ -44,15 +45,23 @@ counts_from config entries unit (suc n) = count_of config entries unit ∷ count
 abbrev pub unit_counts : Configuration → List Entry → List UnitCount
 unit_counts config entries = counts_from config entries 0 (length config.units)
 
--- The links that were accepted and given back, in one order, and the conversations over them; `first` is the number of
--- the first nexus.
-pub record AreServed (step : Stepping) (config : Configuration) (Legal : List Entry → Type 0) (Folds : Folding) (opening entries : List Entry) (first : ℕ)
+-- the conversations are over these links, one over each, in the order of accepting
+pub record AreInOrder (first : ℕ) (came : List (List ℕ)) (talks : List Talk) : Type 0 where
+  pub numbered : AreNumbered first talks
+  pub over : came ≡ map (λ (t : Talk). t.coming) talks
+
+-- The links that were accepted, in order, and the conversations over them, one over each, in the order in which their links
+-- were given back: at a counted term that of accepting. `first` is the number of the first nexus.
+pub record AreServed (step : Stepping) (config : Configuration) (Legal : List Entry → Type 0) (Folds : Folding) (term : Term) (opening entries : List Entry) (first : ℕ)
     (coming rest : List (List ℕ)) (before after : List Gone) (ends : List SessionEnd) : Type 0 where
   pub talks : List Talk
-  pub accepted : coming ≡ map (λ (t : Talk). t.coming) talks ++ rest
+  pub came : List (List ℕ)
+  pub accepted : coming ≡ came ++ rest
+  pub each_one : length talks ≡ length came
+  pub on_links : All (IsOnLink first came) talks
+  pub ordered : term ≡ Term.Counted → AreInOrder first came talks
   pub given_back : after ≡ before ++ map (λ (t : Talk). t.gone) talks
   pub ended : map (λ (t : Talk). t.end) talks ≡ ends
-  pub numbered : AreNumbered first talks
   pub each : All IsTalk talks
   pub run : IsRun step config Legal Folds opening entries (map (λ (t : Talk). t.conversation) talks)
 
@@ -63,7 +72,7 @@ IfTold (Some coming) (Some rest) (Some before) (Some after) P = P coming rest be
 IfTold _ _ _ _ P = Unit {0}
 
 -- One history of all units, in the order of the stamps, and how the sessions ended. `Reports` says what was pushed of them.
-pub record WasServed (step : Stepping) (config : Configuration) (Legal : List Entry → Type 0) (Folds : Folding) (opening : List Entry) (first : ℕ)
+pub record WasServed (step : Stepping) (config : Configuration) (Legal : List Entry → Type 0) (Folds : Folding) (term : Term) (opening : List Entry) (first : ℕ)
     (Shows : ℕ → Type 0) (coming rest : Option (List (List ℕ))) (before after : Option (List Gone)) (Reports : List Entry → List SessionEnd → Type 0) : Type 0 where
   pub entries : List Entry
   pub ends : List SessionEnd
@@ -73,4 +82,4 @@ pub record WasServed (step : Stepping) (config : Configuration) (Legal : List En
   pub shown : All (λ (e : Entry). Contains opening e ⊎ Shows e.moment) entries
   pub idle : (unit : ℕ) → unit < length config.units → IsIdle config entries unit
   pub reported : Reports entries ends
-  pub links : IfTold coming rest before after (λ coming rest before after. AreServed step config Legal Folds opening entries first coming rest before after ends)
+  pub links : IfTold coming rest before after (λ coming rest before after. AreServed step config Legal Folds term opening entries first coming rest before after ends)

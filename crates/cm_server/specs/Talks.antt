@@ -1,5 +1,5 @@
 -- One connection that was served: its bytes, and its conversation
-use Rattle.std.specs.Prelude.{◌≡◌, ◌≢◌, ℕ, suc, List, [], ◌∷◌, length, Option, Some, None, Bool, true, false}
+use Rattle.std.specs.Prelude.{◌≡◌, ◌≢◌, ◌≤◌, ◌-◌, ℕ, suc, List, [], ◌∷◌, length, slice_get, Option, Some, None, Bool, true, false}
 use Rattle.cm_base.specs.Listening.{Gone}
 use Rattle.cm_frame.specs.declared.frame.Request.{Request}
 use Rattle.cm_frame.specs.Framing.{Framed, framed}
@@ -42,7 +42,12 @@ pub record IsTalk (t : Talk) : Type 0 where
   pub frames : t.end.frames ≡ whole_in (length t.gone.taken) t.conversation.exchanges
   pub broken : t.gone.broken ≡ is_of_link t.end.fault
 
--- the nexuses are numbered from here on, in the order of accepting
+-- The talk was over the link of its nexus: those that came, in the order of accepting, have the nexuses from `first` on.
+pub record IsOnLink (first : ℕ) (came : List (List ℕ)) (t : Talk) : Type 0 where
+  pub low : first ≤ t.conversation.nexus
+  pub at : slice_get came (t.conversation.nexus - first) ≡ Some t.coming
+
+-- the nexuses are numbered from here on
 abbrev pub AreNumbered : ℕ → List Talk → Type 0
 AreNumbered n [] = Unit {0}
 AreNumbered n (t ∷ ts) = (t.conversation.nexus ≡ n) × AreNumbered (suc n) ts

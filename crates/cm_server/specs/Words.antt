@@ -36,3 +36,11 @@ AreRecordWords words sessions = AreFolderWords (codes "serve") words sessions
 -- `store ADDRESS SESSIONS FOLDER`
 abbrev pub AreStoreWords : List (List ℕ) → ℕ → Type 0
 AreStoreWords words sessions = AreFolderWords (codes "store") words sessions
+
+-- `manage ADDRESS FILE`
+pub record AreManageWords (words : List (List ℕ)) : Type 0 where
+  pub address : List ℕ
+  pub file : List ℕ
+  pub spelled : words ≡ codes "manage" ∷ address ∷ file ∷ []
+  pub plain : IsPlain address × IsPlain file
+  pub named : file ≢ []

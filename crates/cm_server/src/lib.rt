@@ -4,6 +4,7 @@
 
 mod asking;
 mod by_pass;
+mod forgetting;
 mod laws;
 mod parting;
 mod pumps;
@@ -15,9 +16,12 @@ mod shared;
 mod status;
 mod stored;
 mod storing;
+mod term;
 
+pub use forgetting::{EndRequest, manage};
 pub use laws::{served_laws, served_writes_law};
 pub use served::{RecorderList, Served, serve, serve_at, serve_with};
 pub use sessions::meet::{Meet, NoMeet};
 pub use status::Status;
 pub use stored::{DiskList, Stored, serve_stored, serve_stored_at};
+pub use term::Term;

@@ -1,11 +1,12 @@
 // A world is served: its connections, and what goes on in the background, until nothing is left to do.
-ghost use Rattle.std.specs.Prelude.{◌≡◌, ◌≤◌, ◌+◌, [], List, length, true, IfOk};
+ghost use Rattle.std.specs.Prelude.{◌≡◌, ◌≤◌, ◌+◌, [], List, length, true, IfNone, IfOk};
 ghost use Rattle.session.specs.declared.end.SessionEnd.{SessionEnd};
 ghost use Rattle.unit_gate.specs.Recorded.{facts};
 ghost use Rattle.cm_server.specs.Recorders.{AreBack};
 ghost use Rattle.cm_server.specs.declared.sessions.accepting.AcceptEnd.{AcceptEnd};
 ghost use Rattle.cm_server.specs.inner.Begun.{HasFailed};
 ghost use Rattle.cm_server.specs.inner.Left.{IsClosed};
+ghost use Rattle.cm_server.specs.inner.Links.{AreOut, StayOut, in_hand};
 ghost use Rattle.cm_server.specs.inner.Opened.{IsOpened, OpenedUnit, recorders_of};
 ghost use Rattle.cm_server.specs.inner.Passes.{HasMoved, IsReady};
 ghost use Rattle.cm_server.specs.inner.Recording.{finals};
@@ -16,10 +17,13 @@ use crate::pumps::bell::Bell;
 use crate::pumps::last::pump_all_out;
 use crate::pumps::workers::{Worker, start_all, stop_all};
 use crate::report::counts::SessionCounts;
-use crate::sessions::accepting::{AcceptEnd, accept_all};
+use crate::sessions::accepting::{AcceptEnd, Accepted, accept_all};
+use crate::sessions::board::Board;
 use crate::sessions::ending::end_all;
 use crate::sessions::meet::Meet;
+use crate::sessions::places::Places;
 use crate::shared::Shared;
+use crate::term::Term;
 use cm_base::{Clock, Config, Link, Listener, OutOfMemory};
 use nexus::{Root, World};
 use recorder::Recorder;
@@ -56,6 +60,19 @@ pub(crate) struct Left<R> {
     pub(crate) units: Vec<ClosedUnit<R>>,
 }
 
+/// Closes a link of which no session was begun, and gives it back.
+fn give_unserved<K: Link + Drop, L: Listener<Conn = K>>(listener: &mut L, unserved: Option<K>)
+    requires out { AreOut (L.out listener.old) (in_hand unserved) }
+    ensures same { IfNone unserved (listener.new ≡ listener.old) }
+    ensures out { StayOut (L.out listener.old) (L.out listener.new) (in_hand unserved) 0 }
+    ensures faults { L.accept_faults listener.new ≡ L.accept_faults listener.old }
+{
+    if let Some(mut link) = unserved {
+        link.close();
+        listener.done(link);
+    }
+}
+
 /// Serves connections beside the pumps.
 fn run_sessions<
     's,
@@ -75,21 +92,31 @@ fn run_sessions<
     count: u32,
 ) -> Ran
     requires ready { IsReady shared.now.world root.old }
-    requires few { count ≤ 256 }
     requires safe { G.SAFE ≡ true → R.EAGER ≡ true }
     requires numbers { root.old.made + count ≤ 4_294_967_295 }
-    ensures talked { UnlessWanted result.end ((ends : List SessionEnd) × HasRan result count ends
-        × HaveTalked shared.now.world (C.shows shared.now.clock) root.old.made root.old root.new (L.coming listener.old) (L.coming listener.new) (L.ended listener.old) (L.ended listener.new) ends) }
+    ensures talked { UnlessWanted result.end ((ends : List SessionEnd) × HasRan shared.now.term result count ends
+        × HaveTalked shared.now.term shared.now.world (C.shows shared.now.clock) root.old.made root.old root.new (L.coming listener.old) (L.coming listener.new) (L.ended listener.old) (L.ended listener.new) ends) }
     ensures moved { HasMoved shared.now.world root.old root.new }
     ensures failed { HasFailed result.end (L.accept_faults listener.old) (L.accept_faults listener.new) }
     ensures links { L.out listener.new ≡ L.out listener.old }
 {
-    let Ok(mut begun) = VecDeque::with_capacity(shared.alloc, count as usize) else {
+    let Ok(mut places) = Places::new(shared.alloc) else {
         return Ran::wanted();
     };
+    let mut counts = SessionCounts::none();
     let first = root.next_nexus();
-    let end = accept_all(scope, shared, root, listener, first, count, &mut begun);
-    let counts = end_all(shared, root, listener, begun);
+    let Accepted { end, unserved } = accept_all(
+        scope,
+        shared,
+        root,
+        listener,
+        first,
+        count,
+        &mut places,
+        &mut counts,
+    );
+    end_all(shared, root, listener, places, &mut counts);
+    give_unserved(listener, unserved);
     Ran { counts, end }
 }
 
@@ -113,11 +140,10 @@ fn run_all<
 ) -> Ran
     requires ready { IsReady shared.now.world root.old }
     requires alone { root.old.out ≡ [] }
-    requires few { count ≤ 256 }
     requires safe { G.SAFE ≡ true → R.EAGER ≡ true }
     requires numbers { root.old.made + count ≤ 4_294_967_295 }
-    ensures served { UnlessWanted result.end ((ends : List SessionEnd) × HasRan result count ends
-        × HasServed shared.now.world (C.shows shared.now.clock) root.old.made root.old root.new (L.coming listener.old) (L.coming listener.new) (L.ended listener.old) (L.ended listener.new) ends) }
+    ensures served { UnlessWanted result.end ((ends : List SessionEnd) × HasRan shared.now.term result count ends
+        × HasServed shared.now.term shared.now.world (C.shows shared.now.clock) root.old.made root.old root.new (L.coming listener.old) (L.coming listener.new) (L.ended listener.old) (L.ended listener.new) ends) }
     ensures moved { HasMoved shared.now.world root.old root.new }
     ensures failed { HasFailed result.end (L.accept_faults listener.old) (L.accept_faults listener.new) }
     ensures links { L.out listener.new ≡ L.out listener.old }
@@ -154,13 +180,12 @@ fn run_scoped<
 ) -> (&'l mut L, &'l mut Root<R>, Ran)
     requires ready { IsReady shared.now.world root.now }
     requires alone { root.now.out ≡ [] }
-    requires few { count ≤ 256 }
     requires safe { G.SAFE ≡ true → R.EAGER ≡ true }
     requires numbers { root.now.made + count ≤ 4_294_967_295 }
     ensures listener { result.0.ghost_name ≡ listener.entry.ghost_name }
     ensures root { result.1.ghost_name ≡ root.entry.ghost_name }
-    ensures served { UnlessWanted result.2.end ((ends : List SessionEnd) × HasRan result.2 count ends
-        × HasServed shared.now.world (C.shows shared.now.clock) root.entry.now.made root.entry.now result.1.now (L.coming listener.entry.now) (L.coming result.0.now) (L.ended listener.entry.now) (L.ended result.0.now) ends) }
+    ensures served { UnlessWanted result.2.end ((ends : List SessionEnd) × HasRan shared.now.term result.2 count ends
+        × HasServed shared.now.term shared.now.world (C.shows shared.now.clock) root.entry.now.made root.entry.now result.1.now (L.coming listener.entry.now) (L.coming result.0.now) (L.ended listener.entry.now) (L.ended result.0.now) ends) }
     ensures moved { HasMoved shared.now.world root.entry.now result.1.now }
     ensures failed { HasFailed result.2.end (L.accept_faults listener.entry.now) (L.accept_faults result.0.now) }
     ensures links { L.out result.0.now ≡ L.out listener.entry.now }
@@ -171,13 +196,12 @@ fn run_scoped<
         move |scope| -> (&mut L, &mut Root<R>, Ran)
             requires ready { IsReady shared.now.world root.now }
             requires alone { root.now.out ≡ [] }
-            requires few { count ≤ 256 }
             requires safe { G.SAFE ≡ true → R.EAGER ≡ true }
             requires numbers { root.now.made + count ≤ 4_294_967_295 }
             ensures listener { result.0.ghost_name ≡ listener.entry.ghost_name }
             ensures root { result.1.ghost_name ≡ root.entry.ghost_name }
-            ensures served { UnlessWanted result.2.end ((ends : List SessionEnd) × HasRan result.2 count ends
-                × HasServed shared.entry.now.world (C.shows shared.entry.now.clock) root.entry.now.made root.entry.now result.1.now (L.coming listener.entry.now) (L.coming result.0.now) (L.ended listener.entry.now) (L.ended result.0.now) ends) }
+            ensures served { UnlessWanted result.2.end ((ends : List SessionEnd) × HasRan shared.entry.now.term result.2 count ends
+                × HasServed shared.entry.now.term shared.entry.now.world (C.shows shared.entry.now.clock) root.entry.now.made root.entry.now result.1.now (L.coming listener.entry.now) (L.coming result.0.now) (L.ended listener.entry.now) (L.ended result.0.now) ends) }
             ensures moved { HasMoved shared.entry.now.world root.entry.now result.1.now }
             ensures failed { HasFailed result.2.end (L.accept_faults listener.entry.now) (L.accept_faults result.0.now) }
             ensures links { L.out result.0.now ≡ L.out listener.entry.now }
@@ -199,11 +223,10 @@ fn run_threads<
 >(shared: &Shared<'_, R, C, G, W>, root: &mut Root<R>, listener: &mut L, count: u32) -> Ran
     requires ready { IsReady shared.now.world root.old }
     requires alone { root.old.out ≡ [] }
-    requires few { count ≤ 256 }
     requires safe { G.SAFE ≡ true → R.EAGER ≡ true }
     requires numbers { root.old.made + count ≤ 4_294_967_295 }
-    ensures served { UnlessWanted result.end ((ends : List SessionEnd) × HasRan result count ends
-        × HasServed shared.now.world (C.shows shared.now.clock) root.old.made root.old root.new (L.coming listener.old) (L.coming listener.new) (L.ended listener.old) (L.ended listener.new) ends) }
+    ensures served { UnlessWanted result.end ((ends : List SessionEnd) × HasRan shared.now.term result count ends
+        × HasServed shared.now.term shared.now.world (C.shows shared.now.clock) root.old.made root.old root.new (L.coming listener.old) (L.coming listener.new) (L.ended listener.old) (L.ended listener.new) ends) }
     ensures moved { HasMoved shared.now.world root.old root.new }
     ensures failed { HasFailed result.end (L.accept_faults listener.old) (L.accept_faults listener.new) }
     ensures links { L.out listener.new ≡ L.out listener.old }
@@ -246,9 +269,18 @@ fn settle<R: Recorder + Drop, C: Clock + Drop, G: Meet, W: Wait>(
     }
 }
 
-/// Serves so many connections of a world, each in a thread of its own, and beside them pumps what goes on in the
-/// background, until nothing goes on any more. Where the world goes on with histories, each pump begins at once, since
-/// operations may run. Where memory is wanted serving ends early; the world is ended and its units come back anyway.
+/// How a world is served.
+#[derive(Clone, Copy)]
+pub(crate) struct Manner<'a> {
+    pub(crate) term: Term,
+    /// The world goes on with histories, so that operations may run.
+    pub(crate) goes_on: bool,
+    pub(crate) board: &'a Board,
+}
+
+/// Serves connections of a world, at most so many, each in a thread of its own, and beside them pumps what goes on in the
+/// background, until nothing goes on any more. Where the world goes on with histories, each pump begins at once. Where
+/// memory is wanted serving ends early; the world is ended and its units come back anyway.
 pub(crate) fn serve_world<
     K: Link + Send + Drop,
     L: Listener<Conn = K>,
@@ -266,15 +298,14 @@ pub(crate) fn serve_world<
     listener: &mut L,
     clock: C,
     meet: &G,
-    goes_on: bool,
+    manner: Manner<'_>,
 ) -> Left<R>
     requires opened { (units : List OpenedUnit) × IsOpened config units world root }
-    requires few { count ≤ 256 }
     requires numbers { root.made + count ≤ 4_294_967_295 }
     requires safe { G.SAFE ≡ true → R.EAGER ≡ true }
     ensures served { (units : List OpenedUnit) → IsOpened config units world root
-        → UnlessWanted result.ran.end ((ends : List SessionEnd) × HasRan result.ran count ends
-        × IsClosed (facts R.recorded R.record_faults R.absent R.front) R.fits config units root.made (C.shows clock) (L.coming listener.old)
+        → UnlessWanted result.ran.end ((ends : List SessionEnd) × HasRan manner.entry.term result.ran count ends
+        × IsClosed manner.entry.term (facts R.recorded R.record_faults R.absent R.front) R.fits config units root.made (C.shows clock) (L.coming listener.old)
         (L.coming listener.new) (L.ended listener.old) (L.ended listener.new) ends result.units.items) }
     ensures failed { UnlessWanted result.ran.end (HasFailed result.ran.end (L.accept_faults listener.old) (L.accept_faults listener.new)) }
     ensures back { (units : List OpenedUnit) → IsOpened config units world root
@@ -282,7 +313,7 @@ pub(crate) fn serve_world<
     ensures links { L.out listener.new ≡ L.out listener.old }
 {
     let mut root = root;
-    let Ok(bells) = bells(alloc, config.units(), goes_on) else {
+    let Ok(bells) = bells(alloc, config.units(), manner.goes_on) else {
         return Left {
             ran: Ran::wanted(),
             units: world.end(root),
@@ -294,6 +325,8 @@ pub(crate) fn serve_world<
         config,
         world,
         bells,
+        board: manner.board,
+        term: manner.term,
         clock,
         meet,
     };

@@ -11,6 +11,9 @@ use Rattle.cmd_program.specs.Exchanges.{requests_of}
 use Rattle.cmd_program.specs.Stepping.{Stepping}
 use Rattle.cm_server.specs.Served.{AreServed}
 use Rattle.cm_server.specs.Talks.{AreRequestsIn, IsTalk, Talk}
+use Rattle.cm_server.specs.Serving.{IfReported}
+use Rattle.cm_server.specs.declared.status.Status.{Status}
+use Rattle.cm_server.specs.declared.term.Term.{Term}
 use Rattle.server_tests.specs.inner.Links.{AreAnswered, AreFirstAnswered, IsAnswered}
 use Rattle.session.specs.Spoken.{ArePushed}
 use Rattle.session.specs.declared.end.SessionEnd.{SessionEnd}
@@ -35,7 +38,7 @@ are-answered (t ∷ ts) all = (is-answered t (all 0 t (omega arith)), are-answer
 -- what serving owes of links of which it is told, none of which were given back before
 pub first-answered : (step : Stepping) (config : Configuration) (Legal : List Entry → Type 0) (Folds : Folding) (opening entries : List Entry) (first n : ℕ)
     (coming rest : List (List ℕ)) (before after : List Gone) (ends : List SessionEnd)
-    → AreServed step config Legal Folds opening entries first coming rest before after ends → before ≡ [] → length ends ≡ n → 1 ≤ n → AreFirstAnswered coming after
+    → AreServed step config Legal Folds Term.Counted opening entries first coming rest before after ends → before ≡ [] → length ends ≡ n → 1 ≤ n → AreFirstAnswered coming after
 first-answered step config Legal Folds opening entries first n coming rest before after ends served none count some =
     let talks = served.talks in
     let all = length-map talks (λ (t : Talk). t.coming) in
@@ -44,7 +47,7 @@ first-answered step config Legal Folds opening entries first n coming rest befor
     record {
       served = map (λ (t : Talk). t.coming) talks;
       rest = rest;
-      first = served.accepted;
+      first = served.accepted ∙ ap (λ l. l ++ rest) (served.ordered refl).over;
       some = omega (arith, all, those, these, count, some);
       answered = subst (AreAnswered (map (λ (t : Talk). t.coming) talks)) (sym (served.given_back ∙ ap (λ l. l ++ map (λ (t : Talk). t.gone) talks) none)) (are-answered talks served.each);
     }
@@ -58,3 +61,7 @@ answered-long (b ∷ bs) (g ∷ gs) all = ap suc (answered-long bs gs all.1)
 -- so one at least was given back
 pub some-given : (coming : List (List ℕ)) (ended : List Gone) → AreFirstAnswered coming ended → 0 < length ended
 some-given coming ended is = let long = answered-long is.served ended is.answered in let some = is.some in omega (arith, long, some)
+
+-- what is said where a report was pushed is so at a good end
+pub at-done : (status : Status) (P Q : Type 0) → status ≡ Status.Done → IfReported status P → (P → Q) → Q
+at-done status P Q done said goes = goes (subst (λ (s : Status). IfReported s P) done said)

@@ -1,35 +1,32 @@
 -- A world that is served, step by step
-use Rattle.std.specs.Prelude.{◌≡◌, ℕ, List, [], ◌++◌, length, map, Option}
+use Rattle.std.specs.Prelude.{◌≡◌, ℕ, List, ◌++◌, length, map, Option}
 use Rattle.cm_base.specs.Listening.{Gone}
 use Rattle.cm_history.specs.Members.{Each}
-use Rattle.cm_server.specs.inner.Links.{HaveCome, HaveGone}
+use Rattle.cm_server.specs.declared.term.Term.{Term}
+use Rattle.cm_server.specs.inner.Links.{LinkState, HaveCome, HaveGone}
 use Rattle.cm_server.specs.inner.Passes.{IsReady, HasJoined}
 use Rattle.cm_server.specs.inner.Pumping.{IsSomePump, AreLast}
-use Rattle.cm_server.specs.inner.Sessions.{EndedSession, AreSessions}
+use Rattle.cm_server.specs.inner.Sessions.{EndedSession, AreSessions, EndInOrder}
 use Rattle.nexus.specs.Roots.{RootView}
 use Rattle.nexus.specs.Worlds.{WorldView, PassView}
 use Rattle.session.specs.declared.end.SessionEnd.{SessionEnd}
 
--- a pass that did nothing was made for an accept that failed
-abbrev pub AreSpare : List PassView → Type 0
-AreSpare passes = Each (λ (p : PassView). p.own ≡ []) passes
-
--- The sessions, in the order of accepting: their passes were joined, and their links given back, in that order. Passes of
--- pumps were joined behind them.
-pub record HasServed (world : WorldView) (Shows : ℕ → Type 0) (first : ℕ) (before after : RootView)
+-- The sessions, in the order in which they ended: in it their passes were joined, and their links given back. Passes of pumps
+-- were joined behind them. `links` are those that came, in the order of accepting.
+pub record HasServed (term : Term) (world : WorldView) (Shows : ℕ → Type 0) (first : ℕ) (before after : RootView)
     (coming rest : Option (List (List ℕ))) (gone given : Option (List Gone)) (ends : List SessionEnd) : Type 0 where
   pub ready : IsReady world after
   pub sessions : List EndedSession
-  pub spare : List PassView
+  pub links : List LinkState
   pub workers : List PassView
   pub made : ℕ
-  pub are : AreSessions world before Shows first sessions
-  pub spare_are : AreSpare spare
+  pub are : AreSessions world before Shows first links sessions
+  pub ordered : EndInOrder term first sessions
   pub workers_are : Each (IsSomePump world Shows) workers
-  pub joined : HasJoined before after made ((spare ++ map (λ (s : EndedSession). s.pass) sessions) ++ workers)
+  pub joined : HasJoined before after made (map (λ (s : EndedSession). s.pass) sessions ++ workers)
   pub none_out : length after.out ≡ length before.out
   pub ends_are : map (λ (s : EndedSession). s.end) sessions ≡ ends
-  pub come : HaveCome coming rest (map (λ (s : EndedSession). s.start.link) sessions)
+  pub come : HaveCome coming rest links
   pub back : HaveGone gone given (map (λ (s : EndedSession). s.link) sessions)
 
 -- Then each unit was pumped until it was idle, and the passes for that were joined.

@@ -1,5 +1,5 @@
-ghost use Rattle.std.specs.Prelude.{◌≡◌, ℕ, slice_get, Some, IfSome, IfNone, true, false};
-ghost use Rattle.cm_server.specs.Words.{AreFolderWords, AreRecordWords, AreServeWords, AreSessionWords, AreStoreWords, IsPlain};
+ghost use Rattle.std.specs.Prelude.{◌≡◌, ℕ, slice_get, Some, IfSome, IfNone, true, false, [], ◌≢◌};
+ghost use Rattle.cm_server.specs.Words.{AreFolderWords, AreManageWords, AreRecordWords, AreServeWords, AreSessionWords, AreStoreWords, IsPlain};
 
 use cm_base::Word;
 
@@ -62,4 +62,25 @@ pub(crate) fn sessions_to_store(words: &[Word]) -> Option<u32>
     ensures other { IfNone result ((n : ℕ) → AreStoreWords words.now n → ⊥) }
 {
     sessions_with_folder(words, b"store".as_slice())
+}
+
+/// The word names a file: it has a byte, and does not begin with `-`.
+fn is_name(word: &Word) -> bool
+    ensures named { result ≡ true → IsPlain word.now × (word.now ≢ []) }
+    ensures other { result ≡ false → IsPlain word.now → word.now ≡ [] }
+{
+    !matches!(word.as_slice(), [] | [b'-', ..])
+}
+
+/// Whether the words are `manage ADDRESS FILE`.
+pub(crate) fn ask_to_manage(words: &[Word]) -> bool
+    ensures asked { result ≡ true → AreManageWords words.now }
+    ensures other { result ≡ false → AreManageWords words.now → ⊥ }
+{
+    match words {
+        [word, address, file] if word.as_slice() == b"manage".as_slice() && is_plain(address) => {
+            is_name(file)
+        }
+        _ => false,
+    }
 }

@@ -1,21 +1,25 @@
 // Connections are accepted, and a session of each is begun.
-ghost use Rattle.std.specs.Prelude.{◌≡◌, ◌≤◌, ◌<◌, ◌+◌, [], List, suc, length, option_map, IfOk, IfErr, ◌≢◌, true};
-ghost use Rattle.std.specs.VecDeque.{deque_capacity};
+ghost use Rattle.std.specs.Prelude.{◌≡◌, ◌≤◌, ◌<◌, ◌+◌, [], ℕ, List, suc, length, option_map, Option, None, IfOk, IfErr, IfSome, IfNone, ◌≢◌, true};
+ghost use Rattle.cm_base.specs.Listening.{Gone};
 ghost use Rattle.cm_server.specs.declared.sessions.accepting.AcceptEnd.{AcceptEnd};
-ghost use Rattle.cm_server.specs.inner.Begun.{HasBegun, HasNotBegun, HaveBegun, HasFailed, IsBegun, AreBegun, WereBegun};
-ghost use Rattle.cm_server.specs.inner.Links.{link_state};
+ghost use Rattle.cm_server.specs.declared.term.Term.{Term};
+ghost use Rattle.cm_server.specs.inner.Begun.{GoesOn, HasBegun, HasCome, HasFailed, IsBegun, SoFar, WereBegun};
+ghost use Rattle.cm_server.specs.inner.Counting.{AreCounts};
+ghost use Rattle.cm_server.specs.inner.Links.{AreOut, StayOut, in_hand, link_state};
 ghost use Rattle.cm_server.specs.inner.Passes.{IsReady};
 ghost use Rattle.cm_server.specs.inner.Sessions.{Start};
 
+use crate::report::counts::SessionCounts;
 use crate::sessions::beginning::{Begun, begin};
+use crate::sessions::ending::end_left;
 use crate::sessions::meet::Meet;
+use crate::sessions::places::{Placed, Places};
 use crate::shared::Shared;
 use cm_base::{AcceptFailed, Clock, Link, Listener, OutOfMemory};
 use nexus::Root;
 use recorder::Recorder;
-use std::collections::VecDeque;
 use std::sync::Wait;
-use std::thread::Scope;
+use std::thread::{Scope, Threads};
 
 /// Why no more connections are accepted.
 #[derive(Clone, Copy)]
@@ -24,18 +28,70 @@ pub(crate) enum AcceptEnd {
     All,
     /// An accept failed.
     Failed,
+    /// No more are wanted.
+    Asked,
     /// Memory was wanted.
     OutOfMemory,
 }
 
-impl From<OutOfMemory> for AcceptEnd {
-    ghost use Rattle.cm_server.specs.declared.sessions.accepting.AcceptEnd.{AcceptEnd};
+/// Why no more connections are accepted, with a link that was accepted, and of which no session was begun.
+#[derive(Drop)]
+pub(crate) struct Accepted<K: Link> {
+    pub(crate) end: AcceptEnd,
+    pub(crate) unserved: Option<K>,
+}
 
-    ghost from_gives = { λ _ e. e ≡ AcceptEnd.OutOfMemory };
-
-    fn from(_: OutOfMemory) -> AcceptEnd {
-        AcceptEnd::OutOfMemory
+impl<K: Link> Accepted<K> {
+    /// Each link that was accepted has a session.
+    fn served(end: AcceptEnd) -> Accepted<K>
+        ensures { result ≡ record { end = end; unserved = None } }
+    {
+        Accepted {
+            end,
+            unserved: None,
+        }
     }
+}
+
+/// A place for one more session, unless no more are wanted. While none is free it waits until a session has ended. Those
+/// that have are joined.
+fn free_place<
+    K: Link + Send + Drop,
+    L: Listener<Conn = K>,
+    R: Recorder + Drop,
+    C: Clock + Drop,
+    G: Meet,
+    W: Threads + Wait,
+>(
+    shared: &Shared<'_, R, C, G, W>,
+    root: &mut Root<R>,
+    listener: &mut L,
+    places: &mut Places<K, R, C>,
+    counts: &mut SessionCounts,
+) -> Option<u8>
+    requires so { HasCome (link_state K.left K.taken K.read_faults K.write_faults) C.shows shared.now.config shared.now.clock shared.now.term shared.now.world root.old
+        (L.ended listener.old) places.old.sessions.items counts.old }
+    requires out { AreOut (L.out listener.old) (length places.old.sessions.items) }
+    ensures goes_on { GoesOn (link_state K.left K.taken K.read_faults K.write_faults) C.shows shared.now.config shared.now.clock shared.now.term shared.now.world root.old root.new
+        (L.ended listener.old) (L.ended listener.new) places.old.sessions.items places.new.sessions.items counts.old counts.new }
+    ensures room { IfSome result (λ _. length places.new.sessions.items + length places.new.free.items < 256) }
+    ensures asked { IfNone result (shared.now.term ≡ Term.Open) }
+    ensures out { StayOut (L.out listener.old) (L.out listener.new) (length places.old.sessions.items) (length places.new.sessions.items) }
+    ensures coming { L.coming listener.new ≡ L.coming listener.old }
+    ensures faults { L.accept_faults listener.new ≡ L.accept_faults listener.old }
+{
+    for _ in shared.rt.forever() {
+        places.note(shared.board.take(shared.rt));
+        end_left(shared, root, listener, places, counts);
+        if shared.ends() {
+            return None;
+        }
+        if let Some(place) = places.place() {
+            return Some(place);
+        }
+        shared.board.wait(shared.rt);
+    }
+    unreachable!()
 }
 
 /// Accepts a connection and begins a session of it.
@@ -55,34 +111,42 @@ fn accept_one<
     root: &mut Root<R>,
     listener: &mut L,
     number: u32,
-) -> Result<Begun<K, R, C>, AcceptEnd>
+    place: u8,
+) -> Result<Begun<K, R, C>, Accepted<K>>
     requires ready { IsReady shared.now.world root.old }
     requires safe { G.SAFE ≡ true → R.EAGER ≡ true }
     requires number { root.old.made ≡ number }
     requires few { number < 4_294_967_295 }
     ensures begun { IfOk result (λ b. (s : Start)
-        × IsBegun (link_state K.left K.taken K.read_faults K.write_faults) C.shows shared.now.config shared.now.clock number s b
+        × IsBegun (link_state K.left K.taken K.read_faults K.write_faults) C.shows shared.now.config shared.now.clock s b
         × HasBegun shared.now.world number root.old root.new (L.coming listener.old) (L.coming listener.new) s) }
-    ensures refused { IfErr result (λ e. HasNotBegun shared.now.world root.old root.new (L.coming listener.old) (L.coming listener.new)) }
+    ensures refused { IfErr result (λ e. root.new ≡ root.old) }
     ensures out { IfOk result (λ b. L.out listener.new ≡ option_map suc (L.out listener.old)) }
-    ensures stays { IfErr result (λ e. L.out listener.new ≡ L.out listener.old) }
+    ensures stays { IfErr result (λ e. L.out listener.new ≡ option_map (λ n. n + in_hand e.unserved) (L.out listener.old)) }
+    ensures coming { IfErr result (λ e. e.end ≢ AcceptEnd.OutOfMemory → L.coming listener.new ≡ L.coming listener.old) }
+    ensures unserved { IfErr result (λ e. e.end ≢ AcceptEnd.OutOfMemory → e.unserved ≡ None) }
     ensures ended { L.ended listener.new ≡ L.ended listener.old }
     ensures sound { IfOk result (λ b. L.accept_faults listener.new ≡ L.accept_faults listener.old) }
-    ensures failed { IfErr result (λ e. HasFailed e (L.accept_faults listener.old) (L.accept_faults listener.new)) }
-    ensures more { IfErr result (λ e. e ≢ AcceptEnd.All) }
+    ensures failed { IfErr result (λ e. HasFailed e.end (L.accept_faults listener.old) (L.accept_faults listener.new)) }
+    ensures more { IfErr result (λ e. e.end ≢ AcceptEnd.All) }
+    ensures asked { IfErr result (λ e. e.end ≡ AcceptEnd.Asked → shared.now.term ≡ Term.Open) }
 {
-    let pass = shared.world.pass(shared.alloc, root)?;
-    match listener.accept() {
-        Ok(link) => Ok(begin(scope, shared, link, pass, number)),
-        Err(AcceptFailed) => {
-            shared.world.join(root, pass);
-            Err(AcceptEnd::Failed)
-        }
+    let link = match listener.accept() {
+        Ok(link) => link,
+        Err(AcceptFailed) if shared.ends() => return Err(Accepted::served(AcceptEnd::Asked)),
+        Err(AcceptFailed) => return Err(Accepted::served(AcceptEnd::Failed)),
+    };
+    match shared.world.pass(shared.alloc, root) {
+        Ok(pass) => Ok(begin(scope, shared, link, pass, number, place)),
+        Err(OutOfMemory) => Err(Accepted {
+            end: AcceptEnd::OutOfMemory,
+            unserved: Some(link),
+        }),
     }
 }
 
-/// Accepts so many connections, and begins a session of each, into a list that has room for them. The first has the
-/// nexus of this number.
+/// Accepts so many connections, and begins a session of each, the first of the nexus of this number. Sessions that have
+/// ended meanwhile are joined before the next one is accepted.
 pub(crate) fn accept_all<
     's,
     'a,
@@ -92,7 +156,7 @@ pub(crate) fn accept_all<
     R: Recorder + Drop + Send + Sync,
     C: Clock + Drop + Sync,
     G: Meet + Sync,
-    W: Wait + Sync,
+    W: Threads + Wait + Sync,
 >(
     scope: &Scope<'s, E>,
     shared: &'s Shared<'a, R, C, G, W>,
@@ -100,27 +164,31 @@ pub(crate) fn accept_all<
     listener: &mut L,
     first: u32,
     count: u32,
-    begun: &mut VecDeque<Begun<K, R, C>>,
-) -> AcceptEnd
+    places: &mut Places<K, R, C>,
+    counts: &mut SessionCounts,
+) -> Accepted<K>
     requires ready { IsReady shared.now.world root.old }
     requires safe { G.SAFE ≡ true → R.EAGER ≡ true }
     requires first { root.old.made ≡ first }
     requires few { first + count ≤ 4_294_967_295 }
-    requires none { begun.old.items ≡ [] }
-    requires room { count ≤ deque_capacity begun.old }
-    ensures begun { (starts : List Start)
-        × AreBegun (link_state K.left K.taken K.read_faults K.write_faults) C.shows shared.now.config shared.now.clock first starts begun.new.items
-        × HaveBegun shared.now.world first root.old root.new (L.coming listener.old) (L.coming listener.new) starts }
-    ensures count { WereBegun result count (length begun.new.items) }
-    ensures out { L.out listener.new ≡ option_map (λ n. n + length begun.new.items) (L.out listener.old) }
-    ensures ended { L.ended listener.new ≡ L.ended listener.old }
-    ensures failed { HasFailed result (L.accept_faults listener.old) (L.accept_faults listener.new) }
+    requires none { places.old.sessions.items ≡ [] }
+    requires counts { AreCounts [] counts.old }
+    ensures begun { (number : ℕ) × (rest : Option (List (List ℕ))) × WereBegun shared.now.term result.end count number
+        × (result.end ≢ AcceptEnd.OutOfMemory → rest ≡ L.coming listener.new)
+        × SoFar (link_state K.left K.taken K.read_faults K.write_faults) C.shows shared.now.config shared.now.clock shared.now.term shared.now.world first root.old root.new
+        (L.coming listener.old) rest (L.ended listener.old) (L.ended listener.new) places.new.sessions.items counts.new number }
+    ensures unserved { result.end ≢ AcceptEnd.OutOfMemory → result.unserved ≡ None }
+    ensures out { L.out listener.new ≡ option_map (λ n. n + (length places.new.sessions.items + in_hand result.unserved)) (L.out listener.old) }
+    ensures failed { HasFailed result.end (L.accept_faults listener.old) (L.accept_faults listener.new) }
 {
     for index in 0..count {
-        match accept_one(scope, shared, root, listener, first + index) {
-            Ok(one) => begun.push_back_reserved(one),
+        let Some(place) = free_place(shared, root, listener, places, counts) else {
+            return Accepted::served(AcceptEnd::Asked);
+        };
+        match accept_one(scope, shared, root, listener, first + index, place) {
+            Ok(begun) => places.add(Placed { place, begun }),
             Err(end) => return end,
         }
     }
-    AcceptEnd::All
+    Accepted::served(AcceptEnd::All)
 }

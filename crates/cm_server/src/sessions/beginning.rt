@@ -1,5 +1,5 @@
 // One session: how it is begun, and what comes back of it.
-ghost use Rattle.std.specs.Prelude.{◌≡◌, Some, ℕ, true};
+ghost use Rattle.std.specs.Prelude.{◌≡◌, Some, true};
 ghost use Rattle.cm_base.specs.Configuration.{Configuration};
 ghost use Rattle.cm_history.specs.declared.act.Actor.{Actor};
 ghost use Rattle.cm_server.specs.inner.Begun.{HasEnded, IsBegun, session_of};
@@ -40,8 +40,8 @@ impl<K: Link, R: Recorder + Drop, C: Clock> Promise<Ended<K, R>> for SessionOf<K
     ghost use Rattle.cm_server.specs.inner.Begun.{HasEnded, session_of};
     ghost use Rattle.cm_server.specs.inner.Links.{link_state};
 
-    ghost kept_by = { λ p r. HasEnded p.pass.value.config (C.shows p.clock.value) p.number
-        (session_of (link_state K.left K.taken K.read_faults K.write_faults p.link.value) p.pass.value
+    ghost kept_by = { λ p r. HasEnded p.pass.value.config (C.shows p.clock.value)
+        (session_of p.number (link_state K.left K.taken K.read_faults K.write_faults p.link.value) p.pass.value
         (link_state K.left K.taken K.read_faults K.write_faults r.link) r.pass r.end) };
 }
 
@@ -64,8 +64,8 @@ fn talk<B: Origin, K: Link + Drop, R: Recorder + Drop, C: Clock + Drop, G: Meet,
     requires safe { G.SAFE ≡ true → R.EAGER ≡ true }
     requires free { IsFree shared.now.world pass }
     requires actor { pass.ticket.actor ≡ Actor.Nexus number }
-    ensures { HasEnded shared.now.config (C.shows shared.now.clock) number
-        (session_of (link_state K.left K.taken K.read_faults K.write_faults link) pass
+    ensures { HasEnded shared.now.config (C.shows shared.now.clock)
+        (session_of number (link_state K.left K.taken K.read_faults K.write_faults link) pass
         (link_state K.left K.taken K.read_faults K.write_faults result.link) result.pass result.end) }
 {
     let mut link = Met::new(link, shared.meet, number);
@@ -98,21 +98,24 @@ fn talk<B: Origin, K: Link + Drop, R: Recorder + Drop, C: Clock + Drop, G: Meet,
     }
 }
 
-/// Serves one connection by a pass of its own.
+/// Serves one connection by a pass of its own, and then says on the board that the session at this place has ended.
 fn run<K: Link + Drop, R: Recorder + Drop, C: Clock + Drop, G: Meet, W: Wait>(
     shared: &Shared<'_, R, C, G, W>,
     link: K,
     pass: Pass<R>,
     number: u32,
+    place: u8,
 ) -> Ended<K, R>
     requires safe { G.SAFE ≡ true → R.EAGER ≡ true }
     requires free { IsFree shared.now.world pass }
     requires actor { pass.ticket.actor ≡ Actor.Nexus number }
-    ensures { HasEnded shared.now.config (C.shows shared.now.clock) number
-        (session_of (link_state K.left K.taken K.read_faults K.write_faults link) pass
+    ensures { HasEnded shared.now.config (C.shows shared.now.clock)
+        (session_of number (link_state K.left K.taken K.read_faults K.write_faults link) pass
         (link_state K.left K.taken K.read_faults K.write_faults result.link) result.pass result.end) }
 {
-    talk::<Brand, K, R, C, G, W>(shared, link, pass, number)
+    let ended = talk::<Brand, K, R, C, G, W>(shared, link, pass, number);
+    shared.board.leave(shared.rt, place);
+    ended
 }
 
 /// Begins a session.
@@ -131,12 +134,13 @@ pub(crate) fn begin<
     link: K,
     pass: Pass<R>,
     number: u32,
+    place: u8,
 ) -> Begun<K, R, C>
     requires safe { G.SAFE ≡ true → R.EAGER ≡ true }
     requires free { IsFree shared.now.world pass }
     requires actor { pass.ticket.actor ≡ Actor.Nexus number }
-    ensures { IsBegun (link_state K.left K.taken K.read_faults K.write_faults) C.shows shared.now.config shared.now.clock number
-        (record { link = link_state K.left K.taken K.read_faults K.write_faults link; pass = pass }) result }
+    ensures { IsBegun (link_state K.left K.taken K.read_faults K.write_faults) C.shows shared.now.config shared.now.clock
+        (record { nexus = number; link = link_state K.left K.taken K.read_faults K.write_faults link; pass = pass }) result }
 {
     let fact = SessionOf {
         link: Snapshot::of(&link),
@@ -148,10 +152,10 @@ pub(crate) fn begin<
         requires safe { G.SAFE ≡ true → R.EAGER ≡ true }
         requires free { IsFree shared.now.world pass }
         requires actor { pass.ticket.actor ≡ Actor.Nexus number }
-        ensures { HasEnded shared.entry.now.config (C.shows shared.entry.now.clock) number
-            (session_of (link_state K.left K.taken K.read_faults K.write_faults link) pass
+        ensures { HasEnded shared.entry.now.config (C.shows shared.entry.now.clock)
+            (session_of number (link_state K.left K.taken K.read_faults K.write_faults link) pass
             (link_state K.left K.taken K.read_faults K.write_faults result.link) result.pass result.end) }
-    { run(shared, link, pass, number) };
+    { run(shared, link, pass, number, place) };
     match scope.spawn_with(fact, session) {
         Ok(child) => Begun::Runs(child),
         Err(refused) => Begun::Done((refused.value)()),
@@ -163,9 +167,9 @@ pub(crate) fn finish<K: Link, R: Recorder + Drop, C: Clock, W: Threads>(
     rt: &W,
     begun: Begun<K, R, C>,
 ) -> Ended<K, R>
-    ensures { (config : Configuration) (clock : C) (number : ℕ) (start : Start)
-        → IsBegun (link_state K.left K.taken K.read_faults K.write_faults) C.shows config clock number start begun
-        → HasEnded config (C.shows clock) number (session_of start.link start.pass (link_state K.left K.taken K.read_faults K.write_faults result.link) result.pass result.end) }
+    ensures { (config : Configuration) (clock : C) (start : Start)
+        → IsBegun (link_state K.left K.taken K.read_faults K.write_faults) C.shows config clock start begun
+        → HasEnded config (C.shows clock) (session_of start.nexus start.link start.pass (link_state K.left K.taken K.read_faults K.write_faults result.link) result.pass result.end) }
 {
     match begun {
         Begun::Runs(child) => child.join(rt),

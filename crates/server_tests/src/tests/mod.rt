@@ -1,5 +1,6 @@
 mod links;
 mod listening;
+mod managing;
 mod meeting;
 mod memory;
 mod recorded;

@@ -9,7 +9,7 @@ use recorder::{MemoryRecorder, RecordRefused, Recorder};
 use std::str;
 
 /// The small unit with a record of 6 entries.
-const SHORT: &str =
+pub(super) const SHORT: &str =
     "434d545241434531000102030405060708090a0b0c0d0e0f101112131415161718191a1b1c1d1e1f0001\
 0000000000000064000002000000000600000000000000641000000000000000";
 

@@ -1,4 +1,4 @@
-use Rattle.std.proofs.Common.{ℕ, List, []}
+use Rattle.std.proofs.Common.{List, []}
 use Rattle.cm_base.specs.Configuration.{Configuration}
 use Rattle.cm_history.specs.declared.act.Entry.{Entry}
 use Rattle.cm_server.proofs.Apart.{apart-own, rise-behind}

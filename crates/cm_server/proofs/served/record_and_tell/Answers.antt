@@ -13,5 +13,5 @@ returns-in-OutOfMemory-clause-back g c =
     all-same (finals (facts g.R.Recorder.recorded g.R.Recorder.record_faults g.R.Recorder.absent g.R.Recorder.front) c.args.left.now.units.items)
 
 pub returns-clause-told : goal.returns-clause-told
-returns-clause-told g c = λ asked ends ran.
-    if-reported c.tell.result _ _ (λ told. (c.in-Ok.kept, c.in-Ok.ensures.recorded, told)) (c.tell.ensures.told asked ends ran)
+returns-clause-told g c = λ term asked ends ran.
+    if-reported c.tell.result _ _ (λ told. (c.in-Ok.kept, c.in-Ok.ensures.recorded, told)) (c.tell.ensures.told term asked ends ran)

@@ -18,7 +18,7 @@ use Rattle.cm_server.proofs.sessions.beginning.talk.Goals as goal
 has-ended : (config : Configuration) (Shows : ℕ → Type 0) (n : ℕ) (first : Option PassView) (pass after : PassView) (a b : LinkState) (end : SessionEnd)
     → first ≡ Some pass
     → (Settled : Type 0) → Spoken step config n Shows (λ (calls : List Call). IfSome first (λ p. Led p calls after)) Settled [] a.left b.left a.taken b.taken end
-    → AreSettlesCounted 0 0 end.fault → IsCounted a.reads b.reads a.writes b.writes end.fault → end.frames ≤ frames_limit → HasEnded config Shows n (session_of a pass b after end)
+    → AreSettlesCounted 0 0 end.fault → IsCounted a.reads b.reads a.writes b.writes end.fault → end.frames ≤ frames_limit → HasEnded config Shows (session_of n a pass b after end)
 has-ended config Shows n first pass after a b end is Settled s settles counted few = record {
   session = record {
     spoken = record {
@@ -66,5 +66,5 @@ returns g c =
     let last : state pulled ≡ state c.into_link.result =
     same-state (state pulled) (state closed) (sym c.close.ensures.left) (sym c.close.ensures.taken) (sym c.close.ensures.reads) (sym c.close.ensures.writes)
     ∙ ap state (sym c.into_link.ensures) in
-    subst (λ (l : LinkState). HasEnded config Shows c.args.number (session_of l c.args.pass (state c.into_link.result) after end)) (ap state c.new-link.ensures)
-    (subst (λ (l : LinkState). HasEnded config Shows c.args.number (session_of (state met) c.args.pass l after end)) last ended)
+    subst (λ (l : LinkState). HasEnded config Shows (session_of c.args.number l c.args.pass (state c.into_link.result) after end)) (ap state c.new-link.ensures)
+    (subst (λ (l : LinkState). HasEnded config Shows (session_of c.args.number (state met) c.args.pass l after end)) last ended)

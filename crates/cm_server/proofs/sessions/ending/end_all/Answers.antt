@@ -1,60 +1,104 @@
-use Rattle.std.proofs.Common.{length, refl, ap, sym, ◌∙◌}
+use Rattle.std.proofs.Common.{length, suc, ap, refl, sym, subst, ◌∙◌}
+use Rattle.cm_server.specs.inner.Begun.{GoesOn}
 use Rattle.cm_server.specs.inner.Links.{link_state}
-use Rattle.cm_server.proofs.Ends.{ends-none, ends-one, ends-all, next-free, next-few, out-all, out-less, out-next}
+use Rattle.cm_server.proofs.Ends.{come-may, come-on, goes-ended, goes-none, goes-then}
+use Rattle.cm_server.proofs.Out.{are-as, out-after, out-as, out-less, out-one, out-same, out-then}
 use Rattle.cm_server.proofs.sessions.ending.end_all.Goals as goal
 
 pub loop-one-init : goal.loop-one-init
-loop-one-init g c = (
-  ends-none (link_state g.K.Source.left g.K.Sink.taken g.K.Source.read_faults g.K.Sink.write_faults) g.C.Clock.shows c.args.shared.now.config c.args.shared.now.clock
-      c.args.shared.now.world c.args.root.now (g.L.Listener.ended c.args.listener.now) c.args.begun.items c.none-counts.result c.requires.begun c.requires.ready c.none-counts.ensures
-      c.requires.few,
-  c.requires.out,
-  refl,
-  refl,
-  refl,
-)
-
-pub join-requires-clause-pass : goal.join-requires-clause-pass
-join-requires-clause-pass g c =
+loop-one-init g c =
     let state = link_state g.K.Source.left g.K.Sink.taken g.K.Source.read_faults g.K.Sink.write_faults in
-    (next-free state g.C.Clock.shows c.args.shared.now.config c.args.shared.now.clock c.args.shared.now.world c.loop-one.root c.loop-one.begun.items c.in-Some.one
-    c.pop_front.new.self.items c.loop-one.counts (state c.finish-link.result.link) c.finish-link.result.pass c.finish-link.result.end c.in-Some.ensures.items
-    c.loop-one.invariant.0.are_left (c.finish-link.ensures c.args.shared.now.config c.args.shared.now.clock)).of
+    let shows = g.C.Clock.shows in
+    let config = c.args.shared.now.config in
+    let clock = c.args.shared.now.clock in
+    let term = c.args.shared.now.term in
+    let world = c.args.shared.now.world in
+    let gone = g.L.Listener.ended in
+    let out = g.L.Listener.out in (
+      goes-none state shows config clock term world c.args.root.now (gone c.args.listener.now) c.args.places.sessions.items c.args.counts.now,
+      out-same (out c.args.listener.now) (length c.args.places.sessions.items),
+      refl,
+      refl,
+    )
 
-pub join-requires-clause-free : goal.join-requires-clause-free
-join-requires-clause-free g c =
+pub end_one-requires-clause-may : goal.end_one-requires-clause-may
+end_one-requires-clause-may g c κs within =
     let state = link_state g.K.Source.left g.K.Sink.taken g.K.Source.read_faults g.K.Sink.write_faults in
-    (next-free state g.C.Clock.shows c.args.shared.now.config c.args.shared.now.clock c.args.shared.now.world c.loop-one.root c.loop-one.begun.items c.in-Some.one
-    c.pop_front.new.self.items c.loop-one.counts (state c.finish-link.result.link) c.finish-link.result.pass c.finish-link.result.end c.in-Some.ensures.items
-    c.loop-one.invariant.0.are_left (c.finish-link.ensures c.args.shared.now.config c.args.shared.now.clock)).free
+    let shows = g.C.Clock.shows in
+    let config = c.args.shared.now.config in
+    let clock = c.args.shared.now.clock in
+    let term = c.args.shared.now.term in
+    let world = c.args.shared.now.world in
+    let gone = g.L.Listener.ended in
+    let out = g.L.Listener.out in
+    come-may state shows config clock term world c.loop-one.root (gone c.loop-one.listener) c.loop-one.places.sessions.items c.in-Some.one c.first.new.self.sessions.items c.loop-one.counts c.in-Some.ensures.some
+    (come-on state shows config clock term world c.args.root.now c.loop-one.root (gone c.args.listener.now) (gone c.loop-one.listener) c.args.places.sessions.items c.loop-one.places.sessions.items
+    c.args.counts.now c.loop-one.counts c.requires.so c.loop-one.invariant.0)
 
-pub add-requires-clause-frames : goal.add-requires-clause-frames
-add-requires-clause-frames g c =
+pub end_one-requires-clause-out : goal.end_one-requires-clause-out
+end_one-requires-clause-out g c κs within =
     let state = link_state g.K.Source.left g.K.Sink.taken g.K.Source.read_faults g.K.Sink.write_faults in
-    next-few state g.C.Clock.shows c.args.shared.now.config c.args.shared.now.clock c.args.shared.now.world c.loop-one.root c.loop-one.begun.items c.in-Some.one
-    c.pop_front.new.self.items c.loop-one.counts (state c.finish-link.result.link) c.finish-link.result.pass c.finish-link.result.end c.in-Some.ensures.items
-    c.loop-one.invariant.0.are_left (c.finish-link.ensures c.args.shared.now.config c.args.shared.now.clock)
+    let shows = g.C.Clock.shows in
+    let config = c.args.shared.now.config in
+    let clock = c.args.shared.now.clock in
+    let term = c.args.shared.now.term in
+    let world = c.args.shared.now.world in
+    let gone = g.L.Listener.ended in
+    let out = g.L.Listener.out in
+    let items = c.loop-one.places.sessions.items in
+    let left = c.first.new.self.sessions.items in
+    out-one (out c.loop-one.listener) (length left)
+    (are-as (out c.loop-one.listener) (length items) (suc (length left)) (ap length c.in-Some.ensures.some)
+    (out-after (out c.args.listener.now) (out c.loop-one.listener) (length c.args.places.sessions.items) (length items) c.requires.out c.loop-one.invariant.1))
 
 pub loop-one-preserved : goal.loop-one-preserved
 loop-one-preserved g c =
-    let state = link_state g.K.Source.left g.K.Sink.taken g.K.Source.read_faults g.K.Sink.write_faults in (
-      ends-one state g.C.Clock.shows c.args.shared.now.config c.args.shared.now.clock c.args.shared.now.world c.args.root.now c.loop-one.root c.join.new.root
-          (g.L.Listener.ended c.args.listener.now) (g.L.Listener.ended c.loop-one.listener) (g.L.Listener.ended c.done.new.self) c.args.begun.items c.loop-one.begun.items c.in-Some.one
-          c.pop_front.new.self.items c.loop-one.counts c.add.new.self (state c.finish-link.result.link) c.finish-link.result.pass c.finish-link.result.end c.in-Some.ensures.items
-          c.loop-one.invariant.0 (c.finish-link.ensures c.args.shared.now.config c.args.shared.now.clock) c.join.ensures.taken c.done.ensures.ended c.add.ensures,
-      out-less (length c.loop-one.begun.items) (length c.pop_front.new.self.items) (g.L.Listener.out c.loop-one.listener) (g.L.Listener.out c.done.new.self)
-          (ap length c.in-Some.ensures.items) c.loop-one.invariant.1 c.done.ensures.out,
-      c.done.ensures.coming ∙ c.loop-one.invariant.2,
-      c.done.ensures.faults ∙ c.loop-one.invariant.3,
-      out-next (length c.loop-one.begun.items) (length c.pop_front.new.self.items) (g.L.Listener.out c.loop-one.listener) (g.L.Listener.out c.done.new.self)
-          (ap length c.in-Some.ensures.items) c.done.ensures.out ∙ c.loop-one.invariant.4,
+    let state = link_state g.K.Source.left g.K.Sink.taken g.K.Source.read_faults g.K.Sink.write_faults in
+    let shows = g.C.Clock.shows in
+    let config = c.args.shared.now.config in
+    let clock = c.args.shared.now.clock in
+    let term = c.args.shared.now.term in
+    let world = c.args.shared.now.world in
+    let gone = g.L.Listener.ended in
+    let out = g.L.Listener.out in
+    let items = c.loop-one.places.sessions.items in
+    let left = c.first.new.self.sessions.items in
+    let next = c.end_one.new in
+    let step : GoesOn state shows config clock term world c.loop-one.root next.root (gone c.loop-one.listener) (gone next.listener) items left c.loop-one.counts next.counts =
+    subst (λ l. GoesOn state shows config clock term world c.loop-one.root next.root (gone c.loop-one.listener) (gone next.listener) l left c.loop-one.counts next.counts) (sym c.in-Some.ensures.some)
+    (goes-ended state shows config clock term world c.loop-one.root next.root (gone c.loop-one.listener) (gone next.listener) c.in-Some.one left c.loop-one.counts next.counts c.end_one.ensures.ended) in
+    let both = goes-then state shows config clock term world c.args.root.now c.loop-one.root next.root (gone c.args.listener.now) (gone c.loop-one.listener) (gone next.listener)
+    c.args.places.sessions.items items left c.args.counts.now c.loop-one.counts next.counts c.loop-one.invariant.0 step in
+    let less = out-as (out c.loop-one.listener) (out next.listener) (suc (length left)) (length items) (length left) (length left) (sym (ap length c.in-Some.ensures.some)) refl
+    (out-less (out c.loop-one.listener) (out next.listener) (length left) c.end_one.ensures.out) in (
+      both,
+      out-then (out c.args.listener.now) (out c.loop-one.listener) (out next.listener) (length c.args.places.sessions.items) (length items) (length left) c.loop-one.invariant.1 less,
+      c.end_one.ensures.coming ∙ c.loop-one.invariant.2,
+      c.end_one.ensures.faults ∙ c.loop-one.invariant.3,
     )
 
-pub returns-clause-ended : goal.returns-clause-ended
-returns-clause-ended g c =
-    ends-all (link_state g.K.Source.left g.K.Sink.taken g.K.Source.read_faults g.K.Sink.write_faults) g.C.Clock.shows c.args.shared.now.config c.args.shared.now.clock
-    c.args.shared.now.world c.args.root.now c.loop-one.root (g.L.Listener.ended c.args.listener.now) (g.L.Listener.ended c.loop-one.listener) c.args.begun.items c.loop-one.begun.items
-    c.loop-one.counts (sym c.loop-one.begun.ok.0 ∙ c.in_default.ensures.cases.0) c.args.shared.now.same c.loop-one.invariant.0
+pub returns-clause-goes_on : goal.returns-clause-goes_on
+returns-clause-goes_on g c =
+    let state = link_state g.K.Source.left g.K.Sink.taken g.K.Source.read_faults g.K.Sink.write_faults in
+    let shows = g.C.Clock.shows in
+    let config = c.args.shared.now.config in
+    let clock = c.args.shared.now.clock in
+    let term = c.args.shared.now.term in
+    let world = c.args.shared.now.world in
+    let gone = g.L.Listener.ended in
+    let out = g.L.Listener.out in
+    subst (λ l. GoesOn state shows config clock term world c.args.root.now c.loop-one.root (gone c.args.listener.now) (gone c.loop-one.listener) c.args.places.sessions.items l
+    c.args.counts.now c.loop-one.counts) c.in_default.ensures.none_before c.loop-one.invariant.0
 
 pub returns-clause-out : goal.returns-clause-out
-returns-clause-out g c = out-all (length c.loop-one.begun.items) (g.L.Listener.out c.loop-one.listener) (sym c.loop-one.begun.ok.0 ∙ c.in_default.ensures.cases.0) ∙ c.loop-one.invariant.4
+returns-clause-out g c =
+    let state = link_state g.K.Source.left g.K.Sink.taken g.K.Source.read_faults g.K.Sink.write_faults in
+    let shows = g.C.Clock.shows in
+    let config = c.args.shared.now.config in
+    let clock = c.args.shared.now.clock in
+    let term = c.args.shared.now.term in
+    let world = c.args.shared.now.world in
+    let gone = g.L.Listener.ended in
+    let out = g.L.Listener.out in
+    out-as (out c.args.listener.now) (out c.loop-one.listener) (length c.args.places.sessions.items) (length c.args.places.sessions.items) (length c.loop-one.places.sessions.items) 0 refl
+    (ap length c.in_default.ensures.none_before) c.loop-one.invariant.1
