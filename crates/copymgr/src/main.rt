@@ -1,5 +1,6 @@
 // The program: replays a recorded trace from standard input to standard output, or a generated one, checks the replies
-// that were recorded with a trace, copies blocks as a host does, or serves connections, with or without journals.
+// that were recorded with a trace, copies blocks as a host does, or serves connections, with or without journals, or until
+// it is asked to end.
 #![tactic(auto)]
 
 mod announced;
@@ -20,11 +21,13 @@ mod journal_cause;
 mod journal_files;
 #[cfg(test)]
 mod journal_tests;
+mod managing;
 mod order;
 mod ready;
 #[cfg(test)]
 mod ready_tests;
 mod report_output;
+mod requests;
 #[cfg(test)]
 mod rows;
 mod serving;
@@ -47,6 +50,7 @@ mod unkept_tests;
 use cm_base::{OutOfMemory, StandardInput, StandardOutput, Word};
 use ending::Ending;
 use hosting::{are_hosting, host_words};
+use managing::{are_managing, manage_words};
 use ready::{Empty, ReadyMemory, make_ready};
 use rtrb::RingBuffer;
 use serving::{are_serving, serve_words};
@@ -103,7 +107,10 @@ fn work<R: Threads + Wait + Input + Print + Sync>(
 }
 
 /// Does what the command line says. Words that are no text are words that the program doesn't know.
-fn run<R: Threads + Wait + Input + Print + Sync>(rt: &R, host: &HostRuntime) -> Ending {
+fn run<R: Threads + Wait + Input + Print + Copy + Send + Sync + 'static>(
+    rt: &R,
+    host: &HostRuntime,
+) -> Ending {
     let args = match env::args(host) {
         Ok(args) => args,
         Err(error) => return Ending::new(unread(error)),
@@ -112,6 +119,7 @@ fn run<R: Threads + Wait + Input + Print + Sync>(rt: &R, host: &HostRuntime) -> 
         Ok(words) if are_hosting(&words) => host_words(host, host.alloc(), &words),
         Ok(words) if are_serving(&words) => serve_words(rt, host, host.alloc(), &words),
         Ok(words) if are_storing(&words) => store_words(rt, host, host.alloc(), &words),
+        Ok(words) if are_managing(&words) => manage_words(rt, host, host.alloc(), &words),
         Ok(words) => Ending::new(work(rt, host.alloc(), &words).unwrap_or(Status::OutOfMemory)),
         Err(OutOfMemory) => Ending::new(Status::OutOfMemory),
     }

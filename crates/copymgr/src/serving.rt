@@ -12,7 +12,7 @@ use cm_frame::read_header;
 use cm_server::{serve, serve_with};
 use std::alloc::Global;
 use std::io::{self, Input};
-use std::net::TcpListener;
+use std::net::{SocketAddr, TcpListener};
 use std::str;
 use std::sync::Wait;
 use std::thread::Threads;
@@ -70,9 +70,24 @@ pub fn begin<'a>(
     let Some(count) = read_all(&mut StandardInput::new(host.reader()), room) else {
         return Err(Ending::new(Status::ReadFault));
     };
+    let (listener, _) = listen(host, alloc, address)?;
+    Ok((count, listener))
+}
+
+/// Listens at the address: the listener, and where it listens, or how the program ends without it. Where the system picks
+/// the port, which one is said before the first connection is accepted.
+pub fn listen<'a>(
+    host: &'a HostRuntime,
+    alloc: Global,
+    address: &Word,
+) -> Result<(Announced<'a>, Option<SocketAddr>), Ending> {
     let address = text(address);
     match TcpListener::bind(host, address) {
-        Ok(listener) => Ok((count, Announced::new(host, listener, picks_port(address)))),
+        Ok(listener) => {
+            let place = listener.local_addr().ok();
+            let connections = Announced::new(host, listener, picks_port(address));
+            Ok((connections, place))
+        }
         Err(error) => Err(Ending::told(alloc, Status::AcceptFault, address, &error)),
     }
 }
