@@ -144,12 +144,13 @@ def unit_option():
 
 
 SECRET = ("--secret", {"type": secret, "help": "64 hexadecimal digits from which the texts of tokens come; random if left out"})
+TEXT = ("--text", {"action": "store_true", "help": "the units alone, as a text for people, which is no trace"})
 
 
 def kinds():
     """Each word with what does it, what it is for, and its options."""
     return {
-        "new": (new, "begins a trace of new units", [unit_option(), SECRET]),
+        "new": (new, "begins a trace of new units", [unit_option(), SECRET, TEXT]),
         "read": (read, "reads blocks, to standard output", [
             LUN, LBA, COUNT,
             ("--out", {"help": "to a file, which is there only when all was read"}),
@@ -319,7 +320,7 @@ def new(words):
         raise ValueError(f"a trace has at most {frames.UNITS_LIMIT} units")
     machine = frames.Machine(words.secret or secrets.token_bytes(32), words.unit)
     with open(words.device, "xb") as file:
-        file.write(frames.header_bytes(machine))
+        file.write(frames.header_text(machine) if words.text else frames.header_bytes(machine))
 
 
 class OutputFailed(Exception):

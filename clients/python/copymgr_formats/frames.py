@@ -29,6 +29,14 @@ def header_bytes(machine):
     return b"CMTRACE1" + machine.secret + struct.pack(">H", len(units)) + b"".join(units)
 
 
+def header_text(machine):
+    """The text for people that means the same header."""
+    lines = [f'secret = "{machine.secret.hex()}"']
+    for shape in machine.shapes:
+        lines += ["", "[[unit]]", *(f"{key} = {number}" for key, number in shape._asdict().items())]
+    return "".join(f"{line}\n" for line in lines).encode()
+
+
 def bad_field(shape, spare):
     """The place in a unit's part of the first field that breaks its limit, if one does."""
     fields = [

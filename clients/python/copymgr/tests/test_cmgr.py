@@ -6,9 +6,10 @@ import pty
 import struct
 import subprocess
 import tempfile
+import tomllib
 import unittest
 
-from copymgr.wire import PLAIN_REPLAY, PLAIN_SERVE, TOP
+from copymgr.wire import PLAIN_REPLAY, PLAIN_SERVE, TOP, frames
 
 from .support import NO_PROGRAM, PROGRAM, PROGRAM_SERVER, server_for
 
@@ -171,6 +172,15 @@ class Traces(unittest.TestCase):
             found.append((self.folder / name).read_bytes()[8:40])
         self.assertEqual(found[3], b"Z" * 32)
         self.assertEqual(len(set(found)), 4)
+
+    def test_units_as_a_text(self):
+        words = ["--unit", "64M/4096", "--unit", "5", "--secret", "5a" * 32]
+        for name, more in [("trace", []), ("text", ["--text"])]:
+            self.good("new", str(self.folder / name), *words, *more)
+        told = tomllib.loads((self.folder / "text").read_text())
+        machine, _ = frames.read_header((self.folder / "trace").read_bytes())
+        self.assertEqual(told, {"secret": "5a" * 32, "unit": [shape._asdict() for shape in machine.shapes]})
+        self.bad(15, "no whole trace, at byte 0", "readcap", str(self.folder / "text"))
 
     def test_what_was_written(self):
         data = bytes(512) * 3000

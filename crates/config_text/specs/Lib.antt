@@ -1,0 +1,4 @@
+pub mod Meaning
+pub mod Files
+pub mod Lines
+pub mod inner
