@@ -5,5 +5,6 @@
     clients.py    a client: commands whose replies it can tell, and commands of all kinds
     hostile.py    connections that do what no client should
     memory.py     what the program has, and what it may need
+    counted.py    what came and went at a manager, counted
     results.py    what held, and what did not
 """

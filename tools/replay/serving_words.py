@@ -1,12 +1,14 @@
 """The words of the plain servers: what they read, where they listen, and how they end. The statuses are copymgr's."""
 
 import os
+import pathlib
 import signal
 import sys
+import threading
 
 from copymgr_formats.senses import BadInput
 
-from . import serving
+from . import managing, serving
 from .player import line_of
 
 DONE, READ_FAULT, WRITE_FAULT, USAGE, ACCEPT_FAULT = 0, 1, 2, 6, 9
@@ -80,12 +82,38 @@ def write(report):
         raise Ending(WRITE_FAULT, "write failed") from None
 
 
+def manage(address, file):
+    """Serves connections at an address to units of the configuration in a file, until a request asks for the end, and
+    reports."""
+    try:
+        data = pathlib.Path(file).read_bytes()
+    except OSError as error:
+        raise Ending(READ_FAULT, "read failed", f"{file}: {error.strerror}") from None
+    with listening(address) as listener:
+        manager = managing.Manager(machine_of(data))
+        serving.tell_address(listener, address, say)
+        place = listener.getsockname()[:2]
+        threading.Thread(target=manager.read_requests, args=(place,), daemon=True).start()
+        manager.manage(listener)
+    write(manager.report())
+
+
 def run(address, sessions, new_server):
+    """Serves as a program, and ends it."""
+    end_with(lambda: serve(address, sessions, new_server))
+
+
+def run_manager(address, file):
+    """Manages as a program, and ends it."""
+    end_with(lambda: manage(address, file))
+
+
+def end_with(work):
     """Does it as a program, and ends it. An interrupt ends it at once, as it does any program."""
     signal.signal(signal.SIGINT, signal.SIG_DFL)
     status = DONE
     try:
-        serve(address, sessions, new_server)
+        work()
     except Ending as ending:
         status = ending.status
         for line in (ending.line, ending.cause):

@@ -16,8 +16,8 @@ TEXT = b"unit 0 blocks=100\ni1 lun=0 write-16 lba=0 data=11*512,22*512 go\ni1 lu
 TOOLS = [
     "tools/people/trace", "tools/people/plain-replay", "tools/people/row", "tools/campaigns/random-traces", "tools/proofs/run-tests",
     "tools/campaigns/fail-allocations", "tools/proofs/check-repository", "tools/campaigns/random-sessions", "tools/people/plain-serve",
-    "tools/campaigns/serving-load", "tools/campaigns/fuzz", "tools/campaigns/iscsi-clients", "clients/iscsi/iscsi-target", "bench/run",
-    "bench/run-sessions", "bench/generate.py", "bench/run-serving", "bench/floor.py", "tools/campaigns/served-history",
+    "tools/people/plain-manage", "tools/campaigns/serving-load", "tools/campaigns/managing-load", "tools/campaigns/fuzz",
+    "tools/campaigns/iscsi-clients", "clients/iscsi/iscsi-target", "bench/run", "bench/run-sessions", "bench/generate.py", "bench/run-serving", "bench/floor.py", "tools/campaigns/served-history",
     "bench/run-kept", "bench/run-commands", "bench/run-tokens",
 ]
 
@@ -118,7 +118,7 @@ class Words(unittest.TestCase):
         for words in nonesuch + [["trace"], ["trace", "foo"], ["row", "trace", "none"]]:
             with self.subTest(words=words):
                 output, said, status = support.run(*words)
-                wanted = 6 if pathlib.Path(words[0]).name in ("plain-serve", "plain-store") else 2
+                wanted = 6 if pathlib.Path(words[0]).name in ("plain-serve", "plain-store", "plain-manage") else 2
                 self.assertEqual((output, status, said.count("\n")), (b"", wanted, 1), said)
 
 

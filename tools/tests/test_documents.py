@@ -17,7 +17,8 @@ from . import support
 PATIENCE = 300
 DOCUMENTS = ["docs/first-trace.md", "clients/python/README.md"]
 HELPS = [
-    "tools/people/trace", "tools/people/plain-replay", "tools/people/plain-serve", "tools/people/plain-store", "tools/people/row", "tools/proofs/headline",
+    "tools/people/trace", "tools/people/plain-replay", "tools/people/plain-serve", "tools/people/plain-store",
+    "tools/people/plain-manage", "tools/people/row", "tools/proofs/headline",
     "clients/python/cmgr", "clients/iscsi/iscsi-target",
 ]
 

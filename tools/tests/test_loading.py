@@ -5,7 +5,7 @@ import random
 import socket
 import unittest
 
-from copymgr.server import can_serve
+from copymgr.server import can_manage, can_serve
 from copymgr_formats import frames
 from loading import bounds, clients
 from loading.tallies import Row, Tallies
@@ -95,6 +95,19 @@ class Tool(unittest.TestCase):
         lines = said.decode().splitlines()
         self.assertEqual((lines[-1].split()[1:], why, status), (["passed,", "0", "failed"], "", 0), lines)
         self.assertEqual(len([line for line in lines if line.startswith(("most threads: ", "most files "))]), 4, lines)
+
+    def is_managed(self, program):
+        said, why, status = support.run("managing-load", program, "--connections", "300", "--places", "64")
+        lines = said.decode().splitlines()
+        self.assertEqual((lines[-1].split()[1:], why, status), (["passed,", "0", "failed"], "", 0), lines)
+        self.assertTrue(lines[2].startswith("sessions: 300, and the clients counted 300"), lines)
+
+    def test_the_plain_manager(self):
+        self.is_managed("-")
+
+    @unittest.skipUnless(can_manage(support.PROGRAM), f"no program that manages at {support.PROGRAM}")
+    def test_the_manager(self):
+        self.is_managed(support.PROGRAM)
 
     def test_the_plain_server(self):
         self.is_served("-")

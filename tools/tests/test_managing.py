@@ -8,26 +8,29 @@ import tempfile
 import unittest
 
 from copymgr import Shape
-from copymgr.server import UnitReport, knows, report_of
+from copymgr.server import UnitReport, can_manage, report_of
 from copymgr_formats import cdbs, frames
 
 from . import support
 
-PROGRAM = support.PROGRAM if knows(support.PROGRAM, "manage", "127.0.0.1:0", "no-such-file") else None
+PROGRAM = support.PROGRAM if can_manage(support.PROGRAM) else None
 SECONDS = 60
 PLACES = 256
 READ = frames.request_bytes(frames.Request(0, cdbs.encode(0x88, lba=0, count=1), b""))
 ZEROS = 6 + 512  # bytes of the reply
 
 
-@unittest.skipUnless(PROGRAM, f"no program that manages at {support.PROGRAM}")
-class Managing(unittest.TestCase):
+class Managing:
+    """What a manager does that is started by these words."""
+
+    WORDS = []
+
     def start(self, stdin=subprocess.PIPE):
         folder = tempfile.TemporaryDirectory()
         self.addCleanup(folder.cleanup)
         file = pathlib.Path(folder.name, "units")
         file.write_bytes(frames.header_bytes(frames.Machine(frames.SECRET, [Shape(100)])))
-        words = [PROGRAM, "manage", "127.0.0.1:0", str(file)]
+        words = [*self.WORDS, "127.0.0.1:0", str(file)]
         self.program = subprocess.Popen(words, bufsize=0, stdin=stdin, stdout=subprocess.PIPE, stderr=subprocess.PIPE)
         self.addCleanup(self.end)
         said = self.program.stderr.readline().decode()
@@ -119,10 +122,19 @@ class Managing(unittest.TestCase):
         self.assertIsNone(self.program.poll())
 
     def test_a_file_that_is_not_there(self):
-        words = [PROGRAM, "manage", "127.0.0.1:0", "/no-such-file"]
+        words = [*self.WORDS, "127.0.0.1:0", "/no-such-file"]
         done = subprocess.run(words, stdin=subprocess.DEVNULL, capture_output=True, check=False)
         self.assertEqual((done.returncode, done.stdout), (1, b""))
         self.assertIn(b"copymgr: read failed\ncopymgr: /no-such-file: ", done.stderr)
+
+
+class PlainManaging(Managing, unittest.TestCase):
+    WORDS = [str(support.TOOLS / "people/plain-manage")]
+
+
+@unittest.skipUnless(PROGRAM, f"no program that manages at {support.PROGRAM}")
+class ProvedManaging(Managing, unittest.TestCase):
+    WORDS = [str(PROGRAM), "manage"]
 
 
 if __name__ == "__main__":

@@ -1,11 +1,13 @@
 """A program that serves, started here."""
 
 import collections
+import os
 import re
 import subprocess
+import tempfile
 
 from .errors import Ended
-from .wire import PLAIN_SERVE, PROGRAM, frames
+from .wire import PLAIN_MANAGE, PLAIN_SERVE, PROGRAM, frames
 
 # `kept` are the entries that were not written to a folder, where there was one
 Report = collections.namedtuple("Report", "sessions faults memory commands units total kept")
@@ -29,6 +31,15 @@ def can_serve(program):
 
 def can_store(program):
     return knows(program, "store", "127.0.0.1:0", "1", ".")
+
+
+def can_manage(program):
+    return knows(program, "manage", "127.0.0.1:0", "/no-such-file")
+
+
+def default_manager():
+    """The words by which the proved program manages, where it was built and can, or else the plain manager."""
+    return [str(PROGRAM), "manage"] if can_manage(PROGRAM) else [str(PLAIN_MANAGE)]
 
 
 def default_server():
@@ -85,6 +96,37 @@ class Server:
 
     def __exit__(self, *_):
         self.close()
+
+
+class Manager(Server):
+    """A program that serves units of these shapes, which forget, until it is asked to end: `WORDS ADDRESS FILE`.
+
+    Its `address` is where it serves.
+    """
+
+    def __init__(self, shapes, words=None, host="127.0.0.1"):
+        pipe = subprocess.PIPE
+        with tempfile.NamedTemporaryFile(prefix="units-", delete=False) as file:
+            file.write(frames.header_bytes(frames.Machine(frames.SECRET, list(shapes))))
+        try:
+            words = [*(words or default_manager()), f"{host}:0", file.name]
+            self.program = subprocess.Popen(words, bufsize=0, stdin=pipe, stdout=pipe, stderr=pipe)
+            self.address = self.told_address()
+        finally:
+            os.unlink(file.name)
+
+    def report(self, seconds=None):
+        """Asks for its end, waits for it, at most so long, and gives what it reports."""
+        output, said = self.program.communicate(b"end\n", timeout=seconds)
+        if self.program.returncode:
+            why = said.decode(errors="replace").strip()
+            raise Ended(f"the manager ended with status {self.program.returncode}: {why}")
+        return report_of(output.decode())
+
+    def close(self):
+        """Ends the program at once."""
+        super().close()
+        self.program.stdin.close()
 
 
 def report_of(text):

@@ -10,4 +10,5 @@ TOP = pathlib.Path(__file__).resolve().parents[3]
 
 PLAIN_REPLAY = TOP / "tools/people/plain-replay"
 PLAIN_SERVE = TOP / "tools/people/plain-serve"
+PLAIN_MANAGE = TOP / "tools/people/plain-manage"
 PROGRAM = TOP / "crates/copymgr/out/copymgr"

@@ -1,0 +1,93 @@
+"""A plain manager of units that forget: any number of connections, until a request asks for the end.
+
+It takes the words, the configuration, the requests and the frames that `copymgr manage` takes, and answers as it does. Its
+configuration is a header.
+"""
+
+import os
+import socket
+import sys
+import threading
+
+from . import serving
+from .unit import Unit
+
+PLACES = 256
+
+
+class ForgettingUnit(Unit):
+    """A unit that gives up each entry as soon as it was made."""
+
+    def act(self, actor, moment, act):
+        try:
+            return super().act(actor, moment, act)
+        finally:
+            self.folded = self.entries
+            self.payload = 0
+
+
+class Manager(serving.Server):
+    """Units that forget, served to connections that come and go, at most 256 at a time."""
+
+    def __init__(self, machine):
+        super().__init__(machine, units=[ForgettingUnit(machine, number) for number in range(len(machine.shapes))])
+        self.is_recorded = False
+        self.places = threading.Semaphore(PLACES)
+        self.changed = threading.Lock()
+        self.open = {}
+        self.ends = False
+
+    def manage(self, listener):
+        """Serves until the end was asked for, and those that are open have ended."""
+        pumps = [threading.Thread(target=self.pump_when_rung, args=(unit,)) for unit in self.units]
+        for pump in pumps:
+            pump.start()
+        self.accept_all(listener)
+        for session in list(self.open.values()):
+            session.join()
+        for bell, pump in zip(self.bells, pumps):
+            bell.end()
+            pump.join()
+        for unit in self.units:
+            self.pump(unit)
+
+    def accept_all(self, listener):
+        number = 0
+        while True:
+            self.places.acquire()
+            if self.ends:
+                return
+            link, _ = listener.accept()
+            if self.ends:
+                link.close()
+                return
+            link.setsockopt(socket.IPPROTO_TCP, socket.TCP_NODELAY, 1)
+            session = threading.Thread(target=self.one, args=(number, link))
+            with self.changed:
+                self.open[number] = session
+            session.start()
+            number += 1
+
+    def one(self, number, link):
+        self.session(number, link)
+        with self.changed:
+            del self.open[number]
+        link.close()
+        self.places.release()
+
+    def end(self, address):
+        """Asks for the end: an accept that waits returns, and who waits for a place has one."""
+        self.ends = True
+        self.places.release()
+        try:
+            socket.create_connection(address).close()
+        except OSError:
+            pass  # it listens no more
+
+    def read_requests(self, address):
+        """Answers what stands on standard input, up to a request that asks for the end."""
+        for line in sys.stdin.buffer:
+            if line == b"end\n":
+                self.end(address)
+                return
+            os.write(1, b"unknown\n\n")
