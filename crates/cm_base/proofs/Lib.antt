@@ -4,3 +4,4 @@ pub mod Windows
 pub mod Pushed
 pub mod FieldLaws
 pub mod PublicLaws
+pub mod Parts

@@ -14,6 +14,8 @@ mod memory_source;
 mod out_of_memory;
 mod output_buffer;
 mod parsed;
+mod part;
+mod payload;
 mod reservations;
 mod room;
 mod sequence;
@@ -38,15 +40,13 @@ pub use memory_source::MemorySource;
 pub use out_of_memory::OutOfMemory;
 pub use output_buffer::OutputBuffer;
 pub use parsed::Parsed;
+pub use payload::Payload;
 pub use reservations::{Holder, KeyList, ReservationAction};
 pub use room::SequenceRoom;
 pub use sequence::{Bytes, Sequence};
 pub use sink::{Sink, WriteFailed, push_all};
 pub use source::{ReadFailed, Source};
 pub use standard::{StandardInput, StandardOutput};
-pub use tcp::{TcpConnections, TcpLink};
+pub use tcp::{TcpCloser, TcpConnections, TcpLink};
 pub use units::{unit_descriptor, unit_name};
 pub use word::Word;
-
-/// Bytes that are shared and never change: cloning and slicing copy none of them.
-pub use bytes::Bytes as Payload;

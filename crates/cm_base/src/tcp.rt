@@ -32,6 +32,28 @@ impl TcpLink {
     }
 }
 
+impl TcpLink {
+    /// What another thread can close this connection by. `None` where it was closed before, or the system has no more
+    /// handles.
+    pub fn closer(&self) -> Option<TcpCloser> {
+        let stream = self.stream.as_ref()?.try_clone().ok()?;
+        Some(TcpCloser { stream })
+    }
+}
+
+/// A handle of a connection, by which it can be closed while others pull and push.
+#[derive(Drop)]
+pub struct TcpCloser {
+    stream: TcpStream,
+}
+
+impl TcpCloser {
+    /// Ends both directions: a pull that waits comes to the end of the bytes, and pushes fail.
+    pub fn close(&self) {
+        self.stream.shutdown(Shutdown::Both).ok();
+    }
+}
+
 impl Source for TcpLink {
     ghost left = { λ _. None };
 

@@ -13,7 +13,7 @@ use Rattle.cm_base.specs.Configuration.{IsUnit}
 use Rattle.cm_base.specs.Fields.{is_between}
 use Rattle.cm_base.proofs.PublicLaws.{number-back, field-moved}
 use Rattle.cm_frame.specs.Grammar.{unit_bytes, header_bytes, IsConfig}
-use Rattle.cm_frame.specs.Reading.{first_fault, unit_checks, unit_in, units_in, or_later, units_fault, units_told, config_in, judged_units, read_header}
+use Rattle.cm_frame.specs.Reading.{first_broken, unit_checks, unit_in, units_in, or_later, units_fault, units_told, config_in, judged_units, read_header}
 use Rattle.cm_frame.specs.Laws.{IsReadBack, NoneBegins}
 use Rattle.cm_frame.proofs.ReadBack.{none-begins}
 
@@ -24,7 +24,7 @@ two-lengths : (n : ℕ) → ((n ≡ 512) ⊎ (n ≡ 4096)) → ((n == 512) || (n
 two-lengths n (inl e) = rw e refl
 two-lengths n (inr e) = rw e refl
 
-unit-back : (u : UnitConfig) (rest : List ℕ) → IsUnit u → (unit_in (unit_bytes u ++ rest) ≡ u) × (first_fault (unit_checks (unit_bytes u ++ rest)) ≡ None)
+unit-back : (u : UnitConfig) (rest : List ℕ) → IsUnit u → (unit_in (unit_bytes u ++ rest) ≡ u) × (first_broken (unit_checks (unit_bytes u ++ rest)) ≡ None)
 unit-back u rest fits =
     let length_fits : u.block_length < 256 ^ 4 = small u.block_length fits.block_length in
     let f0 : big_from 0 8 (big_bytes 8 u.blocks) ≡ u.blocks = number-back 8 u.blocks (omega (arith, fits.blocks.1)) in

@@ -12,7 +12,7 @@ use Rattle.cm_base.specs.declared.parsed.Parsed.TheVariants.{Whole}
 use Rattle.cm_base.specs.Fields.{byte, field, part, is_between, AreBytes}
 use Rattle.cm_base.proofs.PublicLaws.{below-bytes, bytes-part, field-spelled, length-part, parts-join}
 use Rattle.cm_frame.specs.Grammar.{header_text, unit_bytes, header_bytes, IsConfig}
-use Rattle.cm_frame.specs.Reading.{first_fault, unit_checks, unit_in, units_in, units_fault, units_told, config_in, judged_units, read_header}
+use Rattle.cm_frame.specs.Reading.{first_broken, unit_checks, unit_in, units_in, units_fault, units_told, config_in, judged_units, read_header}
 use Rattle.cm_frame.specs.Laws.{IsSpelledSo}
 use Rattle.cm_frame.proofs.Spelled.{guard-whole, bad-whole, Takes, moved, byte-spelled}
 use Rattle.cm_frame.proofs.UnitSteps.{Sound, unit-sound, none-later, length-units_in, units-are, between-bounds}
@@ -44,7 +44,7 @@ units-spelled : (n place : ℕ) (bytes : List ℕ) → AreBytes bytes → 32 * n
     → flat_map unit_bytes (units_in n bytes) ≡ take (32 * n) bytes
 units-spelled zero place bytes all there none = refl
 units-spelled (suc n) place bytes all there none =
-    let both = none-later place (first_fault (unit_checks bytes)) (units_fault n (place + 32) (drop 32 bytes)) none in
+    let both = none-later place (first_broken (unit_checks bytes)) (units_fault n (place + 32) (drop 32 bytes)) none in
     let one = unit-spelled bytes all (omega (arith, there)) (unit-sound bytes both.0) in
     let rest = units-spelled n (place + 32) (drop 32 bytes) (All-drop (λ b. b < 256) 32 bytes all) (omega (arith, there, length-drop 32 bytes)) both.1 in
     let count : 32 + 32 * n ≡ 32 * suc n = omega arith in

@@ -9,7 +9,7 @@ use Rattle.cm_base.specs.declared.parsed.Parsed.TheVariants.{Whole, Short, Bad}
 use Rattle.cm_base.specs.Fields.{byte, field, part, is_between}
 use Rattle.cm_base.proofs.PublicLaws.{part-stays, field-stays, byte-stays}
 use Rattle.cm_frame.specs.Grammar.{data_limit, header_text}
-use Rattle.cm_frame.specs.Reading.{first_fault, unit_checks, unit_in, units_in, or_later, units_fault, units_told, config_in, judged_units, read_header, read_request, begin_in, read_run, read_pump, read_item}
+use Rattle.cm_frame.specs.Reading.{first_broken, unit_checks, unit_in, units_in, or_later, units_fault, units_told, config_in, judged_units, read_header, read_request, begin_in, read_run, read_pump, read_item}
 use Rattle.cm_frame.specs.Laws.{IsJudged, StaysJudged}
 
 -- behind a test that so many bytes are there
@@ -120,8 +120,8 @@ units_fault-stays (suc n) place a b all =
     let whole : 32 ≤ length a = omega arith in
     let later = ap (units_fault n (place + 32)) (drop-append-le 32 a b whole)
     ∙ units_fault-stays n (place + 32) (drop 32 a) b (omega (arith, length-drop 32 a)) in
-    ap (λ checks. or_later place (first_fault checks) (units_fault n (place + 32) (drop 32 (a ++ b)))) (unit_checks-stay a b whole)
-    ∙ ap (or_later place (first_fault (unit_checks a))) later
+    ap (λ checks. or_later place (first_broken checks) (units_fault n (place + 32) (drop 32 (a ++ b)))) (unit_checks-stay a b whole)
+    ∙ ap (or_later place (first_broken (unit_checks a))) later
 
 units_in-stay : (n : ℕ) (a b : List ℕ) → 32 * n ≤ length a → units_in n (a ++ b) ≡ units_in n a
 units_in-stay zero a b all = refl

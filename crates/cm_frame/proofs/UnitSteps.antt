@@ -10,7 +10,7 @@ use Rattle.cm_base.specs.declared.config.UnitConfig.{UnitConfig}
 use Rattle.cm_base.specs.Configuration.{IsUnit, AreUnits}
 use Rattle.cm_base.specs.Fields.{byte, field, is_between}
 use Rattle.cm_base.specs.Units.{told}
-use Rattle.cm_frame.specs.Reading.{first_fault, unit_checks, unit_in, units_in, or_later, units_fault}
+use Rattle.cm_frame.specs.Reading.{first_broken, unit_checks, unit_in, units_in, or_later, units_fault}
 
 -- ---- one unit more
 
@@ -25,13 +25,13 @@ next-place index bytes = drop-drop 32 (place_of index) bytes ∙ ap (λ k. drop 
 
 pub fault-step : (count index : ℕ) (bytes : List ℕ) → index < count
     → units_fault (count - index) (place_of index) (drop (place_of index) bytes)
-    ≡ or_later (place_of index) (first_fault (unit_checks (drop (place_of index) bytes))) (units_fault (count - (index + 1)) (place_of (index + 1)) (drop (place_of (index + 1)) bytes))
+    ≡ or_later (place_of index) (first_broken (unit_checks (drop (place_of index) bytes))) (units_fault (count - (index + 1)) (place_of (index + 1)) (drop (place_of (index + 1)) bytes))
 fault-step count index bytes within =
     let left : count - index ≡ suc (count - (index + 1)) = omega arith in
     let place : place_of index + 32 ≡ place_of (index + 1) = omega arith in
     ap (λ n. units_fault n (place_of index) (drop (place_of index) bytes)) left
-    ∙ ap (λ l. or_later (place_of index) (first_fault (unit_checks (drop (place_of index) bytes))) (units_fault (count - (index + 1)) (place_of index + 32) l)) (next-place index bytes)
-    ∙ ap (λ k. or_later (place_of index) (first_fault (unit_checks (drop (place_of index) bytes))) (units_fault (count - (index + 1)) k (drop (place_of (index + 1)) bytes))) place
+    ∙ ap (λ l. or_later (place_of index) (first_broken (unit_checks (drop (place_of index) bytes))) (units_fault (count - (index + 1)) (place_of index + 32) l)) (next-place index bytes)
+    ∙ ap (λ k. or_later (place_of index) (first_broken (unit_checks (drop (place_of index) bytes))) (units_fault (count - (index + 1)) k (drop (place_of (index + 1)) bytes))) place
 
 pub unit-step : (count index : ℕ) (bytes : List ℕ) → index < count
     → units_in (count - index) (drop (place_of index) bytes) ≡ unit_in (drop (place_of index) bytes) ∷ units_in (count - (index + 1)) (drop (place_of (index + 1)) bytes)
@@ -62,7 +62,7 @@ pub record Sound (bytes : List ℕ) : Type 0 where
   pub unit : IsUnit (unit_in bytes)
   pub rest : field bytes 29 31 ≡ 0
 
-pub unit-sound : (bytes : List ℕ) → first_fault (unit_checks bytes) ≡ None → Sound bytes
+pub unit-sound : (bytes : List ℕ) → first_broken (unit_checks bytes) ≡ None → Sound bytes
 unit-sound bytes e =
     let k0 = check-kept (is_between 1 4_294_967_296 (field bytes 0 7)) 0 _ e in
     let k8 = check-kept ((field bytes 8 11 == 512) || (field bytes 8 11 == 4096)) 8 _ k0.1 in
@@ -90,7 +90,7 @@ none-later place (Some fault) later e = cc
 units-fit : (n place : ℕ) (bytes : List ℕ) → units_fault n place bytes ≡ None → AllByRecursion IsUnit (units_in n bytes)
 units-fit zero place bytes e = tt
 units-fit (suc n) place bytes e =
-    let both = none-later place (first_fault (unit_checks bytes)) (units_fault n (place + 32) (drop 32 bytes)) e in
+    let both = none-later place (first_broken (unit_checks bytes)) (units_fault n (place + 32) (drop 32 bytes)) e in
     ((unit-sound bytes both.0).unit, units-fit n (place + 32) (drop 32 bytes) both.1)
 
 pub length-units_in : (n : ℕ) (bytes : List ℕ) → length (units_in n bytes) ≡ n

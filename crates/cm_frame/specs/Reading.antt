@@ -15,9 +15,9 @@ use Rattle.cm_frame.specs.Grammar.{data_limit, header_text}
 -- ---- headers
 
 -- the place of the first field that breaks its limit
-abbrev pub first_fault : List (ℕ × Bool) → Option ℕ
-first_fault [] = None
-first_fault (check ∷ checks) = if check.1 then first_fault checks else Some check.0
+abbrev pub first_broken : List (ℕ × Bool) → Option ℕ
+first_broken [] = None
+first_broken (check ∷ checks) = if check.1 then first_broken checks else Some check.0
 
 -- the fields of a unit's 32 bytes, each with whether it keeps its limit
 abbrev pub unit_checks : List ℕ → List (ℕ × Bool)
@@ -55,7 +55,7 @@ or_later place (Some fault) later = Some (place + fault)
 -- the first fault of `n` units, of which the first stands at a place
 abbrev pub units_fault : ℕ → ℕ → List ℕ → Option ℕ
 units_fault zero place bytes = None
-units_fault (suc n) place bytes = or_later place (first_fault (unit_checks bytes)) (units_fault n (place + 32) (drop 32 bytes))
+units_fault (suc n) place bytes = or_later place (first_broken (unit_checks bytes)) (units_fault n (place + 32) (drop 32 bytes))
 
 -- the number of units that a header tells
 abbrev pub units_told : List ℕ → ℕ

@@ -1,7 +1,7 @@
 ghost use Rattle.std.specs.Prelude.{◌≡◌, ◌≤◌, ◌+◌, ◌*◌, length, drop, IfOk};
 ghost use Rattle.cm_base.specs.declared.config.UnitConfig.{UnitConfig};
 ghost use Rattle.cm_frame.specs.Grammar.{unit_bytes, header_bytes};
-ghost use Rattle.cm_frame.specs.Reading.{first_fault, unit_checks, unit_in, units_in, units_fault, read_header};
+ghost use Rattle.cm_frame.specs.Reading.{first_broken, unit_checks, unit_in, units_in, units_fault, read_header};
 ghost use Rattle.cm_frame.specs.Laws.{IfWhole};
 
 use cm_base::{
@@ -86,7 +86,7 @@ fn units_in(alloc: Global, bytes: &[u8], count: usize) -> Result<UnitList, OutOf
 /// The place of the first field of a unit that breaks its limit.
 fn unit_fault(bytes: &[u8]) -> Option<u64>
     requires { 32 ≤ length bytes.now }
-    ensures { result ≡ first_fault (unit_checks bytes.now) }
+    ensures { result ≡ first_broken (unit_checks bytes.now) }
 {
     let unit = unit_in(bytes);
     if !matches!(unit.blocks, 1..=4_294_967_296) {

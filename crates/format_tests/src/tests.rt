@@ -6,6 +6,7 @@ mod inquiries;
 mod jobs;
 mod links;
 mod parameters;
+mod payloads;
 mod segments;
 mod senses;
 mod statuses;

@@ -14,8 +14,8 @@ pub record Row : Type 0 where
   pub command : List ℕ → Cdb
 
 -- a row with no service action
-abbrev pub row : ℕ → ℕ → (List ℕ → Cdb) → Row
-row code size command = record { code = code; action = None; size = size; command = command }
+abbrev pub plain_row : ℕ → ℕ → (List ℕ → Cdb) → Row
+plain_row code size command = record { code = code; action = None; size = size; command = command }
 
 -- a row with a service action, whose CDB has 16 bytes
 abbrev pub action_row : ℕ → ℕ → (List ℕ → Cdb) → Row
@@ -28,16 +28,16 @@ short_row code action command = record { code = code; action = Some action; size
 -- the commands that have an operation code of their own, with the fields that are read in their CDBs (SPC-4, SBC-3)
 abbrev pub plain_rows : List Row
 plain_rows =
-    row 0x00 6 (λ b. Cdb.TestUnitReady)
-    ∷ row 0x03 6 (λ b. Cdb.RequestSense (byte b 4))
-    ∷ row 0x12 6 (λ b. Cdb.Inquiry (bit b 1 0) (byte b 2) (field b 3 4))
-    ∷ row 0x25 10 (λ b. Cdb.ReadCapacity10)
-    ∷ row 0x28 10 (λ b. Cdb.Read (field b 2 5) (field b 7 8))
-    ∷ row 0x2a 10 (λ b. Cdb.Write (field b 2 5) (field b 7 8))
-    ∷ row 0x42 10 (λ b. Cdb.Unmap (field b 7 8))
-    ∷ row 0x88 16 (λ b. Cdb.Read (field b 2 9) (field b 10 13))
-    ∷ row 0x8a 16 (λ b. Cdb.Write (field b 2 9) (field b 10 13))
-    ∷ row 0xa0 12 (λ b. Cdb.ReportLuns (field b 6 9)) ∷ []
+    plain_row 0x00 6 (λ b. Cdb.TestUnitReady)
+    ∷ plain_row 0x03 6 (λ b. Cdb.RequestSense (byte b 4))
+    ∷ plain_row 0x12 6 (λ b. Cdb.Inquiry (bit b 1 0) (byte b 2) (field b 3 4))
+    ∷ plain_row 0x25 10 (λ b. Cdb.ReadCapacity10)
+    ∷ plain_row 0x28 10 (λ b. Cdb.Read (field b 2 5) (field b 7 8))
+    ∷ plain_row 0x2a 10 (λ b. Cdb.Write (field b 2 5) (field b 7 8))
+    ∷ plain_row 0x42 10 (λ b. Cdb.Unmap (field b 7 8))
+    ∷ plain_row 0x88 16 (λ b. Cdb.Read (field b 2 9) (field b 10 13))
+    ∷ plain_row 0x8a 16 (λ b. Cdb.Write (field b 2 9) (field b 10 13))
+    ∷ plain_row 0xa0 12 (λ b. Cdb.ReportLuns (field b 6 9)) ∷ []
 
 -- the commands of one operation code and many service actions: third-party copies, and SERVICE ACTION IN(16)
 abbrev pub action_rows : List Row

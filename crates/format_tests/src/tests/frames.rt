@@ -235,7 +235,7 @@ const CHECK: [u8; 24] = [
 
 #[test]
 fn replies_are_read_and_written(rt: HostRuntime) -> Result<(), Fail> {
-    let data = Payload::from_static(&[0x11, 0x22, 0x33]);
+    let data = Payload::copy_from_slice(rt.alloc(), &[0x11, 0x22, 0x33])?;
     let sense = Sense::new(0x05, 0x24, 0x00);
     let good = [0, 0, 0, 0, 0, 3, 0x11, 0x22, 0x33];
     assert!(rt; is_spelled(&rt, Reply::Good(data), &good)?);
