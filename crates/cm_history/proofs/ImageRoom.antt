@@ -18,7 +18,7 @@ use Rattle.cm_history.specs.Legal.{may_ask}
 use Rattle.cm_history.specs.Operations.{Operation, Form, OfToken, OfCopy, form_of, list_of, written, count_of, is_running, is_running_state, state, state_of, operations, operation_after, made_operation, makes_operation, kept, would_serve}
 use Rattle.cm_history.specs.Answers.{deed, is_busy}
 use Rattle.cm_history.specs.History.{on, past_of, answer}
-use Rattle.cm_history.specs.Room.{is_write, bytes_in, payload, pieces, reserved, reserved_by, need, need_to_serve, is_full}
+use Rattle.cm_history.specs.Room.{is_write, bytes_in, payload, pieces, kept_free, still_needed, need, need_to_serve, is_full}
 use Rattle.cm_history.specs.Blocks.{held, mapped}
 use Rattle.cm_history.specs.Tokens.{Token, tokens, is_live}
 use Rattle.cm_history.specs.Image.{Image, OperationImage, TokenImage, image, operation_image, token_image, trim, trimmed}
@@ -97,7 +97,7 @@ whole-pieces n = omega arith
 
 reserved-act : (config : Configuration) (unit : ℕ) (o : Operation) (act : Act) → o.made.entry.act ≡ act → Runs o act (form_of act) ≡ true → within_limits config unit act ≡ true
     → (is_running_state (state o) ≡ true → length (written o) ≡ piece_blocks * length o.servers) → IsBegun o
-    → reserved_of (operation_image o) (form_of act) ≡ reserved_by (length o.servers) act
+    → reserved_of (operation_image o) (form_of act) ≡ still_needed (length o.servers) act
 reserved-act config unit o (Act.Start id background ranges rod) is runs meant paced begun =
     let count : (operation_image o).report.count ≡ length (written o) = ap (count_of (written o)) is in
     let pace = paced (ap is_running_state (ap (state_of o) is) ∙ runs) in
@@ -130,22 +130,22 @@ sum-same f g (x ∷ xs) h =
     sum_by-cons f x xs ∙ ap (λ n. n + sum_by f xs) (h x (inl refl)) ∙ ap (λ n. g x + n) (sum-same f g xs (λ y i. h y (inr i))) ∙ sym (sum_by-cons g x xs)
 
 reserved-image : (config : Configuration) (unit : ℕ) (past : List Deed) → IsPast config unit past → AllAsked config unit past
-    → reserved_by_image (image (unit_of config unit) past) ≡ reserved past
+    → reserved_by_image (image (unit_of config unit) past) ≡ kept_free past
 reserved-image config unit past is asked =
     sum-filter (λ (x : OperationImage). reserved_of x x.form) runs_by (map operation_image (kept past))
     ∙ sum-map operation_image (λ (x : OperationImage). if runs_by x then reserved_of x x.form else 0) (kept past)
-    ∙ sum-same (λ o. if runs_by (operation_image o) then reserved_of (operation_image o) (form_of o.made.entry.act) else 0) (λ (o : Operation). if is_running o then reserved_by (length o.servers) o.made.entry.act else 0) (kept past) one
-    ∙ sym (sum-filter (λ (o : Operation). reserved_by (length o.servers) o.made.entry.act) is_running (kept past))
-    ∙ ap (sum_by (λ (o : Operation). reserved_by (length o.servers) o.made.entry.act)) (sym (running_kept config unit past is))
+    ∙ sum-same (λ o. if runs_by (operation_image o) then reserved_of (operation_image o) (form_of o.made.entry.act) else 0) (λ (o : Operation). if is_running o then still_needed (length o.servers) o.made.entry.act else 0) (kept past) one
+    ∙ sym (sum-filter (λ (o : Operation). still_needed (length o.servers) o.made.entry.act) is_running (kept past))
+    ∙ ap (sum_by (λ (o : Operation). still_needed (length o.servers) o.made.entry.act)) (sym (running_kept config unit past is))
   where
     one : (o : Operation) → In o (kept past)
-        → (if runs_by (operation_image o) then reserved_of (operation_image o) (form_of o.made.entry.act) else 0) ≡ (if is_running o then reserved_by (length o.servers) o.made.entry.act else 0)
+        → (if runs_by (operation_image o) then reserved_of (operation_image o) (form_of o.made.entry.act) else 0) ≡ (if is_running o then still_needed (length o.servers) o.made.entry.act else 0)
     one o i = ap (λ t. if t then reserved_of (operation_image o) (form_of o.made.entry.act) else 0) (runs-image o) ∙ go (is_running o) refl
       where
         there : In o (operations past)
         there = kept_in config unit past o is i
 
-        go : (t : Bool) → is_running o ≡ t → (if t then reserved_of (operation_image o) (form_of o.made.entry.act) else 0) ≡ (if t then reserved_by (length o.servers) o.made.entry.act else 0)
+        go : (t : Bool) → is_running o ≡ t → (if t then reserved_of (operation_image o) (form_of o.made.entry.act) else 0) ≡ (if t then still_needed (length o.servers) o.made.entry.act else 0)
         go true e =
             reserved-act config unit o o.made.entry.act refl (runs-act o e) (Each-in (IsMeant config unit) (operations past) o (all-meant config unit past asked) there)
             (Each-in IsPaced (operations past) o (all-paced config unit past is) there) (Each-in IsBegun (operations past) o (begun config unit past is) there)
@@ -241,7 +241,7 @@ full-image config unit i kept folded h actor stamp act s =
     let past = past_of config unit h in
     let is = past-is config unit h in
     let entries : length past - folded ≡ length kept = ap (λ n. n - folded) (length-past config unit h ∙ ap length s.own) ∙ drop-long folded h kept s.keeps in
-    let free : reserved past ≡ reserved_by_image i = sym (reserved-image config unit past is s.asked) ∙ ap reserved_by_image s.image in
+    let free : kept_free past ≡ reserved_by_image i = sym (reserved-image config unit past is s.asked) ∙ ap reserved_by_image s.image in
     let wants : need past actor act ≡ need_by i actor act = sym (need-image config unit past actor act is) ∙ ap (λ j. need_by j actor act) s.image in
     let bytes : payload folded past ≡ payload_by kept = payload-image config unit folded h ∙ ap (λ l. payload_by (drop folded l)) s.own ∙ ap payload_by s.keeps in
     let last : last_stamp past ≡ i.last_stamp = ap (λ (j : Image). j.last_stamp) s.image in

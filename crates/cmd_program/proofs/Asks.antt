@@ -36,7 +36,7 @@ use Rattle.cm_history.specs.Room.{pieces}
 use Rattle.cmd_program.specs.Meaning.{IsAskedOf}
 use Rattle.cmd_program.specs.Program.{Ask, Program, Ends, Asks, GivesUp, good, done, refused, unless_refused, ask_then}
 use Rattle.cmd_program.specs.SingleActs.{told_read, told_map, told_report, told_token, told_copy, told_keys, told_holder, reserve_in, reserve_out, blocks_in, act_alone, page_told, inquiry, unmap, populate}
-use Rattle.cmd_program.specs.TokenWrite.{TokenWrite, wanted, delete_by, deleting, end_of, advancing, started, starting, rod_part, redeemed, zero_rod, write_by, write_using_token}
+use Rattle.cmd_program.specs.TokenWrite.{TokenWrite, wanted, delete_by, deleting, end_of, advancing, started, starting, rod_part, after_redeem, zero_rod, write_by, write_using_token}
 use Rattle.cmd_program.proofs.WriteEnds.{part-whole}
 
 -- what an answer has to have for the acts behind it
@@ -284,7 +284,7 @@ module _ (config : Configuration) (w : TokenWrite) (there : w.unit < length conf
           let same : (rod.block_length == (unit_of config w.unit).block_length) ≡ true = eq-eqb rod.block_length (unit_of config w.unit).block_length size in
           rw (r.0, count, few, same) refl
 
-  redeemed-asks : (a : Answer) (creator : ℕ) → IsSized config creator (Act.Redeem w.list.token w.unit) a → IsAsking config (redeemed w a)
+  redeemed-asks : (a : Answer) (creator : ℕ) → IsSized config creator (Act.Redeem w.list.token w.unit) a → IsAsking config (after_redeem w a)
   redeemed-asks (Answer.Rod rod) creator size = go (nat_lt (length rod.items) (w.list.offset + wanted w)) refl
     where
       go : (t : Bool) → nat_lt (length rod.items) (w.list.offset + wanted w) ≡ t → IsAsking config (cond t (refused invalid_field_in_parameter_list) (starting w (rod_part w rod)))
@@ -315,7 +315,7 @@ module _ (config : Configuration) (w : TokenWrite) (there : w.unit < length conf
       named : creator < length config.units → (c s : ℕ) → classify w.list.token ≡ TokenKind.Names c s → c < length config.units
       named low c s names = let e : TokenKind.Names creator serial ≡ TokenKind.Names c s = sym is ∙ names in let same : creator ≡ c = cc in subst (λ n. n < length config.units) same low
 
-      go : (t : Bool) → is_configured config creator ≡ t → IsAsking config (cond t (ask_then creator (Act.Redeem w.list.token w.unit) (redeemed w)) (refused token_unknown))
+      go : (t : Bool) → is_configured config creator ≡ t → IsAsking config (cond t (ask_then creator (Act.Redeem w.list.token w.unit) (after_redeem w)) (refused token_unknown))
       go false e = tt
       go true e =
           let low : creator < length config.units = ltb-true creator (length config.units) e in (

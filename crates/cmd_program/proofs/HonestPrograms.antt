@@ -30,7 +30,7 @@ use Rattle.cmd_program.specs.declared.step.Outcome.{Outcome}
 use Rattle.cmd_program.specs.Program.{Program, Ends, Asks, GivesUp, good, refused, done, ask_then, unless_refused, next, moved}
 use Rattle.cmd_program.specs.SingleActs.{told_read, told_map, told_report, told_token, told_copy, told_keys, told_holder, inquiry, unmap, page_told, populate, reserve_in, reserve_out}
 use Rattle.cm_history.specs.Room.{pieces}
-use Rattle.cmd_program.specs.TokenWrite.{TokenWrite, wanted, delete_by, deleting, advancing, started, starting, rod_part, redeemed, zero_rod, write_by, write_using_token}
+use Rattle.cmd_program.specs.TokenWrite.{TokenWrite, wanted, delete_by, deleting, advancing, started, starting, rod_part, after_redeem, zero_rod, write_by, write_using_token}
 use Rattle.cmd_program.specs.ExtendedCopy.{Move, Copying, Tally, close_as, end_state, left_of, copy_reply, closing, segment_done, piece_put, unless_ended, putting, captured, copying, fresh, opening, copy_by, copy_read, copy_fault, moves_of, extended_copy}
 use Rattle.cmd_program.specs.Judging.{step, program, judged_cdb, judged_out}
 use Rattle.cmd_program.specs.Honest.{IsHonestReply, IsHonestStep, AnswerProgram, AreAnswers}
@@ -165,7 +165,7 @@ started-honest w false a k = advancing-honest w (pieces (wanted w)) a k
 starting-honest : (w : TokenWrite) (rod : HeldBlocks) → IsHonest (starting w rod)
 starting-honest w rod = λ a k. started-honest w w.list.immed a (start-progress w.id w.list.immed w.list.ranges rod a k)
 
-redeemed-honest : (w : TokenWrite) (a : Answer) → HasKind (Act.Redeem w.list.token w.unit) a → IsHonest (redeemed w a)
+redeemed-honest : (w : TokenWrite) (a : Answer) → HasKind (Act.Redeem w.list.token w.unit) a → IsHonest (after_redeem w a)
 redeemed-honest w (Answer.Rod rod) k = go (nat_lt (length rod.items) (w.list.offset + wanted w))
   where
     go : (short : Bool) → IsHonest (cond short (refused invalid_field_in_parameter_list) (starting w (rod_part w rod)))
@@ -181,7 +181,7 @@ kind-honest config w TokenKind.BadType = tt
 kind-honest config w TokenKind.Zero = starting-honest w (zero_rod config w)
 kind-honest config w (TokenKind.Names creator serial) = go (is_configured config creator)
   where
-    go : (there : Bool) → IsHonest (cond there (ask_then creator (Act.Redeem w.list.token w.unit) (redeemed w)) (refused token_unknown))
+    go : (there : Bool) → IsHonest (cond there (ask_then creator (Act.Redeem w.list.token w.unit) (after_redeem w)) (refused token_unknown))
     go true = redeemed-honest w
     go false = tt
 

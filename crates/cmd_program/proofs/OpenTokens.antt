@@ -16,7 +16,7 @@ use Rattle.cm_history.specs.declared.answer.OpState.{OpState}
 use Rattle.cmd_program.specs.Program.{refused, done, ask_then}
 use Rattle.cmd_program.specs.SingleActs.{populate, told_report, told_token}
 use Rattle.cm_history.specs.Room.{pieces}
-use Rattle.cmd_program.specs.TokenWrite.{TokenWrite, wanted, delete_by, deleting, advancing, started, starting, rod_part, redeemed, zero_rod, write_by, write_using_token}
+use Rattle.cmd_program.specs.TokenWrite.{TokenWrite, wanted, delete_by, deleting, advancing, started, starting, rod_part, after_redeem, zero_rod, write_by, write_using_token}
 use Rattle.cmd_program.proofs.Open.{IsOpen, unless_refused-open}
 
 -- ---- POPULATE TOKEN and what is told of operations
@@ -61,7 +61,7 @@ started-open w false a = advancing-open w (pieces (wanted w)) a
 starting-open : (w : TokenWrite) (rod : HeldBlocks) → IsOpen (starting w rod)
 starting-open w rod = started-open w w.list.immed
 
-redeemed-open : (w : TokenWrite) (a : Answer) → IsOpen (redeemed w a)
+redeemed-open : (w : TokenWrite) (a : Answer) → IsOpen (after_redeem w a)
 redeemed-open w (Answer.Rod rod) = go (nat_lt (length rod.items) (w.list.offset + wanted w))
   where
     go : (short : Bool) → IsOpen (cond short (refused invalid_field_in_parameter_list) (starting w (rod_part w rod)))
@@ -76,7 +76,7 @@ by-open config w TokenKind.BadType = tt
 by-open config w TokenKind.Zero = starting-open w (zero_rod config w)
 by-open config w (TokenKind.Names creator serial) = go (is_configured config creator)
   where
-    go : (there : Bool) → IsOpen (cond there (ask_then creator (Act.Redeem w.list.token w.unit) (redeemed w)) (refused token_unknown))
+    go : (there : Bool) → IsOpen (cond there (ask_then creator (Act.Redeem w.list.token w.unit) (after_redeem w)) (refused token_unknown))
     go true = redeemed-open w
     go false = tt
 

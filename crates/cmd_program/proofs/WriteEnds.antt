@@ -41,7 +41,7 @@ use Rattle.cmd_program.specs.Stepping.{gave_up}
 use Rattle.cmd_program.specs.Program.{Program, Ends, Asks, next, moved, done, refused, unless_refused, ask_then}
 use Rattle.cmd_program.specs.SingleActs.{act_alone}
 use Rattle.cm_history.specs.Room.{pieces}
-use Rattle.cmd_program.specs.TokenWrite.{TokenWrite, wanted, delete_by, end_of, advancing, started, starting, rod_part, redeemed, zero_rod, write_by, write_using_token}
+use Rattle.cmd_program.specs.TokenWrite.{TokenWrite, wanted, delete_by, end_of, advancing, started, starting, rod_part, after_redeem, zero_rod, write_by, write_using_token}
 use Rattle.cmd_program.specs.Judging.{step, program, judged_cdb, judged_out, out_fault}
 use Rattle.cmd_program.specs.InHistory.{Lacking, is_by, entries_by, IsNext, RunsIn}
 use Rattle.cmd_program.specs.WriteEnds.{IsWriteNow, is_progress, has_started, is_stop, was_stopped, EndsWell}
@@ -376,10 +376,10 @@ rod-ends config nexus Lacks w rod h now false enough os run none some =
     starting-ends config nexus Lacks w (rod_part w rod) (part-whole w rod enough) w.list.immed now h os run none some
 
 redeemed-ends : (config : Configuration) (nexus : ℕ) (Lacks : Lacking) (w : TokenWrite) (h : List Entry) (told : Answer) → w.list.immed ≡ false → HasKind (Act.Redeem w.list.token w.unit) told
-    → (os : List Outcome) → RunsIn config nexus Lacks (redeemed w told) h os → gave_up os ≡ false → has_started (Outcome.Answered told ∷ os) ≡ true
-    → EndsWell (Outcome.Answered told ∷ os) (next (fold moved (redeemed w told) os))
+    → (os : List Outcome) → RunsIn config nexus Lacks (after_redeem w told) h os → gave_up os ≡ false → has_started (Outcome.Answered told ∷ os) ≡ true
+    → EndsWell (Outcome.Answered told ∷ os) (next (fold moved (after_redeem w told) os))
 redeemed-ends config nexus Lacks w h (Answer.Rod rod) now kind os run none some =
-    ends-more (Answer.Rod rod) os (next (fold moved (redeemed w (Answer.Rod rod)) os)) refl
+    ends-more (Answer.Rod rod) os (next (fold moved (after_redeem w (Answer.Rod rod)) os)) refl
     (rod-ends config nexus Lacks w rod h now (nat_lt (length rod.items) (w.list.offset + wanted w)) refl os run none some)
 redeemed-ends config nexus Lacks w h (Answer.Refused sense) now kind os run none some =
     absurd (refused-starts config nexus Lacks (Answer.Refused sense) (Reply.Check sense) h os refl run none some)
@@ -387,7 +387,7 @@ redeemed-ends config nexus Lacks w h Answer.Conflict now kind os run none some =
 redeemed-ends config nexus Lacks w h _ now kind os run none some = absurd kind
 
 redeem-ends : (config : Configuration) (nexus : ℕ) (Lacks : Lacking) (w : TokenWrite) (creator : ℕ) (h : List Entry) → w.list.immed ≡ false
-    → StartsAt config nexus Lacks (ask_then creator (Act.Redeem w.list.token w.unit) (redeemed w)) h
+    → StartsAt config nexus Lacks (ask_then creator (Act.Redeem w.list.token w.unit) (after_redeem w)) h
 redeem-ends config nexus Lacks w creator h now [] run none some = cc
 redeem-ends config nexus Lacks w creator h now (Outcome.Full ∷ os) run none some = cc
 redeem-ends config nexus Lacks w creator h now (Outcome.NoMemory ∷ os) run none some = cc
@@ -402,7 +402,7 @@ kind-ends config nexus Lacks w TokenKind.BadType h now = ended-starts config nex
 kind-ends config nexus Lacks w TokenKind.Zero h now = starting-ends config nexus Lacks w (zero_rod config w) (length-replicate (wanted w) None) w.list.immed now h
 kind-ends config nexus Lacks w (TokenKind.Names creator serial) h now = go (is_configured config creator)
   where
-    go : (there : Bool) → StartsAt config nexus Lacks (cond there (ask_then creator (Act.Redeem w.list.token w.unit) (redeemed w)) (refused token_unknown)) h
+    go : (there : Bool) → StartsAt config nexus Lacks (cond there (ask_then creator (Act.Redeem w.list.token w.unit) (after_redeem w)) (refused token_unknown)) h
     go true = redeem-ends config nexus Lacks w creator h now
     go false = ended-starts config nexus Lacks (Reply.Check token_unknown) h
 

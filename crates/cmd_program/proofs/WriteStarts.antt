@@ -26,7 +26,7 @@ use Rattle.cm_history.specs.Answers.{is_busy, is_crowded}
 use Rattle.cm_history.specs.History.{past_of, answer}
 use Rattle.cmd_program.specs.declared.step.Outcome.{Outcome}
 use Rattle.cmd_program.specs.Program.{Program, next, moved, refused, ask_then}
-use Rattle.cmd_program.specs.TokenWrite.{TokenWrite, wanted, started, starting, rod_part, redeemed, zero_rod, write_by, write_using_token}
+use Rattle.cmd_program.specs.TokenWrite.{TokenWrite, wanted, started, starting, rod_part, after_redeem, zero_rod, write_by, write_using_token}
 use Rattle.cmd_program.specs.Judging.{program, judged_cdb, judged_out}
 use Rattle.cmd_program.specs.WriteEnds.{IsWriteNow, is_progress}
 use Rattle.cmd_program.specs.WriteStarts.{write_of, HasPart, MayStart, IsStartedBy, WritesAreStarted}
@@ -55,7 +55,7 @@ module _ (config : Configuration) (nexus : ℕ) (entries : List Entry) (moment :
   starting-starts : (rod : HeldBlocks) → Starts (starting w rod) []
   starting-starts rod = start-answered w.list.immed rod
 
-  redeemed-starts : (rod : HeldBlocks) → w.list.offset + wanted w ≤ length rod.items → Starts (redeemed w (Answer.Rod rod)) []
+  redeemed-starts : (rod : HeldBlocks) → w.list.offset + wanted w ≤ length rod.items → Starts (after_redeem w (Answer.Rod rod)) []
   redeemed-starts rod enough = go (nat_lt (length rod.items) (w.list.offset + wanted w)) (not-less (length rod.items) (w.list.offset + wanted w) enough)
     where
       not-less : (n m : ℕ) → m ≤ n → nat_lt n m ≡ false
@@ -72,7 +72,7 @@ module _ (config : Configuration) (nexus : ℕ) (entries : List Entry) (moment :
   kind-starts (TokenKind.Names creator serial) outcomes (there, has) =
       subst (Starts (write_by config w (TokenKind.Names creator serial))) (sym has.1) (go (is_configured config creator) there)
     where
-      go : (t : Bool) → t ≡ true → Starts (cond t (ask_then creator (Act.Redeem w.list.token w.unit) (redeemed w)) (refused token_unknown)) (Outcome.Answered (Answer.Rod has.0) ∷ [])
+      go : (t : Bool) → t ≡ true → Starts (cond t (ask_then creator (Act.Redeem w.list.token w.unit) (after_redeem w)) (refused token_unknown)) (Outcome.Answered (Answer.Rod has.0) ∷ [])
       go true is = redeemed-starts has.0 has.2
       go false is = cc
 

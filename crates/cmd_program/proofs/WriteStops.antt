@@ -35,7 +35,7 @@ use Rattle.cmd_program.specs.declared.step.Outcome.{Outcome}
 use Rattle.cmd_program.specs.declared.step.Step.{Step}
 use Rattle.cmd_program.specs.Stepping.{gave_up}
 use Rattle.cmd_program.specs.Program.{Ask, Program, Ends, Asks, GivesUp, next, moved, refused, ask_then}
-use Rattle.cmd_program.specs.TokenWrite.{TokenWrite, wanted, started, starting, rod_part, redeemed, zero_rod, write_by, write_using_token}
+use Rattle.cmd_program.specs.TokenWrite.{TokenWrite, wanted, started, starting, rod_part, after_redeem, zero_rod, write_by, write_using_token}
 use Rattle.cmd_program.specs.Judging.{program, judged_cdb, judged_out, step}
 use Rattle.cmd_program.specs.InHistory.{Lacking, LacksAny, RunsIn}
 use Rattle.cmd_program.specs.WriteEnds.{IsWriteNow, has_started, was_stopped, EndsWell, IsNotStopped, WritesAreNotStopped}
@@ -159,8 +159,8 @@ starting-fine config nexus Lacks w rod h (Outcome.Answered told ∷ os) run none
     (subst IsPlain (sym run.2.answered) (start-plain config w.unit (h ++ run.0) (Actor.Nexus nexus) run.1.moment w.id w.list.immed w.list.ranges rod)) os run.3 none no_start
 
 redeemed-fine : (config : Configuration) (nexus : ℕ) (Lacks : Lacking) (w : TokenWrite) (told : Answer) (h : List Entry)
-    → HasKind (Act.Redeem w.list.token w.unit) told → IsPlain told → (os : List Outcome) → RunsIn config nexus Lacks (redeemed w told) h os → gave_up os ≡ false
-    → has_started (Outcome.Answered told ∷ os) ≡ false → IsNotStopped (next (fold moved (redeemed w told) os))
+    → HasKind (Act.Redeem w.list.token w.unit) told → IsPlain told → (os : List Outcome) → RunsIn config nexus Lacks (after_redeem w told) h os → gave_up os ≡ false
+    → has_started (Outcome.Answered told ∷ os) ≡ false → IsNotStopped (next (fold moved (after_redeem w told) os))
 redeemed-fine config nexus Lacks w (Answer.Rod rod) h kind plain = go (nat_lt (length rod.items) (w.list.offset + wanted w))
   where
     go : (short : Bool) → (os : List Outcome) → RunsIn config nexus Lacks (cond short (refused invalid_field_in_parameter_list) (starting w (rod_part w rod))) h os → gave_up os ≡ false
@@ -172,7 +172,7 @@ redeemed-fine config nexus Lacks w Answer.Conflict h kind plain = cc
 redeemed-fine config nexus Lacks w _ h kind plain = absurd kind
 
 redeem-fine : (config : Configuration) (nexus : ℕ) (Lacks : Lacking) (w : TokenWrite) (creator : ℕ) (h : List Entry)
-    → FineAt config nexus Lacks (ask_then creator (Act.Redeem w.list.token w.unit) (redeemed w)) h
+    → FineAt config nexus Lacks (ask_then creator (Act.Redeem w.list.token w.unit) (after_redeem w)) h
 redeem-fine config nexus Lacks w creator h [] run none no_start = tt
 redeem-fine config nexus Lacks w creator h (Outcome.Full ∷ os) run none no_start = cc
 redeem-fine config nexus Lacks w creator h (Outcome.NoMemory ∷ os) run none no_start = cc
@@ -188,7 +188,7 @@ kind-fine config nexus Lacks w TokenKind.BadType h = refused-fine config nexus L
 kind-fine config nexus Lacks w TokenKind.Zero h = starting-fine config nexus Lacks w (zero_rod config w) h
 kind-fine config nexus Lacks w (TokenKind.Names creator serial) h = go (is_configured config creator)
   where
-    go : (there : Bool) → FineAt config nexus Lacks (cond there (ask_then creator (Act.Redeem w.list.token w.unit) (redeemed w)) (refused token_unknown)) h
+    go : (there : Bool) → FineAt config nexus Lacks (cond there (ask_then creator (Act.Redeem w.list.token w.unit) (after_redeem w)) (refused token_unknown)) h
     go true = redeem-fine config nexus Lacks w creator h
     go false = refused-fine config nexus Lacks token_unknown h refl
 

@@ -35,7 +35,7 @@ use Rattle.cmd_program.specs.declared.step.Step.{Step}
 use Rattle.cmd_program.specs.Stepping.{gave_up, wanted_memory}
 use Rattle.cmd_program.specs.Program.{Ask, Program, Ends, Asks, GivesUp, next, done, refused, unless_refused, ask_then}
 use Rattle.cmd_program.specs.SingleActs.{act_alone}
-use Rattle.cmd_program.specs.TokenWrite.{TokenWrite, wanted, delete_by, end_of, advancing, started, starting, rod_part, redeemed, zero_rod, write_by, write_using_token}
+use Rattle.cmd_program.specs.TokenWrite.{TokenWrite, wanted, delete_by, end_of, advancing, started, starting, rod_part, after_redeem, zero_rod, write_by, write_using_token}
 use Rattle.cmd_program.specs.Judging.{step, program, judged_cdb, judged_out, out_fault}
 use Rattle.cmd_program.specs.InHistory.{Lacking, LacksAny, is_by, entries_by, IsNext, RunsIn}
 use Rattle.cmd_program.specs.WriteEnds.{IsWriteNow, is_progress, has_started, ran_out, IsExcused, ServesInVain, EndsWell, WritesEndWell}
@@ -256,8 +256,8 @@ rod-vain config nexus Lacks w rod h now true short = ended-starts-vain config ne
 rod-vain config nexus Lacks w rod h now false enough = starting-vain config nexus Lacks w (rod_part w rod) (part-whole w rod enough) w.list.immed now h
 
 redeemed-vain : (config : Configuration) (nexus : ℕ) (Lacks : Lacking) (w : TokenWrite) (h : List Entry) (told : Answer) → w.list.immed ≡ false → HasKind (Act.Redeem w.list.token w.unit) told
-    → (os : List Outcome) → RunsIn config nexus Lacks (redeemed w told) h os → wanted_memory os ≡ false → gave_up os ≡ true → has_started (Outcome.Answered told ∷ os) ≡ true
-    → IsExcused (ServesInVain config nexus Lacks) (ran_out (redeemed w told) os)
+    → (os : List Outcome) → RunsIn config nexus Lacks (after_redeem w told) h os → wanted_memory os ≡ false → gave_up os ≡ true → has_started (Outcome.Answered told ∷ os) ≡ true
+    → IsExcused (ServesInVain config nexus Lacks) (ran_out (after_redeem w told) os)
 redeemed-vain config nexus Lacks w h (Answer.Rod rod) now kind os run none gave some =
     rod-vain config nexus Lacks w rod h now (nat_lt (length rod.items) (w.list.offset + wanted w)) refl os run none gave some
 redeemed-vain config nexus Lacks w h (Answer.Refused sense) now kind os run none gave some = ended-vain config nexus Lacks (Reply.Check sense) h os run none gave
@@ -265,7 +265,7 @@ redeemed-vain config nexus Lacks w h Answer.Conflict now kind os run none gave s
 redeemed-vain config nexus Lacks w h _ now kind os run none gave some = absurd kind
 
 redeem-vain : (config : Configuration) (nexus : ℕ) (Lacks : Lacking) (w : TokenWrite) (creator : ℕ) (h : List Entry) → w.list.immed ≡ false
-    → StartsVain config nexus Lacks (ask_then creator (Act.Redeem w.list.token w.unit) (redeemed w)) h
+    → StartsVain config nexus Lacks (ask_then creator (Act.Redeem w.list.token w.unit) (after_redeem w)) h
 redeem-vain config nexus Lacks w creator h now [] run none gave some = cc
 redeem-vain config nexus Lacks w creator h now (Outcome.Full ∷ os) run none gave some = absurd (full-first config nexus Lacks h os run.1 none some)
 redeem-vain config nexus Lacks w creator h now (Outcome.NoMemory ∷ os) run none gave some = cc
@@ -280,7 +280,7 @@ kind-vain config nexus Lacks w TokenKind.BadType h now = ended-starts-vain confi
 kind-vain config nexus Lacks w TokenKind.Zero h now = starting-vain config nexus Lacks w (zero_rod config w) (length-replicate (wanted w) None) w.list.immed now h
 kind-vain config nexus Lacks w (TokenKind.Names creator serial) h now = go (is_configured config creator)
   where
-    go : (there : Bool) → StartsVain config nexus Lacks (cond there (ask_then creator (Act.Redeem w.list.token w.unit) (redeemed w)) (refused token_unknown)) h
+    go : (there : Bool) → StartsVain config nexus Lacks (cond there (ask_then creator (Act.Redeem w.list.token w.unit) (after_redeem w)) (refused token_unknown)) h
     go true = redeem-vain config nexus Lacks w creator h now
     go false = ended-starts-vain config nexus Lacks (Reply.Check token_unknown) h
 

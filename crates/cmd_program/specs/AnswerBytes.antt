@@ -5,7 +5,7 @@ use Rattle.byteorder.specs.Endian.{big_bytes}
 use Rattle.cm_base.specs.Configuration.{Configuration}
 use Rattle.cm_base.specs.Fields.{zeros, counted}
 use Rattle.copy_status.specs.declared.operation.OperationStatus.{OperationStatus}
-use Rattle.copy_status.specs.CopyStatus.{CopyStatus, told}
+use Rattle.copy_status.specs.CopyStatus.{CopyStatus, told_status}
 use Rattle.copy_status.specs.StatusBytes.{information_bytes}
 use Rattle.rod_token.specs.TokenText.{token_text}
 use Rattle.cm_history.specs.declared.act.CopyState.{CopyState}
@@ -35,7 +35,7 @@ operation_status background OpState.Terminated = OperationStatus.Terminated
 
 -- what a host is told of the report of a token operation
 abbrev pub status_of : OpReport → CopyStatus
-status_of r = told r.populate (operation_status r.background r.state) r.count
+status_of r = told_status r.populate (operation_status r.background r.state) r.count
 
 -- RECEIVE ROD TOKEN INFORMATION, with the token that a POPULATE TOKEN made at the unit
 abbrev pub report_token_bytes : Configuration → ℕ → OpReport → List ℕ

@@ -1,7 +1,7 @@
 -- Commands that ask for one act, or for none
 use Rattle.std.specs.Prelude.{ℕ, ◌/◌, ◌==◌, List, take, length, Option, Some, None, Result, Ok, Err, Bool, true, false, if◌then◌else◌}
 use Rattle.cm_base.specs.Configuration.{Configuration}
-use Rattle.lba_ranges.specs.HeldBlocks.{HeldBlocks, cut}
+use Rattle.lba_ranges.specs.HeldBlocks.{HeldBlocks, cut_into, blocks_bytes}
 use Rattle.lba_ranges.specs.declared.ranges.Range.{Range}
 use Rattle.scsi_sense.specs.SenseCode.{SenseCode}
 use Rattle.scsi_sense.specs.Codes.{invalid_field_in_cdb}
@@ -12,13 +12,12 @@ use Rattle.cm_history.specs.declared.answer.Answer.{Answer}
 use Rattle.pr_keys.specs.declared.lists.OutList.{OutList}
 use Rattle.pr_keys.specs.Bytes.{keys_bytes, holder_bytes}
 use Rattle.cmd_program.specs.Program.{Program, good, done, refused, refused_as, conflict, never, unless_refused, with_blocks, with_report, ask_then}
-use Rattle.lba_ranges.specs.HeldBlocks.{blocks_bytes}
 use Rattle.copy_status.specs.StatusBytes.{status4_bytes, status1_bytes}
 use Rattle.cmd_program.specs.AnswerBytes.{map_bytes, status_of, report_token_bytes, copy_code}
 
 -- the blocks of data that came with a WRITE
 abbrev pub blocks_in : ℕ → List ℕ → HeldBlocks
-blocks_in size bytes = record { block_length = size; items = cut size (length bytes / size) bytes }
+blocks_in size bytes = record { block_length = size; items = cut_into size (length bytes / size) bytes }
 
 -- ---- what is told of each answer; `allocation` is the allocation length
 

@@ -65,10 +65,10 @@ abbrev pub rod_part : TokenWrite → HeldBlocks → HeldBlocks
 rod_part w rod = record rod { items = slice_range rod.items w.list.offset (w.list.offset + wanted w) }
 
 -- after the Redeem
-abbrev pub redeemed : TokenWrite → Answer → Program
-redeemed w (Answer.Rod rod) = if nat_lt (length rod.items) (w.list.offset + wanted w) then refused invalid_field_in_parameter_list else starting w (rod_part w rod)
-redeemed w (Answer.Refused sense) = refused sense
-redeemed w _ = never
+abbrev pub after_redeem : TokenWrite → Answer → Program
+after_redeem w (Answer.Rod rod) = if nat_lt (length rod.items) (w.list.offset + wanted w) then refused invalid_field_in_parameter_list else starting w (rod_part w rod)
+after_redeem w (Answer.Refused sense) = refused sense
+after_redeem w _ = never
 
 -- the zero token: its rod part is unmapped, and the offset is ignored
 abbrev pub zero_rod : Configuration → TokenWrite → HeldBlocks
@@ -80,7 +80,7 @@ write_by config w TokenKind.BadLength = refused invalid_token_length
 write_by config w TokenKind.BadType = refused unsupported_token_type
 write_by config w TokenKind.Zero = starting w (zero_rod config w)
 write_by config w (TokenKind.Names creator serial) =
-    if is_configured config creator then ask_then creator (Act.Redeem w.list.token w.unit) (redeemed w) else refused token_unknown
+    if is_configured config creator then ask_then creator (Act.Redeem w.list.token w.unit) (after_redeem w) else refused token_unknown
 
 -- the whole command, as its list was read
 abbrev pub write_using_token : Configuration → ℕ → ℕ → Result WriteList SenseCode → Program

@@ -20,10 +20,10 @@ status_code OperationStatus.Background = 0x12
 status_code OperationStatus.Terminated = 0x60
 
 -- in progress, in foreground or in background
-abbrev pub is_running : OperationStatus → Bool
-is_running OperationStatus.Foreground = true
-is_running OperationStatus.Background = true
-is_running _ = false
+abbrev pub is_in_progress : OperationStatus → Bool
+is_in_progress OperationStatus.Foreground = true
+is_in_progress OperationStatus.Background = true
+is_in_progress _ = false
 
 -- the sense of an operation that was completed with errors
 abbrev pub sense_of : OperationStatus → Option SenseCode
@@ -31,11 +31,11 @@ sense_of (OperationStatus.Failed sense) = Some sense
 sense_of _ = None
 
 -- what is told of an operation of this status that has moved so many blocks
-abbrev pub told : Bool → OperationStatus → ℕ → CopyStatus
-told populate status count = record {
+abbrev pub told_status : Bool → OperationStatus → ℕ → CopyStatus
+told_status populate status count = record {
   populate = populate;
   status = status_code status;
-  running = is_running status;
+  running = is_in_progress status;
   sense = sense_of status;
   count = count;
 }

@@ -1,5 +1,5 @@
 ghost use Rattle.std.specs.Prelude.{◌≡◌, ◌≤◌, ◌==◌, ◌||◌, is_some, IsTrue};
-ghost use Rattle.copy_status.specs.CopyStatus.{told, is_code};
+ghost use Rattle.copy_status.specs.CopyStatus.{told_status, is_code};
 
 use crate::operation::OperationStatus;
 use scsi_sense::Sense;
@@ -19,11 +19,11 @@ pub struct StatusFields {
 
 impl Model for StatusFields {
     ghost use Rattle.std.specs.Prelude.{◌≤◌};
-    ghost use Rattle.copy_status.specs.CopyStatus.{CopyStatus, told};
+    ghost use Rattle.copy_status.specs.CopyStatus.{CopyStatus, told_status};
 
     ghost Value = { CopyStatus };
 
-    ghost view = { λ f. told f.populate f.status f.count };
+    ghost view = { λ f. told_status f.populate f.status f.count };
 
     ghost invariant = { λ f. f.count ≤ 1_048_576 };
 }
@@ -33,7 +33,7 @@ impl StatusFields {
     /// otherwise a WRITE USING TOKEN. It takes no memory.
     pub fn new(populate: bool, status: OperationStatus, count: u64) -> StatusFields
         requires { count ≤ 1_048_576 }
-        ensures { result ≡ told populate status count }
+        ensures { result ≡ told_status populate status count }
     {
         StatusFields {
             populate,

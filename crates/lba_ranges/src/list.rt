@@ -3,20 +3,21 @@ ghost use Rattle.std.specs.Option.{option_copied};
 ghost use Rattle.std.specs.List.{list_all, count_by};
 ghost use Rattle.lba_ranges.specs.inner.Runs.{pieces_of};
 ghost use Rattle.lba_ranges.specs.inner.HeldBlocks.{items_of, AllFull};
-ghost use Rattle.lba_ranges.specs.HeldBlocks.{HeldBlocks, filled, cut, IsFull, held_at, AllSized, blocks_bytes};
+ghost use Rattle.lba_ranges.specs.HeldBlocks.{HeldBlocks, filled, cut_into, IsFull, held_at, AllSized, blocks_bytes};
 
 use crate::fill::{Fill, Piece};
-use crate::runs::{PlacedPiece, first_after, move_ends, push_joined};
+use crate::runs::{PlacedPiece, Runs, first_after, move_ends, push_joined};
 use cm_base::{Bytes, OutOfMemory, Payload};
+use smallvec::SmallVec;
 use std::alloc::Global;
 use std::marker::Model;
 
-/// A list of blocks, each of which holds bytes or is unmapped.
+/// A list of blocks, each of which holds bytes or is unmapped. A list of one run takes no memory but its bytes.
 #[derive(Drop)]
 pub struct BlockList {
     block_length: u32,
     count: u64,
-    runs: Vec<PlacedPiece>,
+    runs: Runs,
 }
 
 impl Model for BlockList {
@@ -46,21 +47,8 @@ impl BlockList {
         BlockList {
             block_length,
             count: 0,
-            runs: Vec::new(alloc),
+            runs: SmallVec::new(alloc),
         }
-    }
-
-    /// The same, with room for so many runs.
-    fn with_room(alloc: Global, block_length: u32, runs: usize) -> Result<BlockList, OutOfMemory>
-        ensures length { IfOk result (λ list. list.block_length ≡ block_length) }
-        ensures empty { IfOk result (λ list. list.items ≡ []) }
-    {
-        let runs = Vec::with_capacity(alloc, runs)?;
-        Ok(BlockList {
-            block_length,
-            count: 0,
-            runs,
-        })
     }
 
     /// The list of the blocks whose bytes these are, `count` blocks of `block_length` bytes.
@@ -72,9 +60,9 @@ impl BlockList {
     ) -> Result<BlockList, OutOfMemory>
         requires { length bytes ≡ count * block_length }
         ensures { IfOk result (λ list. list
-            ≡ record { block_length = block_length; items = cut block_length count bytes }) }
+            ≡ record { block_length = block_length; items = cut_into block_length count bytes }) }
     {
-        let mut list = BlockList::with_room(alloc, block_length, 1)?;
+        let mut list = BlockList::empty(alloc, block_length);
         list.push(Piece {
             count,
             fill: Fill::Bytes(bytes),
@@ -101,7 +89,7 @@ impl BlockList {
     pub fn is_mapped(&self) -> bool
         ensures { result ≡ list_all is_some self.now.items }
     {
-        for run in &self.runs {
+        for run in self.runs.as_slice() {
             if !run.piece.is_mapped(self.block_length) {
                 return false;
             }
@@ -115,7 +103,7 @@ impl BlockList {
     {
         let _all = self.count;
         let mut blocks = 0;
-        for run in &self.runs {
+        for run in self.runs.as_slice() {
             blocks += u64::from(run.piece.mapped());
         }
         blocks
@@ -176,7 +164,7 @@ impl BlockList {
         ensures sized { IfOk result (λ v. AllSized self.now.block_length v.items) }
     {
         let mut items = Vec::new(alloc);
-        for run in &self.runs {
+        for run in self.runs.as_slice() {
             run.piece.push_items(self.block_length, &mut items)?;
         }
         Ok(items)
@@ -189,7 +177,7 @@ impl BlockList {
         ensures err { OnErr result ((part : List ℕ) × (into.new ≡ into.old ++ part)) }
         ensures length { length (blocks_bytes self.now) ≡ length self.now.items * self.now.block_length }
     {
-        for run in &self.runs {
+        for run in self.runs.as_slice() {
             run.piece.read_into(self.block_length, into)?;
         }
         Ok(())
@@ -280,9 +268,7 @@ impl BlockList {
         }
         let runs = self.runs.as_slice();
         let first = first_after(runs, from);
-        // most lists, and most parts of them, have one run or two, where a list that grows takes room for four
-        let room = (runs.len() - first).min(2);
-        let mut list = BlockList::with_room(alloc, self.block_length, room)?;
+        let mut list = BlockList::empty(alloc, self.block_length);
         let skip = runs[first].place(from);
         list.push_window(&runs[first..], u64::from(skip), count)?;
         Ok(list)

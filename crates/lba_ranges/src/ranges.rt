@@ -11,7 +11,7 @@ use std::alloc::Global;
 use std::marker::Model;
 
 /// Some blocks in a row.
-#[derive(Drop, Clone, Copy)]
+#[derive(Drop, Clone, Copy, Default)]
 pub struct Range {
     pub lba: u64,
     pub count: u32,

@@ -1,44 +1,48 @@
 ghost use Rattle.std.specs.Prelude.{◌≡◌, ◌<◌, ◌≤◌, ◌+◌, ◌++◌, ◌∷◌, [], length, IfOk, OnOk, OnErr, IfSome, IfNone};
 
 use crate::ranges::Range;
-use cm_base::{OutOfMemory, SequenceRoom};
+use cm_base::OutOfMemory;
+use smallvec::SmallVec;
 use std::alloc::Global;
 use std::marker::Model;
 
 /// At most 64 ranges with their room. Contracts see the ranges, and how many more have room.
+/// Most lists have one range, for which there is room in the value itself.
 #[derive(Drop)]
 pub struct RangeListRoom {
-    ranges: SequenceRoom<Range>,
+    ranges: SmallVec<Range, 1>,
 }
 
 impl Model for RangeListRoom {
-    ghost use Rattle.std.specs.Prelude.{◌≤◌, length};
+    ghost use Rattle.std.specs.Prelude.{◌≤◌, ◌-◌, length};
     ghost use Rattle.cm_base.specs.Roomy.{Roomy};
     ghost use Rattle.lba_ranges.specs.declared.ranges.Range.{Range};
 
     ghost Value = { Roomy Range };
 
-    ghost view = { λ r. r.ranges };
+    ghost view = { λ r. record {
+      items = r.ranges.items;
+      spare = r.ranges.capacity - length r.ranges.items;
+    } };
 
     ghost invariant = { λ r. length r.ranges.items ≤ 64 };
 }
 
 impl RangeListRoom {
-    /// No ranges, and room for none. It takes no memory.
+    /// No ranges. It takes no memory.
     pub(crate) fn empty(alloc: Global) -> RangeListRoom
-        ensures { result ≡ record { items = []; spare = 0 } }
+        ensures { result.items ≡ [] }
     {
         RangeListRoom {
-            ranges: SequenceRoom::empty(alloc),
+            ranges: SmallVec::new(alloc),
         }
     }
 
-    /// Equal ranges, and room for no more.
+    /// Equal ranges. One range takes no memory.
     pub(crate) fn copy(&self, alloc: Global) -> Result<RangeListRoom, OutOfMemory>
-        ensures { IfOk result (λ room. room ≡ record { items = self.now.items; spare = 0 }) }
+        ensures { IfOk result (λ room. room.items ≡ self.now.items) }
     {
-        let mut ranges = SequenceRoom::empty(alloc);
-        ranges.extend(self.as_slice())?;
+        let ranges = SmallVec::from_slice(alloc, self.as_slice())?;
         Ok(RangeListRoom { ranges })
     }
 
@@ -62,10 +66,10 @@ impl RangeListRoom {
     pub fn spare(&self) -> u64
         ensures { result ≡ self.now.spare }
     {
-        self.ranges.spare()
+        (self.ranges.capacity() - self.ranges.len()) as u64
     }
 
-    /// Makes room for so many more ranges. At `OutOfMemory` the room is as before.
+    /// Makes room for so many more ranges; where there is so much room it takes no memory. At `OutOfMemory` the room is as before.
     pub fn reserve(&mut self, more: u64) -> Result<(), OutOfMemory>
         ensures same { self.new.items ≡ self.old.items }
         ensures room { OnOk result (more ≤ self.new.spare) }
@@ -73,7 +77,11 @@ impl RangeListRoom {
         ensures err { OnErr result (self.new ≡ self.old) }
         ensures needed { OnErr result (self.old.spare < more) }
     {
-        self.ranges.reserve(more)
+        if more <= self.spare() {
+            return Ok(());
+        }
+        self.ranges.reserve(more as usize)?;
+        Ok(())
     }
 
     /// Adds a range to the end, for which there is room. It takes no memory.
@@ -83,14 +91,13 @@ impl RangeListRoom {
         ensures added { self.new.items ≡ self.old.items ++ range ∷ [] }
         ensures room { self.new.spare + 1 ≡ self.old.spare }
     {
-        self.ranges.append(range);
+        self.ranges.push_reserved(range);
     }
 
     /// Takes the last range out; `None` exactly where there are none. It takes no memory.
     pub(crate) fn pop(&mut self) -> Option<Range>
         ensures last { IfSome result (λ range. self.old.items ≡ self.new.items ++ range ∷ []) }
         ensures empty { IfNone result ((self.old.items ≡ []) × (self.new.items ≡ [])) }
-        ensures room { self.new.spare ≡ self.old.spare }
     {
         self.ranges.pop()
     }

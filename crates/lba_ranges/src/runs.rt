@@ -1,4 +1,4 @@
-ghost use Rattle.std.specs.Prelude.{◌≡◌, ◌-◌, ◌+◌, ◌<◌, ◌≤◌, ◌^◌, ◌++◌, ℕ, length, IfSome, OnOk, OnErr, true, false, map, slice_index_or};
+ghost use Rattle.std.specs.Prelude.{◌≡◌, ◌-◌, ◌+◌, ◌<◌, ◌≤◌, ◌^◌, ◌++◌, ℕ, length, IfSome, OnOk, OnErr, true, false, map, slice_index_or, slice_set};
 ghost use Rattle.std.specs.List.Sorted.{IsNonDecreasingBy};
 ghost use Rattle.lba_ranges.specs.declared.fill.Fill.TheVariants.{Hole};
 ghost use Rattle.lba_ranges.specs.declared.runs.PlacedPiece.{PlacedPiece};
@@ -8,12 +8,29 @@ ghost use Rattle.lba_ranges.specs.inner.Runs.{pieces_of, Spans, IsFirstAfter, la
 
 use crate::fill::{Fill, Piece};
 use cm_base::OutOfMemory;
+use smallvec::SmallVec;
 
 /// A run of blocks in a list. The place where it ends is how many blocks there are up to it.
 #[derive(Drop)]
 pub(crate) struct PlacedPiece {
     pub(crate) end: u64,
     pub(crate) piece: Piece,
+}
+
+/// Runs in their order. Most lists have one, which lies in the value itself.
+pub(crate) type Runs = SmallVec<PlacedPiece, 1>;
+
+// the blank where a value has room for a run
+impl Default for PlacedPiece {
+    fn default() -> PlacedPiece {
+        PlacedPiece {
+            end: 0,
+            piece: Piece {
+                count: 0,
+                fill: Fill::Hole,
+            },
+        }
+    }
 }
 
 impl PlacedPiece {
@@ -49,9 +66,17 @@ fn widened(last: &Piece, more: &Piece) -> Option<u32>
     }
 }
 
+/// Puts a run in the place of another.
+fn replace_run(runs: &mut Runs, index: usize, run: PlacedPiece)
+    requires { index < length runs.old.items }
+    ensures { runs.new.items ≡ slice_set runs.old.items index run }
+{
+    runs[index] = run;
+}
+
 /// Lets a hole at the end take in the blocks of a hole, which end at this place.
 /// Otherwise, at `false`, all stays.
-fn widen_hole(runs: &mut Vec<PlacedPiece>, end: u64, more: &Piece) -> bool
+fn widen_hole(runs: &mut Runs, end: u64, more: &Piece) -> bool
     ensures widened { result ≡ true → (size : ℕ) → items_of size (pieces_of runs.new.items)
         ≡ items_of size (pieces_of runs.old.items) ++ filled size more.now.count more.now.fill }
     ensures full { (size : ℕ) → AllFull size (pieces_of runs.old.items) → AllFull size (pieces_of runs.new.items) }
@@ -66,22 +91,16 @@ fn widen_hole(runs: &mut Vec<PlacedPiece>, end: u64, more: &Piece) -> bool
         return false;
     };
     let last = runs.len() - 1;
-    runs[last] = PlacedPiece {
-        end,
-        piece: Piece {
-            count,
-            fill: Fill::Hole,
-        },
+    let piece = Piece {
+        count,
+        fill: Fill::Hole,
     };
+    replace_run(runs, last, PlacedPiece { end, piece });
     true
 }
 
 /// Adds a run to the end, up to this place; a hole joins the hole before it.
-pub(crate) fn push_joined(
-    runs: &mut Vec<PlacedPiece>,
-    end: u64,
-    piece: Piece,
-) -> Result<(), OutOfMemory>
+pub(crate) fn push_joined(runs: &mut Runs, end: u64, piece: Piece) -> Result<(), OutOfMemory>
     ensures items { OnOk result ((size : ℕ) → items_of size (pieces_of runs.new.items)
         ≡ items_of size (pieces_of runs.old.items) ++ filled size piece.count piece.fill) }
     ensures full { OnOk result ((size : ℕ) → AllFull size (pieces_of runs.old.items) → IsFull size piece.count piece.fill
@@ -98,7 +117,7 @@ pub(crate) fn push_joined(
 }
 
 /// Lets each run end so many blocks later.
-pub(crate) fn move_ends(runs: &mut Vec<PlacedPiece>, by: u64)
+pub(crate) fn move_ends(runs: &mut Runs, by: u64)
     requires { (k : ℕ) (d : PlacedPiece) → k < length runs.old.items → (slice_index_or runs.old.items k d).end + by < 2 ^ 64 }
     ensures { runs.new.items ≡ map (later by) runs.old.items }
 {

@@ -4,11 +4,10 @@ use Rattle.std.specs.Prelude.{Option, Some, None, is_some, ◌⊎◌, ◌||◌, 
 use Rattle.std.proofs.lemmas.Bool.{cases_eq}
 use Rattle.std.proofs.lemmas.Bool.Decides.{nat_tests}
 use Rattle.lba_ranges.specs.declared.ranges.Range.{Range}
-use Rattle.lba_ranges.specs.Denoted.{is_within, is_overlapping}
+use Rattle.lba_ranges.specs.Denoted.{is_within, is_overlapping, covers, denotes}
 use Rattle.lun_versions.specs.declared.segment.Segment.{Segment}
 use Rattle.lun_versions.specs.declared.pinned.Pinned.{Pinned}
 use Rattle.lba_ranges.specs.Writings.{Held}
-use Rattle.lba_ranges.specs.Denoted.{covers, denotes}
 use Rattle.lba_ranges.specs.Versions.{Writers, with_pin}
 use Rattle.lun_versions.specs.Chains.{Slot, shown_at}
 use Rattle.lun_versions.specs.inner.Chains.{last_to, mapped_slots, kept_below}

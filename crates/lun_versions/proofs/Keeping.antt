@@ -6,12 +6,11 @@ use Rattle.std.proofs.lemmas.Bool.{cases_lt, cases_eq}
 use Rattle.std.proofs.lemmas.Bool.Decides.{nat_tests}
 use Rattle.std.proofs.lemmas.List.Folds.{list_any-append}
 use Rattle.lba_ranges.specs.declared.ranges.Range.{Range}
-use Rattle.lba_ranges.specs.Denoted.{row, blocks_of}
+use Rattle.lba_ranges.specs.Denoted.{row, blocks_of, covers, denotes}
 use Rattle.lba_ranges.specs.HeldBlocks.{held_at}
 use Rattle.lba_ranges.specs.Writings.{Held, Writing, paired, unmapped, after, is_written}
 use Rattle.lun_versions.specs.declared.pinned.Pinned.{Pinned}
 use Rattle.lun_versions.specs.declared.earlier.Part.{Part}
-use Rattle.lba_ranges.specs.Denoted.{covers, denotes}
 use Rattle.lba_ranges.specs.Versions.{Writers}
 use Rattle.lun_versions.specs.Chains.{Slot, AreWritten, put_at}
 use Rattle.lun_versions.specs.inner.Chains.{AllPinned, last_to, kept_below}

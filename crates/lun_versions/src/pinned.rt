@@ -1,9 +1,8 @@
 // Live pins, and what they cover.
 ghost use Rattle.std.specs.Prelude.{◌≡◌, ◌⊎◌, ℕ, ◌<◌, ◌≤◌, Some, true, false, IsTrue, nat_lt, ◌&&◌, ◌||◌, if◌then◌else◌};
-ghost use Rattle.lba_ranges.specs.Denoted.{is_within};
+ghost use Rattle.lba_ranges.specs.Denoted.{is_within, covers, denotes};
 ghost use Rattle.lun_versions.specs.declared.pinned.Pinned.{Pinned};
 ghost use Rattle.slab.specs.Slab.{get};
-ghost use Rattle.lba_ranges.specs.Denoted.{covers, denotes};
 ghost use Rattle.lun_versions.specs.inner.Chains.{PinBetween};
 ghost use Rattle.lun_versions.specs.inner.Units.{LivesAt, NewerPin, IsEvenPin};
 

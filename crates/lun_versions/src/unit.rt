@@ -1,7 +1,7 @@
 ghost use Rattle.std.specs.Prelude.{◌≡◌, ℕ, ◌+◌, ◌-◌, ◌^◌, ◌++◌, ◌<◌, ◌≤◌, map, List, Some, None, IsSome, IfOk, OnOk, OnErr, IsTrue, length, false};
 ghost use Rattle.lba_ranges.specs.declared.ranges.Range.{Range};
 ghost use Rattle.slab.specs.Slab.{get};
-ghost use Rattle.lba_ranges.specs.Denoted.{row, blocks_of, total, is_within, is_overlapping};
+ghost use Rattle.lba_ranges.specs.Denoted.{row, blocks_of, total, is_within, is_overlapping, denotes};
 ghost use Rattle.lba_ranges.specs.Writings.{paired, unmapped, after};
 ghost use Rattle.lun_extents.specs.Extents.{held_in};
 ghost use Rattle.lun_versions.specs.Units.{ranges_of};
@@ -9,7 +9,6 @@ ghost use Rattle.lun_versions.specs.Alike.{agreeing_written};
 ghost use Rattle.lun_versions.specs.Versioned.{shown_by};
 ghost use Rattle.lun_versions.specs.inner.Chains.{kept_below};
 ghost use Rattle.lun_versions.specs.inner.Planned.{ArePlanned, mapped_parts};
-ghost use Rattle.lba_ranges.specs.Denoted.{denotes};
 ghost use Rattle.lba_ranges.specs.Versions.{Version, Writers, without_repeats, IsNew, PinsStay, with_pin, with_put, with_ranges};
 ghost use Rattle.lun_versions.specs.Versioned.{Versioned, holds, chain, WrittenBy};
 ghost use Rattle.lun_versions.specs.inner.Versioned.{pinned, shown, shown_then, AreStored};

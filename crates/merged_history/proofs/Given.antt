@@ -4,8 +4,8 @@ use Rattle.cm_base.specs.Configuration.{Configuration}
 use Rattle.cm_history.specs.declared.act.Actor.{Actor}
 use Rattle.cm_history.specs.declared.act.Entry.{Entry}
 use Rattle.cm_history.proofs.PublicLaws.{In, Each}
-use Rattle.pass_register.specs.declared.known.Ticket.{Ticket}
-use Rattle.pass_register.specs.Passes.{Joined, own_of}
+use Rattle.merged_history.specs.declared.known.Ticket.{Ticket}
+use Rattle.merged_history.specs.Seats.{Joined, own_of}
 use Rattle.merged_history.specs.Own.{Rises, IsAsked}
 use Rattle.merged_history.specs.Passes.{of_unit}
 

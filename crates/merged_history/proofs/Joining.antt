@@ -12,10 +12,9 @@ use Rattle.merged_history.specs.Merged.{merged, rests}
 use Rattle.merged_history.specs.Own.{IsAsked, IsBelow, IsOwn}
 use Rattle.merged_history.specs.Resumed.{IsResumed}
 use Rattle.merged_history.proofs.Resumed.{resumed}
-use Rattle.pass_register.specs.Passes.{Joined, own_of}
+use Rattle.merged_history.specs.Seats.{Joined, own_of, ticket_of}
 use Rattle.merged_history.specs.Passes.{AreJoined, of_unit, AreFrom, IsWhole}
-use Rattle.pass_register.specs.declared.known.Ticket.{Ticket}
-use Rattle.pass_register.specs.Passes.{ticket_of}
+use Rattle.merged_history.specs.declared.known.Ticket.{Ticket}
 use Rattle.merged_history.specs.PassRules.{IsNew, AreSeen, IsPass, AreLonger, AreApart, AreFree, IsRoot, made_after, MayPass}
 use Rattle.merged_history.proofs.OfActor.{own_of-append, joined-more, joined-none}
 use Rattle.merged_history.proofs.Whole.{whole}

@@ -10,3 +10,6 @@ pub mod Joining
 pub mod Given
 pub mod Resumed
 pub mod PublicLaws
+pub mod Lists
+pub mod Registering
+pub mod Left

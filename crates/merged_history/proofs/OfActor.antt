@@ -10,7 +10,7 @@ use Rattle.cm_history.specs.declared.act.Entry.{Entry}
 use Rattle.cm_history.specs.Deeds.{same_actor}
 use Rattle.cm_history.proofs.PublicLaws.{Each-in, Each-by, Each-append, same_actor-is, In, Each}
 use Rattle.merged_history.specs.Own.{Rises, IsNumbered, IsBelow, IsOwn}
-use Rattle.pass_register.specs.Passes.{Joined, own_of}
+use Rattle.merged_history.specs.Seats.{Joined, own_of}
 use Rattle.merged_history.specs.Passes.{AreJoined}
 use Rattle.merged_history.proofs.Sorted.{Before, Sorted}
 

@@ -15,7 +15,7 @@ use Rattle.merged_history.proofs.Members.{In-append, In-append_right, In-split}
 use Rattle.merged_history.specs.Merged.{all_of, merged}
 use Rattle.merged_history.specs.Own.{IsBelow, IsAsked, IsOwn}
 use Rattle.merged_history.specs.Passes.{of_unit, AreFrom}
-use Rattle.pass_register.specs.declared.known.Ticket.{Ticket}
+use Rattle.merged_history.specs.declared.known.Ticket.{Ticket}
 use Rattle.merged_history.specs.PassRules.{IsNew, AreSeen, IsPass, AreLonger}
 use Rattle.merged_history.proofs.Sorted.{Before, Sorted, merged-sorted, merged-in, in-merged, sorted-same}
 use Rattle.merged_history.proofs.OfActor.{rises-append, own-append}

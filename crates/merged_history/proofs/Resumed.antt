@@ -15,7 +15,7 @@ use Rattle.merged_history.proofs.OfActor.{rises-one, rises-sorted}
 use Rattle.merged_history.specs.Merged.{all_of, fronts, merged, rests}
 use Rattle.merged_history.specs.Resumed.{IsNewTo, IsOrdered, IsResumed}
 use Rattle.merged_history.specs.Own.{by, IsAsked}
-use Rattle.pass_register.specs.Passes.{Joined, own_of}
+use Rattle.merged_history.specs.Seats.{Joined, own_of}
 use Rattle.merged_history.specs.Passes.{AreJoined, of_unit}
 use Rattle.merged_history.proofs.Sorted.{Before, Sorted, before-not, in-merged, sorted-filter, sorted-pairs, sorted-same}
 use Rattle.merged_history.proofs.Whole.{all-in, of_actor, part, sorted, stands-on}

@@ -4,10 +4,9 @@ use Rattle.std.specs.Prelude.{◌⊎◌, slice_get, slice_index, slice_set, fold
 use Rattle.cm_history.specs.declared.act.Entry.{Entry}
 use Rattle.cm_history.proofs.PublicLaws.{Each-in, Each-by, In, Each}
 use Rattle.merged_history.proofs.Members.{In-append, In-append_right, In-split}
-use Rattle.merged_history.specs.Merged.{is_earlier, put_in_order, all_of, merged}
+use Rattle.merged_history.specs.Merged.{is_earlier, put_in_order, all_of, merged, rests}
 use Rattle.merged_history.specs.Own.{Rises}
 use Rattle.merged_history.specs.Passes.{of_unit, AreFrom}
-use Rattle.merged_history.specs.Merged.{rests}
 use Rattle.merged_history.specs.inner.Merging.{head, AreDone, IsLeast}
 use Rattle.merged_history.proofs.Sorted.{Before, earlier-before, merged-sorted, merged-in, in-merged, before-later, sorted-same}
 use Rattle.merged_history.proofs.OfActor.{rises-above}

@@ -3,9 +3,8 @@ use Rattle.std.proofs.Common.{◌<◌, ◌≤◌, ◌≡◌, ℕ, zero, suc, Lis
 use Rattle.std.specs.Prelude.{slice_get, slice_index, slice_index_or, slice_set, replicate}
 use Rattle.std.proofs.lemmas.List.{length-set, length-map, length-replicate}
 use Rattle.cm_history.specs.declared.act.Entry.{Entry}
-use Rattle.merged_history.specs.Merged.{merged}
+use Rattle.merged_history.specs.Merged.{merged, rests}
 use Rattle.merged_history.specs.Passes.{AreFrom}
-use Rattle.merged_history.specs.Merged.{rests}
 use Rattle.merged_history.specs.inner.Merging.{head, AreDone, IsLeast, IsSoFar}
 use Rattle.merged_history.proofs.Heads.{head-is}
 use Rattle.merged_history.proofs.Steps.{merged-step, merged-done, rests-none}

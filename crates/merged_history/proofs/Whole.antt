@@ -12,7 +12,7 @@ use Rattle.cm_history.proofs.PublicLaws.{same_actor-self, Each-in, Each-by, Each
 use Rattle.merged_history.proofs.Members.{In-append, In-append_right, In-split, in-filter, Pairs, Pairs-all}
 use Rattle.merged_history.specs.Merged.{RiseByActor, all_of, merged}
 use Rattle.merged_history.specs.Own.{by, Rises, IsAsked}
-use Rattle.pass_register.specs.Passes.{Joined, own_of}
+use Rattle.merged_history.specs.Seats.{Joined, own_of}
 use Rattle.merged_history.specs.Passes.{AreJoined, of_unit, AreFrom, IsWhole}
 use Rattle.merged_history.proofs.Sorted.{Before, Differs, Sorted, Apart, before-not, merged-sorted, merged-in, in-merged, sorted-pairs, sorted-same, sorted-filter}
 use Rattle.merged_history.proofs.OfActor.{rises-above, rises-sorted, rises-one, numbered-lower, lower, count-filter}

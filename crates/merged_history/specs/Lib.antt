@@ -4,3 +4,4 @@ pub mod Passes
 pub mod PassRules
 pub mod Resumed
 pub mod inner
+pub mod Seats

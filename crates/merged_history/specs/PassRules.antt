@@ -8,8 +8,8 @@ use Rattle.cm_history.specs.declared.act.Entry.{Entry}
 use Rattle.merged_history.specs.Merged.{merged}
 use Rattle.cm_history.proofs.PublicLaws.{In, Each}
 use Rattle.merged_history.specs.Own.{Rises, IsBelow, IsAsked, IsOwn}
-use Rattle.pass_register.specs.declared.known.Ticket.{Ticket}
-use Rattle.pass_register.specs.Passes.{Joined, own_of}
+use Rattle.merged_history.specs.declared.known.Ticket.{Ticket}
+use Rattle.merged_history.specs.Seats.{Joined, own_of}
 use Rattle.merged_history.specs.Passes.{AreJoined, of_unit, AreFrom}
 
 abbrev pub IsNew : Actor → List Entry → Type 0

@@ -6,7 +6,7 @@ use Rattle.cm_history.specs.declared.act.Entry.{Entry}
 use Rattle.cm_history.specs.History.{on}
 use Rattle.cm_history.specs.Legal.{IsLegal}
 use Rattle.cm_history.proofs.PublicLaws.{Each}
-use Rattle.pass_register.specs.Passes.{Joined, own_of}
+use Rattle.merged_history.specs.Seats.{Joined, own_of}
 use Rattle.merged_history.specs.Merged.{IsSorted, RiseByActor}
 use Rattle.merged_history.specs.Own.{by, Rises, IsOwn}
 

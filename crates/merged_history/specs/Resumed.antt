@@ -10,7 +10,7 @@ use Rattle.cm_history.proofs.PublicLaws.{Each, In}
 use Rattle.merged_history.specs.Merged.{IsSorted, RiseBehind, all_of, fronts, merged, rests}
 use Rattle.merged_history.specs.Own.{by, Rises}
 use Rattle.merged_history.specs.Passes.{of_unit}
-use Rattle.pass_register.specs.Passes.{Joined, own_of}
+use Rattle.merged_history.specs.Seats.{Joined, own_of}
 
 -- legal but for the numbers and the stamps of one actor's entries
 pub record IsOrdered (config : Configuration) (entries : List Entry) : Type 0 where

@@ -5,9 +5,13 @@
 // entries exactly those of its joined passes.
 #![tactic(auto)]
 
+mod known;
 mod merging;
+mod register;
 
+pub use known::{JoinedPass, Known, Ticket};
 pub use merging::{Kept, merge};
+pub use register::{PassSeat, Register, RootSeat};
 
 #[cfg(test)]
 mod tests;

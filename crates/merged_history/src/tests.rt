@@ -2,6 +2,7 @@ ghost use Rattle.std.specs.Prelude.{◌≡◌, ◌<◌, [], ◌∷◌, IfOk};
 ghost use Rattle.merged_history.specs.Passes.{AreFrom};
 
 use crate::merge;
+use crate::register::Register;
 use cm_base::OutOfMemory;
 use cm_history::{Act, Actor, Entry, History};
 use std::alloc::Global;
@@ -46,5 +47,16 @@ fn histories_are_merged_by_stamp_and_then_by_unit(rt: HostRuntime) -> Result<(),
     }
     let wanted = [(0, 1), (1, 2), (0, 4), (1, 4)];
     assert_eq!(rt; order.as_slice(), wanted.as_slice());
+    Ok(())
+}
+
+// A register, two passes at it, of which the later one is joined first. There is memory for it.
+#[test]
+fn passes_are_joined_in_another_order_than_made(rt: HostRuntime) -> Result<(), Fail> {
+    let (register, mut root) = Register::new(rt.alloc())?;
+    let first = register.split(&mut root, Actor::Nexus(0));
+    let second = register.split(&mut root, Actor::Pump(0));
+    register.join(&mut root, second, &());
+    register.join(&mut root, first, &());
     Ok(())
 }

@@ -11,7 +11,7 @@ use Rattle.cm_base.specs.Units.{unit_of}
 use Rattle.cm_history.specs.declared.act.Act.{Act}
 use Rattle.cm_history.specs.Limits.{within_limits}
 use Rattle.cmd_program.specs.SingleActs.{act_alone, blocks_in}
-use Rattle.lba_ranges.specs.HeldBlocks.{HeldBlocks, cut}
+use Rattle.lba_ranges.specs.HeldBlocks.{HeldBlocks, cut_into}
 use Rattle.lba_ranges.proofs.PublicLaws.{length-cut, mapped-cut as cut-mapped}
 
 pub count-of : (size n all : ℕ) → 0 < size → all ≡ n * size → all / size ≡ n
@@ -20,14 +20,14 @@ count-of size n all some is = div-eq_of_eq-mul_left some is
 -- ---- a WRITE of the blocks that its data is cut into
 
 pub write-program : (unit lba count size : ℕ) (out : List ℕ) (list : HeldBlocks) → 0 < size → length out ≡ count * size
-    → list ≡ record { block_length = size; items = cut size count out } → act_alone unit (Act.Write lba list) ≡ act_alone unit (Act.Write lba (blocks_in size out))
+    → list ≡ record { block_length = size; items = cut_into size count out } → act_alone unit (Act.Write lba list) ≡ act_alone unit (Act.Write lba (blocks_in size out))
 write-program unit lba count size out list some is blocks =
     let counted = count-of size count (length out) some is in
-    let same : list ≡ blocks_in size out = blocks ∙ ap (λ n. record { block_length = size; items = cut size n out }) (sym counted) in
+    let same : list ≡ blocks_in size out = blocks ∙ ap (λ n. record { block_length = size; items = cut_into size n out }) (sym counted) in
     ap (λ l. act_alone unit (Act.Write lba l)) same
 
 pub write-limits : (config : Configuration) (unit lba count size : ℕ) (out : List ℕ) (list : HeldBlocks) → count ≤ 2048
-    → (unit_of config unit).block_length ≡ size → list ≡ record { block_length = size; items = cut size count out }
+    → (unit_of config unit).block_length ≡ size → list ≡ record { block_length = size; items = cut_into size count out }
     → within_limits config unit (Act.Write lba list) ≡ true
 write-limits config unit lba count size out list few told blocks =
     let long : length list.items ≡ count = ap (λ (l : HeldBlocks). length l.items) blocks ∙ length-cut size count out in

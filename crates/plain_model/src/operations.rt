@@ -2,7 +2,7 @@ ghost use Rattle.std.specs.Prelude.{◌≡◌, ◌<◌, ◌≤◌, ◌++◌, ◌
 ghost use Rattle.cm_history.specs.Tokens.{is_populate};
 ghost use Rattle.cm_history.specs.Operations.{Operation, has_key, written, count, list_of, state, result_of, is_running, is_running_state, fits, next_piece, operation_after, made_operation, makes_operation, has_ended, same_key, without_first_ended, with_room, keep};
 ghost use Rattle.cm_history.specs.Answers.{serial_made, report_of};
-ghost use Rattle.cm_history.specs.Room.{reserved_by};
+ghost use Rattle.cm_history.specs.Room.{still_needed};
 ghost use Rattle.plain_model.specs.inner.Forms.{as_form};
 ghost use Rattle.plain_model.specs.inner.Holds.{IsSoundAct, IsSoundOperation, AllSound};
 
@@ -156,7 +156,7 @@ impl PlainOperation {
 
     /// The entries that it may still need, while it runs.
     pub(crate) fn reserved(&self) -> u64
-        ensures { result ≡ reserved_by (length self.now.servers) self.now.made.entry.act }
+        ensures { result ≡ still_needed (length self.now.servers) self.now.made.entry.act }
     {
         match self.act() {
             Act::Start { rod, .. } => {

@@ -9,7 +9,7 @@ ghost use Rattle.cm_history.specs.Limits.{within_limits};
 ghost use Rattle.cm_history.specs.Operations.{OfToken, OfCopy, has_key, kept, next_piece, operations, running, would_serve};
 ghost use Rattle.cm_history.specs.Redeeming.{redeemed, named_token};
 ghost use Rattle.cm_history.specs.Reserving.{reservations, reserved_by, bars_act};
-ghost use Rattle.cm_history.specs.Room.{reserved, need, need_to_serve, is_full};
+ghost use Rattle.cm_history.specs.Room.{kept_free, need, need_to_serve, is_full};
 ghost use Rattle.plain_model.specs.inner.Amounts.{capped, IsShortAct};
 ghost use Rattle.plain_model.specs.inner.Forms.{as_form};
 ghost use Rattle.plain_model.specs.inner.Holds.{IsSizedPast, MayFollow, writes};
@@ -443,7 +443,7 @@ impl PlainUnit {
 impl PlainUnit {
     /// The entries that are kept free for the operations that run.
     fn reserved(&self) -> u64
-        ensures { result ≡ capped (reserved self.now) }
+        ensures { result ≡ capped (kept_free self.now) }
     {
         let mut reserved = 0u64;
         for operation in &self.tables.operations {

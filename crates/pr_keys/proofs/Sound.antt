@@ -15,7 +15,7 @@ use Rattle.pr_keys.specs.declared.state.Reservation.{Reservation}
 use Rattle.pr_keys.specs.Types.{type_code}
 use Rattle.pr_keys.specs.Reservations.{Reservations, unreserved, key_of, is_registered, is_held_by}
 use Rattle.pr_keys.specs.declared.refused.Refusal.TheVariants.{Conflict, Refused}
-use Rattle.pr_keys.specs.Actions.{most_registrants, is_known, asked_type, next, rekey, is_other, stays, without, rekeyed, with_registrant, registered, is_free_for, reserved, released_from, released, cleared, held_by_key, preempted_by, preempted, done_as}
+use Rattle.pr_keys.specs.Actions.{most_registrants, is_known, asked_type, next_generation, rekey, is_other, stays, without_registrant, rekeyed, with_registrant, registered, is_free_for, with_reservation, released_from, released, cleared, held_by_key, preempted_by, preempted, done_as}
 use Rattle.pr_keys.specs.Sound.{AreSound, SoundLaw}
 use Rattle.pr_keys.proofs.Registered.{few-filter, all-filter, apart-filter, still-filter, found-nexus, some-rekey, apart-rekey, keyed-rekey, some-push, apart-push, keyed-push}
 
@@ -27,7 +27,7 @@ Holds rs o = IfSome o (λ r. is_some (key_of r.nexus rs) ≡ true)
 
 -- ---- registrations
 
-without-sound : (s : Reservations) (nexus : ℕ) → AreSound s → AreSound (without s nexus)
+without-sound : (s : Reservations) (nexus : ℕ) → AreSound s → AreSound (without_registrant s nexus)
 without-sound s nexus is = record {
   few = let less = few-filter (is_other nexus) s.registrants in omega (arith, is.few);
   apart = apart-filter (is_other nexus) s.registrants is.apart;
@@ -77,7 +77,7 @@ registered-sound : (s : Reservations) (nexus action_key : ℕ) → AreSound s �
 registered-sound s nexus action_key is = go (action_key == 0) refl (is_registered s nexus) refl (nat_le most_registrants (length s.registrants)) refl
   where
     go : (a : Bool) → (action_key == 0) ≡ a → (b : Bool) → is_registered s nexus ≡ b → (c : Bool) → nat_le most_registrants (length s.registrants) ≡ c
-        → IfOk (if a then Ok (without s nexus) else if b then Ok (rekeyed s nexus action_key) else if c then Err (Refused insufficient_resources) else Ok (with_registrant s nexus action_key)) AreSound
+        → IfOk (if a then Ok (without_registrant s nexus) else if b then Ok (rekeyed s nexus action_key) else if c then Err (Refused insufficient_resources) else Ok (with_registrant s nexus action_key)) AreSound
     go true k b l c m = without-sound s nexus is
     go false k true l c m = rekeyed-sound s nexus action_key k is
     go false k false l true m = tt
@@ -95,7 +95,7 @@ known-registered s nexus key e = go (key_of nexus s.registrants) e
 with-reservation : (s : Reservations) (o : Option Reservation) → AreSound s → Holds s.registrants o → AreSound (record s { reservation = o })
 with-reservation s o is held = record { few = is.few; apart = is.apart; keyed = is.keyed; held = held }
 
-reserved-sound : (s : Reservations) (nexus key : ℕ) (o : Option ReservationType) → AreSound s → IfOk (reserved s nexus key o) AreSound
+reserved-sound : (s : Reservations) (nexus key : ℕ) (o : Option ReservationType) → AreSound s → IfOk (with_reservation s nexus key o) AreSound
 reserved-sound s nexus key None is = tt
 reserved-sound s nexus key (Some kind) is = go (is_known s nexus key) refl (is_free_for (record { kind = kind; nexus = nexus }) s.reservation)
   where
@@ -125,7 +125,7 @@ released-sound s nexus key (Some kind) is = go (is_known s nexus key)
 cleared-sound : (s : Reservations) (nexus key : ℕ) → IfOk (cleared s nexus key) AreSound
 cleared-sound s nexus key = go (is_known s nexus key)
   where
-    go : (t : Bool) → IfOk (if not t then Err Conflict else Ok (record { registrants = []; reservation = None; generation = next s.generation })) AreSound
+    go : (t : Bool) → IfOk (if not t then Err Conflict else Ok (record { registrants = []; reservation = None; generation = next_generation s.generation })) AreSound
     go false = tt
     go true = record { few = omega arith; apart = tt; keyed = refl; held = tt }
 

@@ -32,19 +32,19 @@ asked_type scope kind = if scope == 0 then type_of kind else None
 -- ---- the effects
 
 -- the generation after one more action
-abbrev pub next : ℕ → ℕ
-next generation = (generation + 1) % 2 ^ 32
+abbrev pub next_generation : ℕ → ℕ
+next_generation generation = (generation + 1) % 2 ^ 32
 
 -- the registrant is not the nexus
 abbrev pub is_other : ℕ → Registrant → Bool
 is_other nexus r = not (r.nexus == nexus)
 
 -- the nexus is registered no more, and its reservation ends
-abbrev pub without : Reservations → ℕ → Reservations
-without s nexus = record {
+abbrev pub without_registrant : Reservations → ℕ → Reservations
+without_registrant s nexus = record {
   registrants = filter (is_other nexus) s.registrants;
   reservation = if is_held_by nexus s.reservation then None else s.reservation;
-  generation = next s.generation;
+  generation = next_generation s.generation;
 }
 
 -- the registrant, which has another key where it is the nexus
@@ -55,19 +55,19 @@ rekey nexus key r = if r.nexus == nexus then record r { key = key } else r
 abbrev pub rekeyed : Reservations → ℕ → ℕ → Reservations
 rekeyed s nexus key = record s {
   registrants = map (rekey nexus key) s.registrants;
-  generation = next s.generation;
+  generation = next_generation s.generation;
 }
 
 -- one more nexus is registered
 abbrev pub with_registrant : Reservations → ℕ → ℕ → Reservations
-with_registrant s nexus key = record s { registrants = s.registrants ++ record { nexus = nexus; key = key } ∷ []; generation = next s.generation }
+with_registrant s nexus key = record s { registrants = s.registrants ++ record { nexus = nexus; key = key } ∷ []; generation = next_generation s.generation }
 
 -- ---- the actions
 
 -- REGISTER AND IGNORE EXISTING KEY: key 0 ends the registration
 abbrev pub registered : Reservations → ℕ → ℕ → Result Reservations Refusal
 registered s nexus action_key =
-    if action_key == 0 then Ok (without s nexus) else
+    if action_key == 0 then Ok (without_registrant s nexus) else
     if is_registered s nexus then Ok (rekeyed s nexus action_key) else
     if nat_le most_registrants (length s.registrants) then Err (Refused insufficient_resources) else
     Ok (with_registrant s nexus action_key)
@@ -83,9 +83,9 @@ is_free_for mine None = true
 is_free_for mine (Some r) = (r.nexus == mine.nexus) && (type_code r.kind == type_code mine.kind)
 
 -- RESERVE
-abbrev pub reserved : Reservations → ℕ → ℕ → Option ReservationType → Result Reservations Refusal
-reserved s nexus key None = Err (Refused invalid_field_in_cdb)
-reserved s nexus key (Some kind) =
+abbrev pub with_reservation : Reservations → ℕ → ℕ → Option ReservationType → Result Reservations Refusal
+with_reservation s nexus key None = Err (Refused invalid_field_in_cdb)
+with_reservation s nexus key (Some kind) =
     if not (is_known s nexus key) then Err Conflict else
     if not (is_free_for (record { kind = kind; nexus = nexus }) s.reservation) then Err Conflict else
     Ok (record s { reservation = Some (record { kind = kind; nexus = nexus }) })
@@ -107,7 +107,7 @@ released s nexus key (Some kind) = if not (is_known s nexus key) then Err Confli
 abbrev pub cleared : Reservations → ℕ → ℕ → Result Reservations Refusal
 cleared s nexus key =
     if not (is_known s nexus key) then Err Conflict else
-    Ok (record { registrants = []; reservation = None; generation = next s.generation })
+    Ok (record { registrants = []; reservation = None; generation = next_generation s.generation })
 
 -- the key of the reservation holder
 abbrev pub held_by_key : List Registrant → Option Reservation → ℕ → Bool
@@ -123,7 +123,7 @@ abbrev pub preempted_by : Reservations → ℕ → ReservationType → ℕ → R
 preempted_by s nexus kind action_key = record {
   registrants = filter (stays nexus action_key) s.registrants;
   reservation = if held_by_key s.registrants s.reservation action_key then Some (record { kind = kind; nexus = nexus }) else s.reservation;
-  generation = next s.generation;
+  generation = next_generation s.generation;
 }
 
 -- PREEMPT
@@ -140,7 +140,7 @@ abbrev pub done_as : Reservations → ℕ → Option ReservationAction → Optio
 done_as s nexus None kind key action_key = Err (Refused invalid_field_in_cdb)
 done_as s nexus (Some Register) kind key action_key = registered_by_key s nexus key action_key
 done_as s nexus (Some RegisterAndIgnoreExistingKey) kind key action_key = registered s nexus action_key
-done_as s nexus (Some Reserve) kind key action_key = reserved s nexus key kind
+done_as s nexus (Some Reserve) kind key action_key = with_reservation s nexus key kind
 done_as s nexus (Some Release) kind key action_key = released s nexus key kind
 done_as s nexus (Some Clear) kind key action_key = cleared s nexus key
 done_as s nexus (Some Preempt) kind key action_key = preempted s nexus key action_key kind

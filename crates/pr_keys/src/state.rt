@@ -1,6 +1,6 @@
 ghost use Rattle.std.specs.Prelude.{◌≡◌, ◌≤◌, ◌<◌, ◌==◌, length, not, if◌then◌else◌, None, Some, Ok, IfOk, IfErr, OnOk, OnErr};
 ghost use Rattle.pr_keys.specs.Reservations.{unreserved, key_of, is_registered, is_held_by, keys_of, holder_of, is_barred};
-ghost use Rattle.pr_keys.specs.Actions.{most_registrants, is_known, asked_type, next, is_free_for, preempted_by, without, rekeyed, with_registrant, registered, registered_by_key, reserved, released, cleared, held_by_key, preempted, applied, Tells};
+ghost use Rattle.pr_keys.specs.Actions.{most_registrants, is_known, asked_type, next_generation, is_free_for, preempted_by, without_registrant, rekeyed, with_registrant, registered, registered_by_key, with_reservation, released, cleared, held_by_key, preempted, applied, Tells};
 ghost use Rattle.std.specs.List.{list_any};
 ghost use Rattle.pr_keys.specs.declared.registrants.Registrant.{Registrant};
 
@@ -208,7 +208,7 @@ impl PrState {
 
     /// One more action was done.
     fn count(&mut self)
-        ensures { self.new ≡ record self.old { generation = next self.old.generation } }
+        ensures { self.new ≡ record self.old { generation = next_generation self.old.generation } }
     {
         self.generation = self.generation.wrapping_add(1);
     }
@@ -226,7 +226,7 @@ impl PrState {
 
     /// Ends the registration of the nexus, and its reservation.
     fn unregister(&mut self, nexus: u32)
-        ensures { self.new ≡ without self.old nexus }
+        ensures { self.new ≡ without_registrant self.old nexus }
     {
         self.reservation = self.reservation_without(nexus);
         registrants::remove(&mut self.registrants, nexus);
@@ -285,8 +285,8 @@ impl PrState {
         key: u64,
         kind: Option<ReservationType>,
     ) -> Result<(), PrRefused>
-        ensures ok { OnOk result (reserved self.old nexus key kind ≡ Ok self.new) }
-        ensures refused { IfErr result (λ e. Tells e self.old (reserved self.old nexus key kind)) }
+        ensures ok { OnOk result (with_reservation self.old nexus key kind ≡ Ok self.new) }
+        ensures refused { IfErr result (λ e. Tells e self.old (with_reservation self.old nexus key kind)) }
         ensures err { OnErr result (self.new ≡ self.old) }
     {
         let Some(kind) = kind else {

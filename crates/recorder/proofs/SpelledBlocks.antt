@@ -8,7 +8,7 @@ use Rattle.byteorder.specs.Endian.{big_bytes}
 use Rattle.cm_base.specs.declared.parsed.Parsed.TheVariants.{Whole}
 use Rattle.cm_base.specs.Fields.{flag, AreBytes}
 use Rattle.lba_ranges.specs.declared.ranges.Range.{Range}
-use Rattle.lba_ranges.specs.HeldBlocks.{AllSized, cut}
+use Rattle.lba_ranges.specs.HeldBlocks.{AllSized, cut_into}
 use Rattle.lba_ranges.specs.Writings.{Held}
 use Rattle.recorder.specs.Text.{range_bytes, ranges_bytes, Group, with_hole, with_data, groups_of, group_bytes, blocks_text, FitsRange, FitRanges, FitBlocks}
 use Rattle.recorder.specs.Cursor.{tested, number, some_bytes, repeated}
@@ -130,7 +130,7 @@ holes-grouped zero items (g ∷ gs) is turns = ap with_hole is ∙ (let e : g.ma
 holes-grouped (suc n) items gs is turns = ap with_hole (holes-grouped n items gs is turns)
 
 data-grouped : (size n : ℕ) (bytes : List ℕ) (items : List Held) (gs : List Group) → length bytes ≡ suc n * size → groups_of items ≡ gs → Turns true gs
-    → groups_of (cut size (suc n) bytes ++ items) ≡ record { mapped = true; count = suc n; bytes = bytes } ∷ gs
+    → groups_of (cut_into size (suc n) bytes ++ items) ≡ record { mapped = true; count = suc n; bytes = bytes } ∷ gs
 data-grouped size zero bytes items gs long is turns =
     let all : take size bytes ≡ bytes = take_all size bytes (omega (arith, long)) in
     ap (with_data (take size bytes)) is ∙ ap (λ l. with_data l gs) all ∙ one gs turns
@@ -166,7 +166,7 @@ sized-holes size zero items all block bytes e = all block bytes e
 sized-holes size (suc n) items all zero bytes e = cc
 sized-holes size (suc n) items all (suc block) bytes e = sized-holes size n items all block bytes e
 
-sized-data : (size n : ℕ) (data_bytes : List ℕ) (items : List Held) → length data_bytes ≡ n * size → AllSized size items → AllSized size (cut size n data_bytes ++ items)
+sized-data : (size n : ℕ) (data_bytes : List ℕ) (items : List Held) → length data_bytes ≡ n * size → AllSized size items → AllSized size (cut_into size n data_bytes ++ items)
 sized-data size zero held items long all block bytes e = all block bytes e
 sized-data size (suc n) held items long all zero bytes e =
     let same : take size held ≡ bytes = cc in

@@ -1,10 +1,9 @@
 use crate::Refusing;
 use cm_base::{Bytes, CallList, Config, MemoryLink, MemorySink, MemorySource, SetClock};
 use cm_frame::{Parsed, read_header};
-use session::session;
+use session::{UnitRuns, session};
 use std::alloc::Global;
 use std::test::Fail;
-use unit_runs::UnitRuns;
 
 /// Three units of 1,048,576 blocks of 512 bytes, with quotas of as many; the secret is the bytes 00h to 1Fh.
 const UNITS: [&str; 4] = [

@@ -8,3 +8,5 @@ pub mod Redeemed
 pub mod Ended
 pub mod Values
 pub mod PublicLaws
+pub mod Pinned
+pub mod RodsShown

@@ -1,6 +1,6 @@
 -- The token that was used least lately
 use Rattle.std.proofs.Common.{◌≡◌, ℕ, suc, [], ◌∷◌, cond, ◌+◌, ◌<◌, ◌≤◌, ◌≢◌, take, get_or, List, map, length, refl, sym, ◌∙◌, subst, arith, true, false, Bool, slice_get, Some, None, ◌⊎◌, inl, inr}
-use Rattle.rod_store.proofs.Places.{same_or_not}
+use Rattle.rod_store.proofs.Places.{same_or_not, next, placed-front, map-agree, map-same, first-is, first-none, all-more, all-implies}
 use Rattle.std.specs.Prelude.{◌||◌, ◌&&◌, ◌==◌, nat_lt, nat_le}
 use Rattle.std.specs.List.{list_any, list_all}
 use Rattle.std.proofs.lemmas.Bool.Decides.{nat_tests}
@@ -10,7 +10,6 @@ use Rattle.rod_store.specs.declared.kept.TokenState.{TokenState}
 use Rattle.rod_store.specs.declared.kept.TokenState.TheVariants.{Live, Expired, Evicted, Deleted}
 use Rattle.rod_store.specs.Kept.{IsPlaced, is_live, live, used_last, is_older, gives_way, evict_if, evicted_value, end_at, value_at, first}
 use Rattle.rod_store.specs.inner.Store.{is_used_before, is_used_before_at, IsOldest}
-use Rattle.rod_store.proofs.Places.{next, placed-front, map-agree, map-same, first-is, first-none, all-more, all-implies}
 use Rattle.rod_store.proofs.Endings.{ended-not_before, end_at-is, end_at-other}
 use Rattle.std.proofs.lemmas.List.{take_all}
 use Rattle.cm_history.proofs.PublicLaws.{and_second as and-right, and_first as and-left}

@@ -2,3 +2,5 @@ pub mod Kept
 pub mod Judging
 pub mod Store
 pub mod inner
+pub mod Pinning
+pub mod TokenChanges

@@ -3,8 +3,14 @@
 
 mod judge;
 mod kept;
+mod pinned_change;
+mod pinned_rod;
 mod store;
+mod token_change;
 mod walks;
 
 pub use kept::{Kept, TokenState};
+pub use pinned_change::{PinnedChange, give_up, settle};
+pub use pinned_rod::PinnedRod;
 pub use store::{Populated, RodStore};
+pub use token_change::TokenChange;

@@ -16,14 +16,14 @@ use Rattle.cmd_program.specs.declared.step.Outcome.{Outcome}
 use Rattle.cmd_program.specs.declared.step.Step.{Step}
 use Rattle.cmd_program.specs.Stepping.{Stepping}
 use Rattle.trace_replay.specs.Items.{Ending, Placed}
-use Rattle.trace_replay.specs.ReplayState.{ReplayState, Pending, AddressedReply, Nowhere, waiting, without, goes_on, did, ran, new_entry, has_no_room, entries_after, outcome_of, next, fits}
+use Rattle.trace_replay.specs.ReplayState.{ReplayState, Pending, AddressedReply, Nowhere, waiting, without, goes_on, did, ran, new_entry, has_no_room, entries_after, outcome_of, after_item, item_fits}
 use Rattle.trace_replay.specs.Played.{play, shortage_for, shortages_behind}
 use Rattle.round_counts.proofs.Told.{good_to}
 
 -- each item fits when its turn comes, and so it stands behind the last
 abbrev pub Goes : Stepping → Configuration → (ReplayState → Type 0) → ReplayState → List TraceItem → Type 0
 Goes step config P s [] = P s
-Goes step config P s (x ∷ xs) = (fits config s x ≡ true) × Goes step config P (next step config s x Nowhere) xs
+Goes step config P s (x ∷ xs) = (item_fits config s x ≡ true) × Goes step config P (after_item step config s x Nowhere) xs
 
 never-short : (x : TraceItem) → shortage_for x [] ≡ Nowhere
 never-short (TraceItem.Begin initiator moment request) = refl
@@ -41,7 +41,7 @@ pub all-played : (step : Stepping) (config : Configuration) (P : ReplayState →
     → ((play step config s xs ending []).ending ≡ ending) × P (play step config s xs ending []).state
 all-played step config P s [] ending goes = (refl, goes)
 all-played step config P s (x ∷ xs) ending goes =
-    rw (goes.0, never-short x.item, none-behind x.item) (all-played step config P (next step config s x.item Nowhere) xs ending goes.1)
+    rw (goes.0, never-short x.item, none-behind x.item) (all-played step config P (after_item step config s x.item Nowhere) xs ending goes.1)
 
 -- how things stand between two commands
 abbrev pub between : ℕ → List Entry → List AddressedReply → ReplayState
@@ -98,7 +98,7 @@ module _ (step : Stepping) (config : Configuration) (P : ReplayState → Type 0)
       → step config i r [] ≡ Step.Do unit act → Goes step config P (waiting_with (n + 1) entries (waits_as i r []) replies) xs
       → Goes step config P (between n entries replies) (TraceItem.Begin i m r ∷ xs)
   begins n entries replies i m r unit act xs asks later =
-      let after : next step config (between n entries replies) (TraceItem.Begin i m r) Nowhere ≡ waiting_with (n + 1) entries (waits_as i r []) replies =
+      let after : after_item step config (between n entries replies) (TraceItem.Begin i m r) Nowhere ≡ waiting_with (n + 1) entries (waits_as i r []) replies =
       ap (goes_on (between (n + 1) entries replies) (waits_as i r [])) asks in
       (refl, subst (λ s. Goes step config P s xs) (sym after) later)
 

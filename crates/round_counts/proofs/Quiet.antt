@@ -20,7 +20,7 @@ use Rattle.cm_history.specs.Tokens.{tokens, token_after, made_token}
 use Rattle.pr_keys.specs.Reservations.{unreserved}
 use Rattle.cm_history.specs.Reserving.{reservations, reserved_by as left_by, bars_actor}
 use Rattle.cm_history.specs.Answers.{deed, writings, is_busy}
-use Rattle.cm_history.specs.Room.{is_full, is_write, bytes_in, need, payload, reserved, reserved_by}
+use Rattle.cm_history.specs.Room.{is_full, is_write, bytes_in, need, payload, kept_free, still_needed}
 use Rattle.cm_history.proofs.PublicLaws.{served_none}
 use Rattle.generator.specs.Settings.{settings, unit}
 use Rattle.round_counts.proofs.Sized.{Sized, WritesBlocks, more-sized, wrote-sized}
@@ -63,14 +63,14 @@ weaker serial now few later more past k a b = record {
 
 -- so many entries are kept free for the operations that run
 pub has-room : (u serial now few free : ℕ) (past : List Deed) (actor : Actor) (stamp : ℕ) (act : Act) → unit_of settings u ≡ unit → Kept serial now few past → few < 60_000 → stamp ≤ few
-    → reserved past ≡ free → free + need past actor act ≤ 100 → bytes_in act ≤ 4096 → is_full (unit_of settings u) 0 past actor stamp act ≡ false
+    → kept_free past ≡ free → free + need past actor act ≤ 100 → bytes_in act ≤ 4096 → is_full (unit_of settings u) 0 past actor stamp act ≡ false
 has-room u serial now few free past actor stamp act same k small low kept fits size =
     ap (λ (c : UnitConfig). is_full c 0 past actor stamp act) same ∙ room
   where
     stamps : (max stamp (last_stamp past) == 2 ^ 64 - 1) ≡ false
     stamps = let a = k.stamp in grind (arith, nat_tests)
 
-    entries : nat_lt 1_048_576 (length past - 0 + reserved past + need past actor act) ≡ false
+    entries : nat_lt 1_048_576 (length past - 0 + kept_free past + need past actor act) ≡ false
     entries = let a = k.count in grind (arith, nat_tests)
 
     bytes : nat_lt 268_435_456 (payload 0 past + bytes_in act) ≡ false
@@ -82,13 +82,13 @@ has-room u serial now few free past actor stamp act same k small low kept fits s
 
     room : is_full unit 0 past actor stamp act ≡ false
     room =
-        ap (λ t. (t || nat_lt 1_048_576 (length past - 0 + reserved past + need past actor act)) || (is_write act && nat_lt 268_435_456 (payload 0 past + bytes_in act))) stamps
+        ap (λ t. (t || nat_lt 1_048_576 (length past - 0 + kept_free past + need past actor act)) || (is_write act && nat_lt 268_435_456 (payload 0 past + bytes_in act))) stamps
         ∙ ap (λ t. t || (is_write act && nat_lt 268_435_456 (payload 0 past + bytes_in act))) entries
         ∙ ap (λ t. is_write act && t) bytes
         ∙ never (is_write act)
 
-pub none-free : (past : List Deed) → running past ≡ [] → reserved past ≡ 0
-none-free past idle = ap (sum_by (λ (o : Operation). reserved_by (length o.servers) o.made.entry.act)) idle
+pub none-free : (past : List Deed) → running past ≡ [] → kept_free past ≡ 0
+none-free past idle = ap (sum_by (λ (o : Operation). still_needed (length o.servers) o.made.entry.act)) idle
 
 -- no more blocks are mapped than there are
 pub within-quota : (u : ℕ) (holds : ℕ → Held) (more : List Writing) → unit_of settings u ≡ unit → nat_lt (unit_of settings u).quota (mapped_with (unit_of settings u) holds more) ≡ false

@@ -30,7 +30,7 @@ use Rattle.cm_history.specs.declared.answer.Answer.{Answer}
 use Rattle.cmd_program.specs.declared.step.Outcome.{Outcome}
 use Rattle.cmd_program.specs.Program.{Program, next, moved, done, refused, unless_refused, ask_then}
 use Rattle.cmd_program.specs.SingleActs.{blocks_in, told_read, told_token, populate}
-use Rattle.cmd_program.specs.TokenWrite.{TokenWrite, redeemed, starting, rod_part, write_by, write_using_token}
+use Rattle.cmd_program.specs.TokenWrite.{TokenWrite, after_redeem, starting, rod_part, write_by, write_using_token}
 use Rattle.cmd_program.specs.Judging.{out_fault, judged_out, judged_cdb, program, step}
 use Rattle.generator.specs.Settings.{settings}
 use Rattle.round_counts.proofs.Commands.{IsAsking, IsRedeeming}
@@ -176,7 +176,7 @@ redeems-by id lba serial token out low whole read kind = record {
     right : out_fault (unit_of settings 1) out (Cdb.WriteUsingToken id 552) ≡ None
     right = let e : (length out == 552) ≡ true = eq-eqb (length out) 552 whole in rw e refl
 
-    is : program settings r ≡ ask_then 0 (Act.Redeem token 1) (redeemed w)
+    is : program settings r ≡ ask_then 0 (Act.Redeem token 1) (after_redeem w)
     is =
         ap (judged_cdb settings r) (decoded-use id low) ∙ ap (judged_out settings r (Cdb.WriteUsingToken id 552)) right
         ∙ ap (write_using_token settings 1 id) read ∙ ap (write_by settings w) kind

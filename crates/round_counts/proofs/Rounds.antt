@@ -5,7 +5,7 @@ use Rattle.std.specs.Str.{bytes_eq}
 use Rattle.std.proofs.lemmas.Bool.Decides.{nat_tests}
 use Rattle.cm_base.specs.Units.{unit_of}
 use Rattle.lba_ranges.specs.Denoted.{blocks_of, total}
-use Rattle.lba_ranges.specs.HeldBlocks.{HeldBlocks, blocks_bytes, cut}
+use Rattle.lba_ranges.specs.HeldBlocks.{HeldBlocks, blocks_bytes, cut_into}
 use Rattle.rod_token.specs.TokenText.{token_text, serial_of}
 use Rattle.scsi_cdb.specs.declared.cdb.Cdb.{Cdb}
 use Rattle.block_params.specs.ListsWritten.{populate_written, write_token_written}
@@ -81,10 +81,10 @@ quiet-room u serial now few past actor stamp act same q small is needs size =
 -- ---- what is written
 
 block-count : (bytes : List ℕ) → length bytes ≡ 4096 → length (blocks_in 512 bytes).items ≡ 8
-block-count bytes whole = ap (λ n. length (cut 512 (n / 512) bytes)) whole
+block-count bytes whole = ap (λ n. length (cut_into 512 (n / 512) bytes)) whole
 
 blocks-sized : (bytes : List ℕ) → length bytes ≡ 4096 → Each IsBlock (blocks_in 512 bytes).items
-blocks-sized bytes whole = subst (λ n. Each IsBlock (cut 512 (n / 512) bytes)) (sym whole) (cut-sized 8 bytes whole)
+blocks-sized bytes whole = subst (λ n. Each IsBlock (cut_into 512 (n / 512) bytes)) (sym whole) (cut-sized 8 bytes whole)
 
 -- ---- the token of a round
 

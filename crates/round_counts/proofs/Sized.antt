@@ -1,7 +1,7 @@
 -- Blocks of 512 bytes
 use Rattle.std.proofs.Common.{◌≡◌, ℕ, zero, suc, ◌*◌, List, [], ◌∷◌, length, take, drop, map, Bool, true, false, if◌then◌else◌, refl, ◌∙◌, arith, length-append, length-take, length-drop}
 use Rattle.std.specs.Prelude.{◌==◌}
-use Rattle.lba_ranges.specs.HeldBlocks.{block_bytes, items_bytes, cut}
+use Rattle.lba_ranges.specs.HeldBlocks.{block_bytes, items_bytes, cut_into}
 use Rattle.lba_ranges.specs.Writings.{Held, Writing, paired, after}
 use Rattle.cm_history.specs.declared.answer.Answer.{Answer}
 use Rattle.cm_history.specs.Answers.{wrote_of}
@@ -30,7 +30,7 @@ pub held-sized : (past : List Deed) (blocks : List ℕ) → Sized past → Each 
 held-sized past [] sized = tt
 held-sized past (b ∷ blocks) sized = (sized b, held-sized past blocks sized)
 
-pub cut-sized : (n : ℕ) (bytes : List ℕ) → length bytes ≡ 512 * n → Each IsBlock (cut 512 n bytes)
+pub cut-sized : (n : ℕ) (bytes : List ℕ) → length bytes ≡ 512 * n → Each IsBlock (cut_into 512 n bytes)
 cut-sized zero bytes whole = tt
 cut-sized (suc n) bytes whole = (
   length-take 512 bytes ∙ omega (arith, whole),

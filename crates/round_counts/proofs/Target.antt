@@ -20,7 +20,7 @@ use Rattle.cm_history.specs.Deeds.{Deed, is_refusal, same_actor}
 use Rattle.cm_history.specs.Members.{In, Each}
 use Rattle.cm_history.specs.Operations.{Operation, OfToken, count, count_of, form_of, id_of, is_background, is_failure, operations, operation_after, made_operation, makes_operation, running, is_running, is_running_as, is_running_state, fits, has_ended, has_key, keep, kept, list_of, next_piece, same_form, same_key, serves, state, state_of, was_ended, was_stopped, with_room, would_serve, written, written_by}
 use Rattle.cm_history.specs.Answers.{deed, answer_after, answer_report, answer_start, piece_of, progress, progress_by, report_of, serial_made, wrote_of}
-use Rattle.cm_history.specs.Room.{need, reserved, reserved_by, pieces}
+use Rattle.cm_history.specs.Room.{need, kept_free, still_needed, pieces}
 use Rattle.cm_history.specs.Tokens.{is_populate}
 use Rattle.cm_history.proofs.PublicLaws.{IsPast, In-append_right, In-map, filter-passes, length-paired, record-found, same_actor-self, served-or-not}
 use Rattle.cmd_program.specs.AnswerBytes.{report_token_bytes}
@@ -140,10 +140,10 @@ module _ (serial now few i id lba : ℕ) (rod : HeldBlocks) (past : List Deed) (
   pub pump-serves : would_serve past (Actor.Pump 1) Act.Pump ≡ Some w.o
   pump-serves = ap (find (fits (Actor.Pump 1) Act.Pump)) w.runs ∙ ap (λ a. cond (is_background a) (Some w.o) None) w.act
 
-  pub pump-free : reserved past ≡ 2
+  pub pump-free : kept_free past ≡ 2
   pump-free =
-      ap (sum_by (λ (o : Operation). reserved_by (length o.servers) o.made.entry.act)) w.runs
-      ∙ ap (λ ss. 0 + reserved_by (length ss) w.o.made.entry.act) w.fresh ∙ ap (λ a. 0 + reserved_by 0 a) w.act ∙ ap (λ n. 0 + (pieces n + 1 - 0)) w.count
+      ap (sum_by (λ (o : Operation). still_needed (length o.servers) o.made.entry.act)) w.runs
+      ∙ ap (λ ss. 0 + still_needed (length ss) w.o.made.entry.act) w.fresh ∙ ap (λ a. 0 + still_needed 0 a) w.act ∙ ap (λ n. 0 + (pieces n + 1 - 0)) w.count
 
   pub pump-need : need past (Actor.Pump 1) Act.Pump ≡ 0
   pump-need = ap (λ x. if is_some x then 0 else 1) pump-serves

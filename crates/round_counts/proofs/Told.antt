@@ -5,7 +5,7 @@ use Rattle.std.proofs.lemmas.List.Sums.{sum_by-append}
 use Rattle.std.proofs.lemmas.Grind.{flat_map-append}
 use Rattle.cm_frame.specs.declared.frame.Reply.{Reply}
 use Rattle.trace_replay.specs.ReplayState.{AddressedReply}
-use Rattle.trace_replay.specs.Played.{addressed_bytes, is_good, is_check, is_busy, is_task_set_full}
+use Rattle.trace_replay.specs.Played.{addressed_bytes, is_good, is_check, is_busy_reply, is_task_set_full}
 
 -- so many of the replies are such
 abbrev pub that : (Reply → Bool) → List AddressedReply → ℕ
@@ -16,7 +16,7 @@ pub record AreGood (many size : ℕ) (replies : List AddressedReply) : Type 0 wh
   pub count : length replies ≡ many
   pub good : that is_good replies ≡ many
   pub check : that is_check replies ≡ 0
-  pub busy : that is_busy replies ≡ 0
+  pub busy : that is_busy_reply replies ≡ 0
   pub full : that is_task_set_full replies ≡ 0
   pub bytes : length (flat_map addressed_bytes replies) ≡ size
 
@@ -37,7 +37,7 @@ good-more many size more i bytes replies is are = record {
   count = length-append replies (good_to i bytes ∷ []) ∙ ap (λ n. n + 1) are.count;
   good = that-more is_good replies (good_to i bytes) ∙ ap (λ n. n + 1) are.good;
   check = that-more is_check replies (good_to i bytes) ∙ ap (λ n. n + 0) are.check;
-  busy = that-more is_busy replies (good_to i bytes) ∙ ap (λ n. n + 0) are.busy;
+  busy = that-more is_busy_reply replies (good_to i bytes) ∙ ap (λ n. n + 0) are.busy;
   full = that-more is_task_set_full replies (good_to i bytes) ∙ ap (λ n. n + 0) are.full;
   bytes = ap length (flat_map-append addressed_bytes replies (good_to i bytes ∷ []))
       ∙ length-append (flat_map addressed_bytes replies) (flat_map addressed_bytes (good_to i bytes ∷ []))

@@ -14,7 +14,7 @@ ghost use Rattle.cm_history.specs.Forms.{HasKind};
 ghost use Rattle.cmd_program.specs.Meaning.{IsWritable, IsAskable, MayFollow};
 ghost use Rattle.cmd_program.specs.declared.step.Outcome.{Outcome};
 ghost use Rattle.cmd_program.specs.Program.{next, refused, go_on_by, ask_then};
-ghost use Rattle.cmd_program.specs.TokenWrite.{wanted, deleting, advancing, started, redeemed, starting, zero_rod, write_by, write_using_token};
+ghost use Rattle.cmd_program.specs.TokenWrite.{wanted, deleting, advancing, started, after_redeem, starting, zero_rod, write_by, write_using_token};
 ghost use Rattle.cmd_machine.specs.Last.{by_last, IsLastOf};
 ghost use Rattle.cmd_machine.specs.Rest.{rest_of, IsSoundAt, last_ask};
 ghost use Rattle.std.specs.Option.{option_map};
@@ -109,7 +109,7 @@ impl Write {
         requires ranges { range_fault self.list.ranges ≡ None }
         requires named { (serial : ℕ) × (classify self.list.token ≡ TokenKind.Names creator serial) }
         ensures program { rest_of by_phase config.now result
-            ≡ (if is_configured config.now creator then ask_then creator (Act.Redeem self.list.token self.unit) (redeemed self)
+            ≡ (if is_configured config.now creator then ask_then creator (Act.Redeem self.list.token self.unit) (after_redeem self)
             else refused token_unknown) }
         ensures sound { IsSoundAt IsSoundPhase config.now result }
     {
@@ -158,7 +158,7 @@ impl Write {
 
     /// Asks the unit to write those blocks of the token that are wanted, if it has them.
     fn start_part(&self, alloc: Global, rod: &BlockList) -> Result<Step, OutOfMemory>
-        ensures next { IfOk result (λ s. s ≡ next (redeemed self.now (Answer.Rod rod.now))) }
+        ensures next { IfOk result (λ s. s ≡ next (after_redeem self.now (Answer.Rod rod.now))) }
         ensures asks { (config : Configuration) → IsSized config self.now rod.now.block_length
             → IfOk result (λ s. IsAskable config s) }
     {
@@ -266,9 +266,9 @@ impl Write {
     /// The phase after the Start of a token's blocks was answered, if it has as many as are wanted.
     fn started_part(self, rod: &BlockList, answer: Answer) -> TokenCommand
         requires { (config : Configuration)
-            × MayFollow config (next (redeemed self (Answer.Rod rod.now))) (Outcome.Answered answer) }
+            × MayFollow config (next (after_redeem self (Answer.Rod rod.now))) (Outcome.Answered answer) }
         ensures program { (config : Configuration) → rest_of by_phase config result
-            ≡ go_on_by (redeemed self (Answer.Rod rod.now)) answer }
+            ≡ go_on_by (after_redeem self (Answer.Rod rod.now)) answer }
         ensures sound { (config : Configuration) → IsGiven config self → IsSoundAt IsSoundPhase config result }
     {
         if self.is_short(rod) {

@@ -12,8 +12,8 @@ use Rattle.cm_history.specs.Tokens.{Token, tokens as made_tokens}
 use Rattle.cm_history.proofs.PublicLaws.{In, map-same}
 use Rattle.rod_store.specs.declared.kept.Kept.{Kept}
 use Rattle.rod_store.specs.Kept.{value_at}
-use Rattle.token_pins.specs.declared.pinned_rod.PinnedRod.{PinnedRod}
-use Rattle.token_pins.specs.Pinning.{holder, ArePinned}
+use Rattle.rod_store.specs.declared.pinned_rod.PinnedRod.{PinnedRod}
+use Rattle.rod_store.specs.Pinning.{holder, ArePinned}
 use Rattle.unit_core.specs.Versions.{Sight, Now, ByToken, writer_shown, writer_seen, sights, same_put, shares, shares_table}
 use Rattle.unit_core.specs.Sharing.{AreShared, IsSeenBy, put_of}
 use Rattle.unit_core.specs.inner.Seen.{Origin, Nothing, Put, Before, origin, put_from, seen_after, put_shown, put_seen, pin_shown, pin_seen, if_both, shares_shown, AreWriters}

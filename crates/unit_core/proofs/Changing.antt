@@ -9,12 +9,12 @@ use Rattle.lba_ranges.specs.Writings.{Held}
 use Rattle.rod_store.specs.declared.kept.Kept.{Kept}
 use Rattle.rod_store.specs.Kept.{value_at, kept_with}
 use Rattle.rod_store.specs.Store.{Store}
-use Rattle.token_pins.specs.declared.pinned_rod.PinnedRod.{PinnedRod}
-use Rattle.token_pins.specs.declared.pinned_change.PinnedChange.{PinnedChange}
-use Rattle.token_pins.specs.declared.token_change.TokenChange.{TokenChange}
-use Rattle.token_pins.specs.Pinning.{rod_now, holder, ArePinned, ShowSame}
-use Rattle.token_pins.specs.TokenChanges.{is_make, MayToken, unpinned, rod_made}
-use Rattle.token_pins.proofs.PublicLaws.{may-with}
+use Rattle.rod_store.specs.declared.pinned_rod.PinnedRod.{PinnedRod}
+use Rattle.rod_store.specs.declared.pinned_change.PinnedChange.{PinnedChange}
+use Rattle.rod_store.specs.declared.token_change.TokenChange.{TokenChange}
+use Rattle.rod_store.specs.Pinning.{rod_now, holder, ArePinned, ShowSame}
+use Rattle.rod_store.specs.TokenChanges.{is_make, MayToken, unpinned, rod_made}
+use Rattle.rod_store.proofs.PublicLaws.{may-with}
 use Rattle.unit_core.specs.declared.block_change.BlockChange.{BlockChange}
 use Rattle.unit_core.specs.inner.BlockChanges.{writings_of, is_nothing}
 

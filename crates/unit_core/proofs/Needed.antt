@@ -12,8 +12,8 @@ use Rattle.cm_history.specs.Tokens.{Token, tokens, tokens as made_tokens}
 use Rattle.cm_history.proofs.PublicLaws.{and_first, and_second}
 use Rattle.rod_store.specs.declared.kept.Kept.{Kept}
 use Rattle.rod_store.specs.Kept.{value_at}
-use Rattle.token_pins.specs.declared.pinned_rod.PinnedRod.{PinnedRod}
-use Rattle.token_pins.specs.Pinning.{holder, ArePinned}
+use Rattle.rod_store.specs.declared.pinned_rod.PinnedRod.{PinnedRod}
+use Rattle.rod_store.specs.Pinning.{holder, ArePinned}
 use Rattle.unit_core.specs.Versions.{Sight, Now, ByToken, writer_shown, writer_seen, sights, with_version, versions, seen_versions}
 use Rattle.unit_core.specs.inner.Seen.{put_shown, AreWriters}
 use Rattle.unit_core.proofs.Writers.{ArePlaced, seen-low}

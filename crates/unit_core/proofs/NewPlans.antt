@@ -22,7 +22,7 @@ use Rattle.cm_history.specs.Answers.{is_busy, is_crowded, wrote_of}
 use Rattle.cm_history.proofs.PublicLaws.{find-none}
 use Rattle.unit_core.specs.declared.block_change.BlockChange.{BlockChange}
 use Rattle.unit_core.specs.declared.job_change.JobChange.{JobChange}
-use Rattle.token_pins.specs.declared.token_change.TokenChange.{TokenChange}
+use Rattle.rod_store.specs.declared.token_change.TokenChange.{TokenChange}
 use Rattle.unit_core.specs.inner.JobChanges.{MayJob}
 use Rattle.copy_jobs.specs.Jobs as jobs
 use Rattle.unit_core.specs.Keys.{key_of}

@@ -21,7 +21,7 @@ use Rattle.cm_history.specs.Blocks.{held, cut}
 use Rattle.cm_history.specs.Tokens.{tokens, is_populate, is_delete_of, is_redeem_of}
 use Rattle.cm_history.specs.Operations.{Operation, OfToken, OfCopy, is_making, makes_operation, made_operation, would_serve, running, kept}
 use Rattle.pr_keys.specs.Reservations.{Reservations}
-use Rattle.cm_history.specs.Reserving.{reservations, reserved_by, bars_act, done_out, unless_refused, answer_out, answer_keys, answer_holder}
+use Rattle.cm_history.specs.Reserving.{reservations, reserved_by, bars_act, done_out, done_or_same, answer_out, answer_keys, answer_holder}
 use Rattle.cm_history.specs.Answers.{answer_after, answer_unbarred, writings, wrote_of}
 use Rattle.cm_history.proofs.PublicLaws.{Each, find-none, IsPast}
 use Rattle.copy_jobs.specs.declared.job.Job.{Job}
@@ -31,7 +31,7 @@ use Rattle.copy_jobs.specs.Keeping.{keep}
 use Rattle.rod_store.specs.Kept.{value_at, expired, populated, used, deleted}
 use Rattle.unit_core.specs.declared.block_change.BlockChange.{BlockChange}
 use Rattle.unit_core.specs.declared.job_change.JobChange.{JobChange}
-use Rattle.token_pins.specs.declared.token_change.TokenChange.{TokenChange}
+use Rattle.rod_store.specs.declared.token_change.TokenChange.{TokenChange}
 use Rattle.cm_history.specs.Ends.{ends_operation}
 use Rattle.cm_history.specs.Asked.{AllAsked}
 use Rattle.unit_core.specs.inner.BlockChanges.{writings_of, MayChange}
@@ -202,11 +202,11 @@ conflict-plan config unit past actor at act barred =
 pub out-plan : (config : Configuration) (unit : ℕ) (past : List Deed) (actor : Actor) (at action scope kind key action_key : ℕ)
     → IsPlan config unit past actor at (Act.PrOut action scope kind key action_key)
     (record (quiet (answer_out (done_out (reservations past) actor action scope kind key action_key))) {
-      reservations = Some (unless_refused (reservations past) (done_out (reservations past) actor action scope kind key action_key));
+      reservations = Some (done_or_same (reservations past) (done_out (reservations past) actor action scope kind key action_key));
     })
 out-plan config unit past actor at action scope kind key action_key =
     let r = done_out (reservations past) actor action scope kind key action_key in
-    plain-plan config unit past actor at (Act.PrOut action scope kind key action_key) (answer_out r) BlockChange.Nothing (Some (unless_refused (reservations past) r))
+    plain-plan config unit past actor at (Act.PrOut action scope kind key action_key) (answer_out r) BlockChange.Nothing (Some (done_or_same (reservations past) r))
     refl (sym (wrote_none (answer_out r))) tt (record { making = refl; deletes = λ s. refl; redeems = λ s. refl }) (find-none (running past)) refl
 
 pub keys-plan : (config : Configuration) (unit : ℕ) (past : List Deed) (actor : Actor) (at : ℕ) → IsPlan config unit past actor at Act.PrKeys (quiet (answer_keys (reservations past)))

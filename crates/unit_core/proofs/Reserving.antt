@@ -11,7 +11,7 @@ use Rattle.cm_history.specs.Bounds.{piece_blocks, kept_operations}
 use Rattle.cm_history.specs.Deeds.{Deed}
 use Rattle.cm_history.specs.Limits.{within_limits}
 use Rattle.cm_history.specs.Operations.{Operation, OfToken, form_of, operations, is_making, is_running, is_running_as, is_running_state, is_running_copy, is_foreground, is_background, kept, written, list_of, state, state_of, result_of, result_or}
-use Rattle.cm_history.specs.Room.{pieces, reserved, reserved_by}
+use Rattle.cm_history.specs.Room.{pieces, kept_free, still_needed}
 use Rattle.cm_history.proofs.PublicLaws.{Each-in, IsPast, IsBegun, begun, running_kept, kept_in, IsPaced, all-paced, few-written, Serves, token-runs, paced-after, start-length, sum-filter, sum-map, sum-same, whole-pieces}
 use Rattle.copy_jobs.specs.declared.job.Job.{Job}
 use Rattle.copy_jobs.specs.Jobs as jobs
@@ -25,13 +25,13 @@ use Rattle.unit_core.proofs.Bools.{off}
 -- ---- of one operation
 
 abbrev pub needs : Operation → ℕ
-needs o = reserved_by (length o.servers) o.made.entry.act
+needs o = still_needed (length o.servers) o.made.entry.act
 
 nothing : (t : Bool) → zero ≡ (if t then zero else zero)
 nothing true = refl
 nothing false = refl
 
-reserves-work : (o : Operation) → IsPaced o → (act : Act) → o.made.entry.act ≡ act → jobs.reserved_for (work_of o act) ≡ (if is_running_as o (form_of act) then reserved_by (length o.servers) act else 0)
+reserves-work : (o : Operation) → IsPaced o → (act : Act) → o.made.entry.act ≡ act → jobs.reserved_for (work_of o act) ≡ (if is_running_as o (form_of act) then still_needed (length o.servers) act else 0)
 reserves-work o paced (Act.Start id background ranges rod) is = go (is_running_state (state o)) refl
   where
     go : (t : Bool) → is_running_state (state o) ≡ t
@@ -46,7 +46,7 @@ pub reserves-job : (o : Operation) → IsPaced o → jobs.reserved_for (job_of o
 reserves-job o paced = reserves-work o paced o.made.entry.act refl
 
 -- as many entries are kept free for the jobs as for the operations
-pub reserved-is : (config : Configuration) (unit : ℕ) (past : List Deed) → IsPast config unit past → jobs.reserved (jobs_of past) ≡ reserved past
+pub reserved-is : (config : Configuration) (unit : ℕ) (past : List Deed) → IsPast config unit past → jobs.reserved (jobs_of past) ≡ kept_free past
 reserved-is config unit past is =
     sum-map job_of (λ (j : Job). jobs.reserved_for j.work) (kept past)
     ∙ sum-same (λ o. jobs.reserved_for (job_of o).work) (λ (o : Operation). if is_running o then needs o else 0) (kept past)
@@ -136,10 +136,10 @@ serving-reserves config unit limits past d o asked serves own runs begun paced =
             few-pieces (length o.servers) (length rod.items) (omega (arith, w, all, blocks))
 
         needs-now : needs o ≡ pieces (length rod.items) + 1 - length o.servers
-        needs-now = ap (reserved_by (length o.servers)) is
+        needs-now = ap (still_needed (length o.servers)) is
 
         needs-then : needs o' ≡ pieces (length rod.items) + 1 - suc (length o.servers)
-        needs-then = ap (reserved_by (suc (length o.servers))) is
+        needs-then = ap (still_needed (suc (length o.servers))) is
 
         fall : (t : Bool) → of_job (job_of o') ≡ (if t then needs o' else 0) → of_job (job_of o') + 1 ≤ of_job (job_of o)
         fall true e = omega (arith, e, before, needs-now, needs-then, few)
@@ -154,7 +154,7 @@ serving-reserves config unit limits past d o asked serves own runs begun paced =
         let form : is_running o' ≡ is_running_copy (result_or (result_of o.servers) d.entry.act).state = ap (is_running_as o') (ap form_of is) in
         let over : is_running o' ≡ false = form ∙ ap (λ a. is_running_copy (result_or (result_of o.servers) a).state) closes.act ∙ ended in
         let none : of_job (job_of o') ≡ 0 = after ∙ ap (λ t. if t then needs o' else 0) over in
-        let one : needs o ≡ 1 = ap (reserved_by (length o.servers)) is in
+        let one : needs o ≡ 1 = ap (still_needed (length o.servers)) is in
         omega (arith, none, before, one)
 
     go : (act : Act) → o.made.entry.act ≡ act → of_job (job_of o') + 1 ≤ of_job (job_of o)

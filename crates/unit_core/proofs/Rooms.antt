@@ -13,7 +13,7 @@ use Rattle.cm_history.specs.declared.act.Actor.{Actor}
 use Rattle.cm_history.specs.Deeds.{Deed, last_stamp, is_answered}
 use Rattle.cm_history.specs.Operations.{Operation, is_making, is_running_state, makes_operation, made_operation, would_serve, running, kept, state, written, operations, is_running_copy, result_of}
 use Rattle.cm_history.specs.Answers.{deed}
-use Rattle.cm_history.specs.Room.{is_full, is_write, bytes_in, need, pieces, reserved, payload}
+use Rattle.cm_history.specs.Room.{is_full, is_write, bytes_in, need, pieces, kept_free, payload}
 use Rattle.cm_history.proofs.PublicLaws.{Each, Each-in, find-none, IsBegun, begun, kept_in, making_serves, and_first, IsPaced, all-paced, serving}
 use Rattle.copy_jobs.specs.Jobs as jobs
 use Rattle.cm_history.specs.Asked.{IsAsked}
@@ -30,9 +30,9 @@ no_bytes _ e = refl
 -- an act has no room for one of three causes
 pub full-is : (unit : UnitConfig) (folded : ℕ) (past : List Deed) (actor : Actor) (stamp : ℕ) (act : Act) → payload folded past ≤ unit.payload
     → is_full unit folded past actor stamp act
-    ≡ (((max stamp (last_stamp past) == 2 ^ 64 - 1) || nat_lt unit.entries (length past - folded + reserved past + need past actor act)) || nat_lt unit.payload (payload folded past + bytes_in act))
+    ≡ (((max stamp (last_stamp past) == 2 ^ 64 - 1) || nat_lt unit.entries (length past - folded + kept_free past + need past actor act)) || nat_lt unit.payload (payload folded past + bytes_in act))
 full-is unit folded past actor stamp act within =
-    ap (λ t. ((max stamp (last_stamp past) == 2 ^ 64 - 1) || nat_lt unit.entries (length past - folded + reserved past + need past actor act)) || t) (go (is_write act) refl)
+    ap (λ t. ((max stamp (last_stamp past) == 2 ^ 64 - 1) || nat_lt unit.entries (length past - folded + kept_free past + need past actor act)) || t) (go (is_write act) refl)
   where
     go : (t : Bool) → is_write act ≡ t → (t && nat_lt unit.payload (payload folded past + bytes_in act)) ≡ nat_lt unit.payload (payload folded past + bytes_in act)
     go true e = refl
@@ -41,13 +41,13 @@ full-is unit folded past actor stamp act within =
 -- a record that is not full has the entries and the bytes left
 pub record HasRoom (unit : UnitConfig) (folded : ℕ) (past : List Deed) (actor : Actor) (stamp : ℕ) (act : Act) : Type 0 where
   pub stamps : max stamp (last_stamp past) == 2 ^ 64 - 1 ≡ false
-  pub entries : length past - folded + reserved past + need past actor act ≤ unit.entries
+  pub entries : length past - folded + kept_free past + need past actor act ≤ unit.entries
   pub bytes : payload folded past + bytes_in act ≤ unit.payload
 
 pub room-of : (unit : UnitConfig) (folded : ℕ) (past : List Deed) (actor : Actor) (stamp : ℕ) (act : Act) → payload folded past ≤ unit.payload
     → is_full unit folded past actor stamp act ≡ false → HasRoom unit folded past actor stamp act
 room-of unit folded past actor stamp act within e =
-    let n = length past - folded + reserved past + need past actor act in
+    let n = length past - folded + kept_free past + need past actor act in
     let parts = or_parts ((max stamp (last_stamp past) == 2 ^ 64 - 1) || nat_lt unit.entries n) (nat_lt unit.payload (payload folded past + bytes_in act))
     (sym (full-is unit folded past actor stamp act within) ∙ e) in
     let first = or_parts (max stamp (last_stamp past) == 2 ^ 64 - 1) (nat_lt unit.entries n) parts.0 in
@@ -61,18 +61,18 @@ full-stamps unit folded past actor stamp act within last =
     ∙ (let on : (max stamp (last_stamp past) == 2 ^ 64 - 1) ≡ true = eq-eqb (max stamp (last_stamp past)) (2 ^ 64 - 1) last in rw on refl)
 
 pub full-entries : (unit : UnitConfig) (folded : ℕ) (past : List Deed) (actor : Actor) (stamp : ℕ) (act : Act) → payload folded past ≤ unit.payload
-    → unit.entries < length past - folded + reserved past + need past actor act → is_full unit folded past actor stamp act ≡ true
+    → unit.entries < length past - folded + kept_free past + need past actor act → is_full unit folded past actor stamp act ≡ true
 full-entries unit folded past actor stamp act within more =
-    let n = length past - folded + reserved past + need past actor act in
+    let n = length past - folded + kept_free past + need past actor act in
     full-is unit folded past actor stamp act within
     ∙ or_left ((max stamp (last_stamp past) == 2 ^ 64 - 1) || nat_lt unit.entries n) (nat_lt unit.payload (payload folded past + bytes_in act))
     (or_right (max stamp (last_stamp past) == 2 ^ 64 - 1) (nat_lt unit.entries n) (lt-ltb unit.entries n more))
 
 pub full-bytes : (unit : UnitConfig) (folded : ℕ) (past : List Deed) (actor : Actor) (stamp : ℕ) (act : Act) → payload folded past ≤ unit.payload
-    → (max stamp (last_stamp past) ≡ 2 ^ 64 - 1 → ⊥) → length past - folded + reserved past + need past actor act ≤ unit.entries
+    → (max stamp (last_stamp past) ≡ 2 ^ 64 - 1 → ⊥) → length past - folded + kept_free past + need past actor act ≤ unit.entries
     → is_full unit folded past actor stamp act ≡ nat_lt unit.payload (payload folded past + bytes_in act)
 full-bytes unit folded past actor stamp act within more room =
-    let n = length past - folded + reserved past + need past actor act in
+    let n = length past - folded + kept_free past + need past actor act in
     let stamps : (max stamp (last_stamp past) == 2 ^ 64 - 1) ≡ false = ne_eqb (max stamp (last_stamp past)) (2 ^ 64 - 1) more in
     let entries : nat_lt unit.entries n ≡ false = le-ltb unit.entries n room in
     full-is unit folded past actor stamp act within ∙ rw (stamps, entries) refl
@@ -134,20 +134,20 @@ need-made past actor o _ e none = cc
 
 -- an act with room takes one entry, and keeps free what is needed from then on
 pub reserved-step : (config : Configuration) (unit : ℕ) (past : List Deed) (d : Deed) → IsKnown config unit past → IsAsked config unit d → d ≡ deed config unit past d.entry
-    → reserved (d ∷ past) + 1 ≤ reserved past + need past d.entry.actor d.entry.act
+    → kept_free (d ∷ past) + 1 ≤ kept_free past + need past d.entry.actor d.entry.act
 reserved-step config unit past d known asked made = go (would_serve past d.entry.actor d.entry.act) refl (makes_operation d) refl
   where
     own : Each (IsOwn config unit) (kept past)
     own = own-of config unit past known
 
-    before : jobs.reserved (jobs_of past) ≡ reserved past
+    before : jobs.reserved (jobs_of past) ≡ kept_free past
     before = reserved-is config unit past known.is
 
-    after : jobs.reserved (jobs_of (d ∷ past)) ≡ reserved (d ∷ past)
+    after : jobs.reserved (jobs_of (d ∷ past)) ≡ kept_free (d ∷ past)
     after = reserved-is config unit (d ∷ past) (made, known.is)
 
     go : (w : Option Operation) → would_serve past d.entry.actor d.entry.act ≡ w → (m : Bool) → makes_operation d ≡ m
-        → reserved (d ∷ past) + 1 ≤ reserved past + need past d.entry.actor d.entry.act
+        → kept_free (d ∷ past) + 1 ≤ kept_free past + need past d.entry.actor d.entry.act
     go (Some o) e true m =
         let no = sym e ∙ making_serves past d.entry.actor d.entry.act (and_first (is_making d.entry.act) (is_answered d) m) in
         cc
@@ -176,7 +176,7 @@ reserved-step config unit past d known asked made = go (would_serve past d.entry
         omega (arith, before, after, now, one)
 
 -- an act that serves an operation finds room, but where stamps are at their end
-pub full-serving : (unit : UnitConfig) (folded : ℕ) (past : List Deed) (actor : Actor) (stamp : ℕ) (act : Act) → payload folded past ≤ unit.payload → length past - folded + reserved past ≤ unit.entries
+pub full-serving : (unit : UnitConfig) (folded : ℕ) (past : List Deed) (actor : Actor) (stamp : ℕ) (act : Act) → payload folded past ≤ unit.payload → length past - folded + kept_free past ≤ unit.entries
     → is_some (would_serve past actor act) ≡ true → is_full unit folded past actor stamp act ≡ true → max stamp (last_stamp past) ≡ 2 ^ 64 - 1
 full-serving unit folded past actor stamp act within room serves full = go (cases_eq (max stamp (last_stamp past)) (2 ^ 64 - 1))
   where

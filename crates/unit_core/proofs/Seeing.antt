@@ -11,10 +11,10 @@ use Rattle.rod_store.specs.declared.kept.Kept.{Kept}
 use Rattle.rod_store.specs.declared.kept.TokenState.TheVariants.{Live, Expired, Evicted, Deleted}
 use Rattle.rod_store.specs.Kept.{value_of, value_at, expired, expire_at, evict_if, gives_way, end_at, is_live, is_over}
 use Rattle.rod_store.proofs.PublicLaws.{append-before, append-last, append-others, used-same}
-use Rattle.token_pins.specs.declared.pinned_rod.PinnedRod.{PinnedRod}
-use Rattle.token_pins.specs.declared.pinned_change.PinnedChange.{PinnedChange}
-use Rattle.token_pins.specs.Pinning.{holder, ArePinned}
-use Rattle.token_pins.specs.TokenChanges.{unpinned, rod_made, pinned_after, written_with, ranges_pinned}
+use Rattle.rod_store.specs.declared.pinned_rod.PinnedRod.{PinnedRod}
+use Rattle.rod_store.specs.declared.pinned_change.PinnedChange.{PinnedChange}
+use Rattle.rod_store.specs.Pinning.{holder, ArePinned}
+use Rattle.rod_store.specs.TokenChanges.{unpinned, rod_made, pinned_after, written_with, ranges_pinned}
 use Rattle.unit_core.specs.Versions.{Sight, Now, ByToken}
 use Rattle.unit_core.specs.inner.Seen.{Nothing, Before, origin_made, put_from, seen_after, put_shown, put_seen, lives_in}
 use Rattle.unit_core.proofs.Writers.{writer-now}

@@ -28,7 +28,7 @@ use Rattle.copy_jobs.specs.Pieces.{next_length}
 use Rattle.copy_jobs.specs.Changes.{change, with_work, moved_by, stopped_by, terminated, closed_by}
 use Rattle.unit_core.specs.declared.block_change.BlockChange.{BlockChange}
 use Rattle.unit_core.specs.declared.job_change.JobChange.{JobChange}
-use Rattle.token_pins.specs.declared.token_change.TokenChange.{TokenChange}
+use Rattle.rod_store.specs.declared.token_change.TokenChange.{TokenChange}
 use Rattle.unit_core.specs.declared.plan.Plan.{Plan}
 use Rattle.cm_history.specs.Ends.{ends_operation}
 use Rattle.unit_core.specs.inner.BlockChanges.{writings_of, MayChange, MayPut}

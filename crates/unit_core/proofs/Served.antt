@@ -10,7 +10,7 @@ use Rattle.cm_history.specs.Answers.{deed}
 use Rattle.cm_history.specs.Asked.{AllAsked, IsAsked}
 use Rattle.cm_history.specs.Deeds.{Deed, last_stamp}
 use Rattle.cm_history.specs.History.{past_of}
-use Rattle.cm_history.specs.Room.{bytes_in, is_write, need, payload, reserved}
+use Rattle.cm_history.specs.Room.{bytes_in, is_write, need, payload, kept_free}
 use Rattle.cm_history.proofs.PublicLaws.{IsPast, past-is}
 use Rattle.unit_core.specs.Serving.{HadRoom, AllHadRoom, ServingLaw}
 use Rattle.unit_core.proofs.Planned.{IsKnown}
@@ -29,7 +29,7 @@ fewer-bytes before now (d ∷ past) low = go (nat_le now d.place) (nat_le before
 
 -- the entries in the record, with those that are kept free, and the bytes are no more than the unit may keep
 pub record KeepsFree (config : Configuration) (unit folded : ℕ) (past : List Deed) : Type 0 where
-  pub entries : length past - folded + reserved past ≤ (unit_of config unit).entries
+  pub entries : length past - folded + kept_free past ≤ (unit_of config unit).entries
   pub bytes : payload folded past ≤ (unit_of config unit).payload
 
 -- one more deed, which had room
@@ -44,7 +44,7 @@ keeps-more config unit folded past d known asked made had k = record {
     u = unit_of config unit
 
     needed : ℕ
-    needed = length past - had.out + reserved past + need past d.entry.actor d.entry.act
+    needed = length past - had.out + kept_free past + need past d.entry.actor d.entry.act
 
     parts : (((max had.stamp (last_stamp past) == 2 ^ 64 - 1) || nat_lt u.entries needed) ≡ false)
         × ((is_write d.entry.act && nat_lt u.payload (payload had.out past + bytes_in d.entry.act)) ≡ false)
@@ -53,7 +53,7 @@ keeps-more config unit folded past d known asked made had k = record {
     first : ((max had.stamp (last_stamp past) == 2 ^ 64 - 1) ≡ false) × (nat_lt u.entries needed ≡ false)
     first = or_parts (max had.stamp (last_stamp past) == 2 ^ 64 - 1) (nat_lt u.entries needed) parts.0
 
-    takes : reserved (d ∷ past) + 1 ≤ reserved past + need past d.entry.actor d.entry.act
+    takes : kept_free (d ∷ past) + 1 ≤ kept_free past + need past d.entry.actor d.entry.act
     takes = reserved-step config unit past d known asked made
 
     less : payload folded past ≤ payload had.out past

@@ -13,7 +13,7 @@ use Rattle.cm_base.specs.Units.{unit_of}
 use Rattle.cm_history.specs.declared.act.Entry.{Entry}
 use Rattle.cm_history.specs.Deeds.{Deed, last_stamp, moment}
 use Rattle.cm_history.specs.Answers.{deed, writings, wrote_of}
-use Rattle.cm_history.specs.Room.{is_full, bytes_in, need, payload, reserved}
+use Rattle.cm_history.specs.Room.{is_full, bytes_in, need, payload, kept_free}
 use Rattle.cm_history.specs.History.{on, one_more, past_of}
 use Rattle.cm_history.proofs.PublicLaws.{past-is}
 use Rattle.copy_jobs.specs.declared.job.Job.{Job}
@@ -24,9 +24,9 @@ use Rattle.cm_history.specs.Asked.{IsAsked}
 use Rattle.unit_core.specs.inner.Agreeing.{TokensAgree, IsRecord, TablesAgree, RecordAgrees, payload_in}
 use Rattle.unit_core.specs.inner.BlockChanges.{writings_of}
 use Rattle.unit_core.specs.inner.JobChanges.{jobs_after}
-use Rattle.token_pins.specs.Pinning.{rod_now}
-use Rattle.token_pins.specs.TokenChanges.{tokens_after, MayPin}
-use Rattle.token_pins.specs.declared.token_change.TokenChange.{TokenChange}
+use Rattle.rod_store.specs.Pinning.{rod_now}
+use Rattle.rod_store.specs.TokenChanges.{tokens_after, MayPin}
+use Rattle.rod_store.specs.declared.token_change.TokenChange.{TokenChange}
 use Rattle.rod_store.specs.declared.kept.Kept.{Kept}
 use Rattle.rod_store.specs.Kept.{expired, populated}
 use Rattle.lba_ranges.specs.Denoted.{blocks_of}
@@ -227,7 +227,7 @@ pub record-step : (config : Configuration) (unit : ℕ) (kept : List Entry) (fol
     → e.unit ≡ unit → IsAsked config unit (deed config unit (past_of config unit entries) e)
     → last_stamp (past_of config unit entries) + 1 ≤ e.stamp → e.stamp < 2 ^ 64
     → is_full (unit_of config unit) folded (past_of config unit entries) e.actor stamp e.act ≡ false
-    → reserved (past_of config unit entries) + need (past_of config unit entries) e.actor e.act ≤ spare' + 1
+    → kept_free (past_of config unit entries) + need (past_of config unit entries) e.actor e.act ≤ spare' + 1
     → payload' ≡ own_payload + bytes_in e.act
     → RecordAgrees config unit (kept ++ e ∷ []) folded spare' payload' (entries ++ e ∷ [])
 record-step config unit kept folded spare spare' own_payload payload' entries e stamp r is here asked later fits room free p =
@@ -240,13 +240,13 @@ record-step config unit kept folded spare spare' own_payload payload' entries e 
     let count : length past - folded ≡ length kept = length-kept config unit kept folded entries is.own r.keeps in
     let within : payload folded past ≤ u.payload = omega (arith, bytes, r.bytes) in
     let has : HasRoom u folded past e.actor stamp e.act = room-of u folded past e.actor stamp e.act within room in
-    let takes : reserved (d ∷ past) + 1 ≤ reserved past + need past e.actor e.act = reserved-step config unit past d known asked refl in
+    let takes : kept_free (d ∷ past) + 1 ≤ kept_free past + need past e.actor e.act = reserved-step config unit past d known asked refl in
     let longer : length (entries ++ e ∷ []) ≡ length entries + 1 = length-append entries (e ∷ []) in
     let more : length (kept ++ e ∷ []) ≡ length kept + 1 = length-append kept (e ∷ []) in
     let one : payload_in (e ∷ []) ≡ bytes_in e.act + 0 = sum_by-cons (λ (x : Entry). bytes_in x.act) e [] in
     let sums : payload_in (kept ++ e ∷ []) ≡ payload_in kept + payload_in (e ∷ []) = sum_by-append (λ (x : Entry). bytes_in x.act) kept (e ∷ []) in
-    let free-now : reserved (d ∷ past) ≤ spare' = omega (arith, takes, free) in
-    let room-now : length (kept ++ e ∷ []) + reserved (d ∷ past) ≤ u.entries = omega (arith, has.entries, takes, more, count) in
+    let free-now : kept_free (d ∷ past) ≤ spare' = omega (arith, takes, free) in
+    let room-now : length (kept ++ e ∷ []) + kept_free (d ∷ past) ≤ u.entries = omega (arith, has.entries, takes, more, count) in
     record {
       keeps = drop-append-le folded entries (e ∷ []) r.few ∙ ap (λ l. l ++ e ∷ []) r.keeps;
       few = omega (arith, r.few, longer);

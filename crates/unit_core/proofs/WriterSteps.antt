@@ -17,7 +17,7 @@ use Rattle.cm_history.specs.declared.act.Actor.{Actor}
 use Rattle.cm_history.specs.Folding.{StandsFor}
 use Rattle.cm_history.specs.Image.{Image, TokenImage, image, token_image, trim, trimmed}
 use Rattle.cm_history.proofs.PublicLaws.{past-is, writings-image, writings_by}
-use Rattle.token_pins.specs.Pinning.{holder, ArePinned}
+use Rattle.rod_store.specs.Pinning.{holder, ArePinned}
 use Rattle.unit_core.specs.Sharing.{AreShared}
 use Rattle.unit_core.specs.UnitState.{UnitState, Stands, shared_by}
 use Rattle.unit_core.proofs.Alike.{ShareAlike, alike-after, alike-same, next-unseen, shares-are, table-alike, table-same}
@@ -27,8 +27,8 @@ use Rattle.cm_history.specs.Tokens.{Token, Fate, Live, Expired, Evicted, Deleted
 use Rattle.rod_store.specs.declared.kept.Kept.{Kept}
 use Rattle.rod_store.specs.Kept.{value_at, value_in, value_of, kept_with}
 use Rattle.rod_store.proofs.PublicLaws.{value-with}
-use Rattle.token_pins.specs.declared.pinned_rod.PinnedRod.{PinnedRod}
-use Rattle.token_pins.specs.TokenChanges.{ranges_pinned}
+use Rattle.rod_store.specs.declared.pinned_rod.PinnedRod.{PinnedRod}
+use Rattle.rod_store.specs.TokenChanges.{ranges_pinned}
 use Rattle.unit_core.specs.declared.plan.Plan.{Plan}
 use Rattle.unit_core.specs.Versions.{Sight, Now, ByToken, writer_seen, shares, shares_table}
 use Rattle.unit_core.specs.inner.BlockChanges.{writings_of}

@@ -9,9 +9,8 @@ use crate::block_change::BlockChange;
 use crate::refusals;
 use cm_base::{OutOfMemory, UnitConfig};
 use cm_history::Answer;
-use lba_ranges::{BlockList, Blocks, Range, RangeList};
+use lba_ranges::{BlockList, Blocks, Range, RangeList, exceeds_quota, map_runs};
 use std::alloc::Global;
-use unmap_thin::{exceeds_quota, map_runs};
 
 /// What an act is answered, and what it is to write.
 #[derive(Drop)]

@@ -49,7 +49,7 @@ where
     ghost use Rattle.unit_core.specs.Versions.{Sight};
     ghost use Rattle.unit_core.specs.inner.Agreeing.{TablesAgree};
     ghost use Rattle.unit_core.specs.inner.Seen.{AreWriters};
-    ghost use Rattle.token_pins.specs.Pinning.{rods_of, holder, ArePinned};
+    ghost use Rattle.rod_store.specs.Pinning.{rods_of, holder, ArePinned};
 
     ghost IsAfter = { λ c entries. TablesAgree c.config c.unit
         (B.blocks c.tables.blocks) (B.block_length c.tables.blocks) (B.holds c.tables.blocks)

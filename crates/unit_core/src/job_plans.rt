@@ -21,10 +21,9 @@ use crate::room::{copy_key, token_key};
 use cm_base::OutOfMemory;
 use cm_history::{Actor, Answer, CopyEnd, OpState};
 use copy_jobs::{Key, NextPiece};
-use lba_ranges::{BlockList, Pins, RangeList};
+use lba_ranges::{BlockList, Pins, RangeList, exceeds_quota};
+use rod_store::TokenChange;
 use scsi_sense::Sense;
-use token_pins::TokenChange;
-use unmap_thin::exceeds_quota;
 
 /// How an operation stands behind a piece.
 fn state_after(is_last: bool) -> OpState

@@ -6,7 +6,7 @@ ghost use Rattle.cm_history.specs.Ends.{ends_operation};
 ghost use Rattle.cm_history.specs.History.{past_of};
 ghost use Rattle.cm_history.specs.Legal.{may_ask};
 ghost use Rattle.cm_history.specs.Limits.{within_limits};
-ghost use Rattle.cm_history.specs.Room.{reserved, need};
+ghost use Rattle.cm_history.specs.Room.{kept_free, need};
 ghost use Rattle.unit_core.specs.Versions.{writer_seen};
 
 use crate::inner::{Core, Reached};
@@ -41,12 +41,12 @@ where
             → ⟦<Core<B> as Reached>⟧.IsWritten self.new (writer_seen (past_of self.old.config self.old.unit
             (h ++ (record { stamp = stamp; unit = self.old.unit; actor = actor; seq = seq; moment = moment; act = act.now }) ∷ [])))) }
         ensures room { OnOk result ((h : List Entry) → ⟦<Core<B> as Reached>⟧.IsAfter self.old h
-            → reserved (past_of self.old.config self.old.unit h) + need (past_of self.old.config self.old.unit h) actor act.now ≤ history.new.spare) }
+            → kept_free (past_of self.old.config self.old.unit h) + need (past_of self.old.config self.old.unit h) actor act.now ≤ history.new.spare) }
         ensures same { OnErr result ((h : List Entry) → ⟦<Core<B> as Reached>⟧.IsAfter self.old h → ⟦<Core<B> as Reached>⟧.IsAfter self.new h) }
         ensures writers { OnErr result ((h : List Entry) → ⟦<Core<B> as Reached>⟧.IsWritten self.old (writer_seen (past_of self.old.config self.old.unit h))
             → ⟦<Core<B> as Reached>⟧.IsWritten self.new (writer_seen (past_of self.old.config self.old.unit h))) }
         ensures ends { OnErr result ((h : List Entry) → ⟦<Core<B> as Reached>⟧.IsAfter self.old h
-            → reserved (past_of self.old.config self.old.unit h) ≤ history.old.spare
+            → kept_free (past_of self.old.config self.old.unit h) ≤ history.old.spare
             → ends_operation (past_of self.old.config self.old.unit h) actor act.now ≡ false) }
         ensures pinned { ⟦<Core<B> as Reached>⟧.IsPinned self.new }
         ensures entries { history.new.entries ≡ history.old.entries }

@@ -6,7 +6,7 @@ use crate::block_plans::BlockPlan;
 use crate::job_change::JobChange;
 use cm_history::Answer;
 use pr_keys::PrState;
-use token_pins::TokenChange;
+use rod_store::TokenChange;
 
 /// What an act is answered, and what it is to change.
 #[derive(Drop)]

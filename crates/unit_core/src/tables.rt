@@ -5,8 +5,8 @@ ghost use Rattle.lba_ranges.specs.Versions.{Writers, IsNew, no_writers};
 ghost use Rattle.lba_ranges.specs.Writings.{after};
 ghost use Rattle.unit_core.specs.inner.BlockChanges.{writings_of, MayChange, is_nothing};
 ghost use Rattle.unit_core.specs.inner.JobChanges.{jobs_after, MayJob, grows};
-ghost use Rattle.token_pins.specs.Pinning.{rods_of, rod_now, holder, ArePinned};
-ghost use Rattle.token_pins.specs.TokenChanges.{tokens_after, MayPin, MayToken, is_make, ranges_pinned};
+ghost use Rattle.rod_store.specs.Pinning.{rods_of, rod_now, holder, ArePinned};
+ghost use Rattle.rod_store.specs.TokenChanges.{tokens_after, MayPin, MayToken, is_make, ranges_pinned};
 ghost use Rattle.pr_keys.specs.Reservations.{unreserved};
 ghost use Rattle.unit_core.specs.inner.Planning.{takes_none};
 ghost use Rattle.unit_core.specs.inner.Seen.{AreWriters, lives_in, put_seen, seen_after};
@@ -19,9 +19,8 @@ use cm_history::Answer;
 use copy_jobs::JobTable;
 use lba_ranges::Pins;
 use pr_keys::PrState;
-use rod_store::RodStore;
+use rod_store::{PinnedRod, RodStore, TokenChange, give_up, settle};
 use std::alloc::Global;
-use token_pins::{PinnedRod, TokenChange, give_up, settle};
 
 /// What a unit answers from: its blocks, its tokens, its operations and its reservations. A live token is a pin of its blocks.
 #[derive(Drop)]

@@ -18,7 +18,7 @@ use crate::room::token_key;
 use cm_base::OutOfMemory;
 use cm_history::{Actor, Answer};
 use lba_ranges::{Pins, RangeList};
-use token_pins::TokenChange;
+use rod_store::TokenChange;
 
 /// Serials that a unit makes.
 const SERIALS: u64 = 1 << 48;

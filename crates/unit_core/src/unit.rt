@@ -55,7 +55,7 @@ where
     ghost use Rattle.unit_core.specs.inner.Agreeing.{TablesAgree, RecordAgrees};
     ghost use Rattle.unit_core.specs.Versions.{writer_seen, shares_table};
     ghost use Rattle.cm_history.specs.History.{past_of};
-    ghost use Rattle.token_pins.specs.Pinning.{rods_of, holder, ArePinned};
+    ghost use Rattle.rod_store.specs.Pinning.{rods_of, holder, ArePinned};
 
     ghost Value = { UnitState };
 

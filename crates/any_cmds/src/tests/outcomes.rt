@@ -50,7 +50,7 @@ fn blocks(alloc: Global, first: u32, count: u32) -> Result<BlockList, Fail> {
     if count > first {
         list.push(Piece {
             count: 1,
-            fill: Fill::Bytes(Payload::from_static(&BLOCK)),
+            fill: Fill::Bytes(Payload::copy_from_slice(alloc, &BLOCK)?),
         })?;
         list.push(Piece {
             count: count - first - 1,
@@ -65,7 +65,7 @@ fn half_mapped(alloc: Global) -> Result<BlockList, Fail> {
     let mut list = BlockList::empty(alloc, 512);
     list.push(Piece {
         count: 1,
-        fill: Fill::Bytes(Payload::from_static(&BLOCK)),
+        fill: Fill::Bytes(Payload::copy_from_slice(alloc, &BLOCK)?),
     })?;
     list.push(Piece {
         count: 1,

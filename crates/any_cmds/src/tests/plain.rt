@@ -62,7 +62,7 @@ fn does_at(
     last: Seen,
 ) -> Result<bool, Fail> {
     let config = two_units(alloc)?;
-    let out = Payload::from_static(out);
+    let out = Payload::copy_from_slice(alloc, out)?;
     does(alloc, &config, Request { unit, cdb, out }, script, last)
 }
 
@@ -171,7 +171,7 @@ fn write_ends(alloc: Global, came: Came, end: Seen) -> Result<bool, Fail> {
     plays(
         alloc,
         WRITE,
-        Payload::from_static(&BLOCK),
+        Payload::copy_from_slice(alloc, &BLOCK)?,
         &[(asked, came)],
         end,
     )
@@ -202,7 +202,7 @@ fn is_barred(alloc: Global, cdb: [u8; 16], out: &'static [u8], asked: Seen) -> R
     plays(
         alloc,
         cdb,
-        Payload::from_static(out),
+        Payload::copy_from_slice(alloc, out)?,
         &script,
         Seen::Conflict,
     )

@@ -74,7 +74,13 @@ fn is_refused(alloc: Global, length: u32, list: &'static [u8]) -> Result<bool, F
         asc: 0x1a,
         ascq: 0x00,
     };
-    plays(alloc, register, Payload::from_static(list), &[], refused)
+    plays(
+        alloc,
+        register,
+        Payload::copy_from_slice(alloc, list)?,
+        &[],
+        refused,
+    )
 }
 
 /// A list has 24 bytes.

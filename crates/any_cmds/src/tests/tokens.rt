@@ -105,7 +105,13 @@ fn populates(
     last: Seen,
 ) -> Result<bool, Fail> {
     let populate = encode(&Cdb::PopulateToken { id: 3, length: 32 });
-    plays(alloc, populate, Payload::from_static(list), script, last)
+    plays(
+        alloc,
+        populate,
+        Payload::copy_from_slice(alloc, list)?,
+        script,
+        last,
+    )
 }
 
 /// POPULATE TOKEN of three blocks from LBA 7 on, for 60 seconds, which a reservation may bar.

@@ -8,7 +8,7 @@ use Rattle.lba_ranges.specs.HeldBlocks.{HeldBlocks}
 use Rattle.lba_ranges.specs.Writings.{Held}
 use Rattle.cm_history.specs.Deeds.{Deed, last_stamp, moment}
 use Rattle.cm_history.specs.Blocks.{held, mapped}
-use Rattle.cm_history.specs.Room.{bytes_in, reserved}
+use Rattle.cm_history.specs.Room.{bytes_in, kept_free}
 use Rattle.cm_history.specs.History.{on, past_of}
 use Rattle.cm_history.specs.Asked.{AllAsked}
 use Rattle.cm_history.specs.Reserving.{reservations}
@@ -57,7 +57,7 @@ pub record RecordAgrees (config : Configuration) (unit : ℕ) (kept : List Entry
   -- each entry has a stamp of its own, so they can be counted
   pub stamps : length entries ≤ last_stamp (past_of config unit entries)
   pub last : last_stamp (past_of config unit entries) < 2 ^ 64
-  pub free : reserved (past_of config unit entries) ≤ spare
+  pub free : kept_free (past_of config unit entries) ≤ spare
   pub payload : own_payload ≡ payload_in kept
-  pub room : length kept + reserved (past_of config unit entries) ≤ (unit_of config unit).entries
+  pub room : length kept + kept_free (past_of config unit entries) ≤ (unit_of config unit).entries
   pub bytes : payload_in kept ≤ (unit_of config unit).payload

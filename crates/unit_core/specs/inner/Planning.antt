@@ -21,12 +21,12 @@ use Rattle.cm_history.specs.Answers.{answer_after, deed, writings, wrote_of}
 use Rattle.unit_core.specs.declared.block_change.BlockChange.{BlockChange}
 use Rattle.unit_core.specs.declared.block_plans.BlockPlan.{BlockPlan}
 use Rattle.unit_core.specs.declared.job_change.JobChange.{JobChange}
-use Rattle.token_pins.specs.declared.token_change.TokenChange.{TokenChange}
+use Rattle.rod_store.specs.declared.token_change.TokenChange.{TokenChange}
 use Rattle.unit_core.specs.declared.plan.Plan.{Plan}
 use Rattle.unit_core.specs.inner.BlockChanges.{writings_of, MayChange, is_nothing}
 use Rattle.unit_core.specs.inner.JobChanges.{jobs_after, MayJob, grows}
-use Rattle.token_pins.specs.Pinning.{rod_now}
-use Rattle.token_pins.specs.TokenChanges.{tokens_after, MayPin, MayToken, is_make, ranges_pinned}
+use Rattle.rod_store.specs.Pinning.{rod_now}
+use Rattle.rod_store.specs.TokenChanges.{tokens_after, MayPin, MayToken, is_make, ranges_pinned}
 use Rattle.unit_core.specs.inner.Seen.{ranges_made}
 use Rattle.unit_core.specs.Keys.{key_of}
 use Rattle.unit_core.specs.inner.Tables.{tokens_of, jobs_of}

@@ -9,7 +9,7 @@ use Rattle.cm_history.specs.declared.answer.Answer.{Answer}
 use Rattle.cm_history.specs.Deeds.{is_refusal}
 use Rattle.rod_store.specs.declared.kept.Kept.{Kept}
 use Rattle.rod_store.specs.Kept.{value_at}
-use Rattle.token_pins.specs.declared.pinned_rod.PinnedRod.{PinnedRod}
+use Rattle.rod_store.specs.declared.pinned_rod.PinnedRod.{PinnedRod}
 use Rattle.unit_core.specs.Versions.{Sight, Now, ByToken}
 
 module _ {P : Type 0} (number : P → ℕ) (w : Writers) where

@@ -13,14 +13,14 @@ returns-clause-widened c same size =
     let last = c.in-Some.last.now in
     let found : slice_get runs k ≡ Some last = grind arith in
     let within = slice_get_within runs k _ found in
-    let end : k + 1 ≡ length runs = omega (arith, within, c.len-last.ensures) in
+    let end : k + 1 ≡ length runs = omega (arith, within, c.len-last.ensures.value) in
     let hole : c.args.more.now.fill ≡ Hole = c.in-Some-widened.ensures.both in
     let piece = pieces_of-get runs k last found ∙ ap Some c.in-Some-widened.ensures.hole in
-    rw (hole, pieces_of-set)
+    rw (c.replace_run.ensures, hole, pieces_of-set)
     (items_of-widened size _ k c.in-Some-widened.count c.args.more.now.count (end ∙ sym (length-pieces runs)) c.in-Some-widened.ensures.more piece)
 
 pub returns-clause-full : goal.returns-clause-full
-returns-clause-full c size all = rw pieces_of-set (AllFull-widened size _ (c.len-last.result - 1) c.in-Some-widened.count all)
+returns-clause-full c size all = rw (c.replace_run.ensures, pieces_of-set) (AllFull-widened size _ (c.len-last.result - 1) c.in-Some-widened.count all)
 
 pub returns-clause-spans : goal.returns-clause-spans
 returns-clause-spans c same before spans e =
@@ -29,6 +29,6 @@ returns-clause-spans c same before spans e =
     let last = c.in-Some.last.now in
     let found : slice_get runs k ≡ Some last = grind arith in
     let within = slice_get_within runs k _ found in
-    let end : k + 1 ≡ length runs = omega (arith, within, c.len-last.ensures) in
+    let end : k + 1 ≡ length runs = omega (arith, within, c.len-last.ensures.value) in
     let long : last.piece.count ≡ c.in-Some-widened.count - c.args.more.now.count = rw c.in-Some-widened.ensures.hole refl in
-    rw e (Spans-widened 0 before runs k c.in-Some-widened.count c.args.more.now.count last end c.in-Some-widened.ensures.more found long spans)
+    rw (c.replace_run.ensures, e) (Spans-widened 0 before runs k c.in-Some-widened.count c.args.more.now.count last end c.in-Some-widened.ensures.more found long spans)

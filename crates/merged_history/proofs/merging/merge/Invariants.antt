@@ -1,6 +1,5 @@
 use Rattle.std.proofs.Common.{length, map}
-use Rattle.merged_history.specs.Merged.{merged}
-use Rattle.merged_history.specs.Merged.{rests}
+use Rattle.merged_history.specs.Merged.{merged, rests}
 use Rattle.merged_history.specs.inner.Merging.{IsSoFar}
 use Rattle.merged_history.proofs.merging.merge.Given as goal
 

@@ -100,10 +100,10 @@ fn add_run(list: &mut BlockList, count: u32, fill: Fill) -> Result<(), Fail>
 }
 
 /// A mapped block of two bytes.
-fn mapped(bytes: &'static [u8; 2]) -> Fill
-    ensures { IsFull 2 1 result }
+fn mapped(alloc: Global, bytes: &[u8; 2]) -> Result<Fill, Fail>
+    ensures { IfOk result (λ fill. IsFull 2 1 fill) }
 {
-    Fill::Bytes(Payload::from_static(bytes))
+    Ok(Fill::Bytes(Payload::copy_from_slice(alloc, bytes)?))
 }
 
 /// Blocks of two bytes: two in two runs that touch, three holes, and one more.
@@ -111,10 +111,10 @@ fn blocks(alloc: Global) -> Result<BlockList, Fail>
     ensures { IfOk result (λ list. length list.items ≤ 1_048_576) }
 {
     let mut list = BlockList::empty(alloc, 2);
-    add_run(&mut list, 1, mapped(&[0x41, 0x42]))?;
-    add_run(&mut list, 1, mapped(&[0x43, 0x44]))?;
+    add_run(&mut list, 1, mapped(alloc, &[0x41, 0x42])?)?;
+    add_run(&mut list, 1, mapped(alloc, &[0x43, 0x44])?)?;
     add_run(&mut list, 3, Fill::Hole)?;
-    add_run(&mut list, 1, mapped(&[0x45, 0x46]))?;
+    add_run(&mut list, 1, mapped(alloc, &[0x45, 0x46])?)?;
     if list.blocks() > 1_048_576 {
         return Err(Fail::new("too many blocks"));
     }

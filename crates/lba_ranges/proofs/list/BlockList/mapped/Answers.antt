@@ -9,10 +9,10 @@ use Rattle.lba_ranges.proofs.list.BlockList.mapped.Goals as goal
 
 pub overflow_add-blocks : goal.overflow_add-blocks
 overflow_add-blocks c =
-    let runs = c.deref-run-items.result.now in
+    let runs = c.as_slice-run-items.result.now in
     let size = c.args.self.now.block_length in
     let same : c.self.inside.block_length ≡ size = ap (λ (v : HeldBlocks). v.block_length) c.self.view_is in
-    let all : length (items_of size (pieces_of runs)) ≡ c.self.inside.count = rw (← same, c.deref-run-items.ensures.value) (sym c.self.invariant.0) in
+    let all : length (items_of size (pieces_of runs)) ≡ c.self.inside.count = rw (← same, c.as_slice-run-items.ensures) (sym c.self.invariant.0) in
     let few = count_by-le-length is_some (items_of size (pieces_of runs)) in
     let step = count-drop size runs c.loop-run.run-index _ c.loop-run-test.true c.run-item.is in
     omega (arith, c.loop-run.invariant, c.mapped.ensures size, step, few, all)

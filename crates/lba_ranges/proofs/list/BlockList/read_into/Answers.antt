@@ -5,14 +5,14 @@ use Rattle.lba_ranges.proofs.list.BlockList.read_into.Goals as goal
 
 pub read_into-requires : goal.read_into-requires
 read_into-requires c =
-    AllFull-at _ c.deref-run-items.result.now _ _ (rw c.deref-run-items.ensures.value c.self.invariant.1) c.loop-run-test.true c.run-item.is
+    AllFull-at _ c.as_slice-run-items.result.now _ _ (rw c.as_slice-run-items.ensures c.self.invariant.1) c.loop-run-test.true c.run-item.is
 
 pub loop-run-preserved : goal.loop-run-preserved
 loop-run-preserved c =
     rw (
       c.in_ok-read_into.ensures.ok,
       c.loop-run.invariant,
-      items_of-more _ c.deref-run-items.result.now _ _ c.loop-run-test.true c.run-item.is,
+      items_of-more _ c.as_slice-run-items.result.now _ _ c.loop-run-test.true c.run-item.is,
       items_bytes-append,
     )
     (append_assoc c.args.into.now _ _)

@@ -11,14 +11,14 @@ use Rattle.cm_history.specs.Deeds.{Deed, moment}
 use Rattle.cm_history.specs.Answers.{deed}
 use Rattle.cm_history.specs.Ends.{ends_operation}
 use Rattle.cm_history.specs.History.{past_of}
-use Rattle.cm_history.specs.Room.{reserved, need}
+use Rattle.cm_history.specs.Room.{kept_free, need}
 use Rattle.copy_jobs.specs.Jobs as jobs
 use Rattle.rod_store.specs.declared.kept.Kept.{Kept}
 use Rattle.unit_core.specs.inner.Agreeing.{TablesAgree}
 use Rattle.unit_core.specs.inner.Planning.{IsPlan, takes_none}
 use Rattle.unit_core.specs.inner.Tables.{tokens_of}
-use Rattle.token_pins.specs.TokenChanges.{MayToken, tokens_after}
-use Rattle.token_pins.specs.Pinning.{rods_of, rod_now, rod_shown}
+use Rattle.rod_store.specs.TokenChanges.{MayToken, tokens_after}
+use Rattle.rod_store.specs.Pinning.{rods_of, rod_now, rod_shown}
 use Rattle.unit_core.proofs.Changing.{on-err}
 use Rattle.unit_core.proofs.Planned.{ends-serves}
 use Rattle.unit_core.proofs.Reserving.{reserved-is}
@@ -31,7 +31,7 @@ use Rattle.unit_core.proofs.Writers.{placed}
 use Rattle.unit_core.proofs.inner.Core.perform.Goals as goal
 
 -- where room is wanted for no act that ends an operation
-never-short : (past : List Deed) (actor : Actor) (act : Act) (spare own more : ℕ) → own ≡ reserved past → more ≡ need past actor act → reserved past ≤ spare → spare < own + more
+never-short : (past : List Deed) (actor : Actor) (act : Act) (spare own more : ℕ) → own ≡ kept_free past → more ≡ need past actor act → kept_free past ≤ spare → spare < own + more
     → (t : Bool) → ends_operation past actor act ≡ t → t ≡ false
 never-short past actor act spare own more free needed room short false e = refl
 never-short past actor act spare own more free needed room short true e =
@@ -133,6 +133,6 @@ returns-clause-room g c = λ h t.
     let o = c.args.self.now in
     let past = past_of o.config o.unit h in
     let known = known-of o.config o.unit h t.record_is in
-    let free : c.reserved.result ≡ reserved past = c.reserved.ensures.reserved ∙ ap jobs.reserved t.jobs ∙ reserved-is o.config o.unit past known.is in
+    let free : c.reserved.result ≡ kept_free past = c.reserved.ensures.reserved ∙ ap jobs.reserved t.jobs ∙ reserved-is o.config o.unit past known.is in
     let needed : c.need.result ≡ need past c.args.actor c.args.act.now = c.need.ensures.need h t in
     omega (arith, free, needed, c.in_ok-reserve.ensures.room)

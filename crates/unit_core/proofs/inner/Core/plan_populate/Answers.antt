@@ -10,7 +10,7 @@ use Rattle.copy_jobs.specs.Jobs as jobs
 use Rattle.unit_core.specs.Keys.{key_of}
 use Rattle.unit_core.specs.inner.Tables.{kept_of}
 use Rattle.rod_store.specs.Kept.{kept_with}
-use Rattle.token_pins.specs.Pinning.{rod_shown}
+use Rattle.rod_store.specs.Pinning.{rod_shown}
 use Rattle.unit_core.proofs.Jobs.{busy-is}
 use Rattle.unit_core.proofs.Asking.{asker}
 use Rattle.unit_core.proofs.Planned.{own-of}

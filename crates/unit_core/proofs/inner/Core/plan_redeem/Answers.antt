@@ -7,16 +7,15 @@ use Rattle.unit_core.specs.inner.Tables.{tokens_of}
 use Rattle.unit_core.proofs.TableAnswers.{redeem-is, answer_of}
 use Rattle.unit_core.proofs.Planned.{redeem-plan, refused-plan}
 use Rattle.rod_token.specs.TokenText.{serial_of}
-use Rattle.rod_store.specs.Kept.{value_at, expired}
-use Rattle.rod_store.specs.Judging.{judged}
+use Rattle.rod_store.specs.Kept.{value_at, expired, kept_with, is_over, value_in, value_of}
+use Rattle.rod_store.specs.Judging.{judged, judged_token, judged_state}
 use Rattle.cm_history.specs.Deeds.{moment}
 use Rattle.cm_history.specs.Operations.{running}
 use Rattle.cm_history.proofs.PublicLaws.{find-none}
-use Rattle.rod_store.specs.Kept.{kept_with}
 use Rattle.rod_store.proofs.PublicLaws.{expired-with, judged-err, judged-ok, value-with}
 use Rattle.std.specs.Prelude.{Option, Some, None, is_some}
 use Rattle.std.specs.Option.{option_map}
-use Rattle.token_pins.specs.Pinning.{rod_shown}
+use Rattle.rod_store.specs.Pinning.{rod_shown}
 use Rattle.std.proofs.Common.{ℕ, List, true, false, Bool}
 use Rattle.std.specs.Prelude.{not, slice_get, if◌then◌else◌}
 use Rattle.std.specs.Str.{bytes_eq}
@@ -27,8 +26,6 @@ use Rattle.cm_history.specs.Redeeming.{are_alike}
 use Rattle.rod_store.specs.declared.kept.Kept.{Kept}
 use Rattle.rod_store.specs.declared.kept.TokenState.{TokenState}
 use Rattle.rod_store.specs.declared.kept.TokenState.TheVariants.{Live, Expired, Evicted, Deleted}
-use Rattle.rod_store.specs.Kept.{is_over, value_in, value_of}
-use Rattle.rod_store.specs.Judging.{judged_token, judged_state}
 use Rattle.unit_core.proofs.inner.Core.plan_redeem.Goals as goal
 
 judged-value : {T : Type 0} (config : Configuration) (unit now : ℕ) (text : List ℕ) (target : ℕ) (ts : List (Kept T)) (value : T) → judged config unit now text target ts ≡ Ok value

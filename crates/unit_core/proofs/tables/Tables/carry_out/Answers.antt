@@ -2,11 +2,11 @@ use Rattle.std.proofs.Common.{◌≡◌, ℕ, [], length, refl, ap, sym, ◌∙�
 use Rattle.std.specs.Prelude.{map, ◌||◌}
 use Rattle.lba_ranges.specs.Writings.{after}
 use Rattle.rod_store.specs.Kept.{kept_with}
-use Rattle.token_pins.specs.declared.pinned_rod.PinnedRod.{PinnedRod}
-use Rattle.token_pins.specs.Pinning.{rod_shown, rod_now, holder}
+use Rattle.rod_store.specs.declared.pinned_rod.PinnedRod.{PinnedRod}
+use Rattle.rod_store.specs.Pinning.{rod_shown, rod_now, holder}
 use Rattle.lba_ranges.specs.Versions.{with_put}
-use Rattle.token_pins.specs.TokenChanges.{tokens_after, is_make, unpinned, rod_made, pinned_after, ranges_pinned, written_with}
-use Rattle.token_pins.proofs.PublicLaws.{after-with, pinned-same, pinned-sized, rods-same}
+use Rattle.rod_store.specs.TokenChanges.{tokens_after, is_make, unpinned, rod_made, pinned_after, ranges_pinned, written_with}
+use Rattle.rod_store.proofs.PublicLaws.{after-with, pinned-same, pinned-sized, rods-same}
 use Rattle.unit_core.specs.inner.BlockChanges.{writings_of}
 use Rattle.unit_core.specs.inner.JobChanges.{grows}
 use Rattle.unit_core.specs.inner.Seen.{lives_in, put_seen, seen_after}

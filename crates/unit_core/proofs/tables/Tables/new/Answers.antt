@@ -2,8 +2,8 @@ use Rattle.std.proofs.Common.{◌≡◌, ℕ, List, [], ap, sym, ◌∙◌, refl
 use Rattle.std.specs.Prelude.{Option, Some, None}
 use Rattle.lba_ranges.specs.declared.ranges.Range.{Range}
 use Rattle.rod_store.specs.declared.kept.Kept.{Kept}
-use Rattle.token_pins.specs.declared.pinned_rod.PinnedRod.{PinnedRod}
-use Rattle.token_pins.specs.Pinning.{holder, ArePinned}
+use Rattle.rod_store.specs.declared.pinned_rod.PinnedRod.{PinnedRod}
+use Rattle.rod_store.specs.Pinning.{holder, ArePinned}
 use Rattle.unit_core.proofs.tables.Tables.new.Goals as goal
 
 -- where there is no token, and no pin

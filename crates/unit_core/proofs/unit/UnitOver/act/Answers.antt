@@ -17,7 +17,7 @@ use Rattle.cm_history.specs.Deeds.{last_stamp}
 use Rattle.cm_history.specs.Answers.{answer_after, deed}
 use Rattle.cm_history.specs.Ends.{ends_operation}
 use Rattle.cm_history.specs.Forms.{HasForm}
-use Rattle.cm_history.specs.Room.{is_full, reserved, need, payload}
+use Rattle.cm_history.specs.Room.{is_full, kept_free, need, payload}
 use Rattle.unit_core.specs.UnitState.{UnitState, shared_by}
 use Rattle.unit_core.specs.Acting.{MayRedeem}
 use Rattle.unit_core.specs.inner.Agreeing.{payload_in}
@@ -26,7 +26,7 @@ use Rattle.unit_core.proofs.Rooms.{full-serving, reserved-step, room-of}
 use Rattle.unit_core.proofs.Standing.{ends-alike}
 use Rattle.unit_core.proofs.Steps.{length-kept, payload-kept, record-more, record-step, stamp-next}
 use Rattle.unit_core.proofs.TableAnswers.{redeem-given}
-use Rattle.token_pins.specs.Pinning.{rods_of, rod_shown}
+use Rattle.rod_store.specs.Pinning.{rods_of, rod_shown}
 use Rattle.cm_history.specs.Image.{Image}
 use Rattle.unit_core.specs.Versions.{shares_table, writer_seen}
 use Rattle.unit_core.specs.inner.Seen.{shares_shown, AreWriters}
@@ -127,7 +127,7 @@ invariant_of-self-2 g c =
     let has = room-of limit u.folded past c.args.actor c.args.stamp c.args.act within full in
     let fits : c.max-stamp.result + 1 < 2 ^ 64 = stamp-next c.max-stamp.result c.max-stamp.type_inv (ap (λ (n : ℕ). n == 2 ^ 64 - 1) (c.max-stamp.ensures ∙ ap (max c.args.stamp) t.stamp) ∙ has.stamps) in
     let kept : c.append.new.self.entries ≡ u.history.entries ++ e ∷ [] = c.append.ensures.added ∙ ap (λ l. l ++ e ∷ []) c.perform.ensures.entries in
-    let spare : reserved past + need past c.args.actor c.args.act ≤ c.append.new.self.spare + 1 = omega (arith, c.in_ok-answer.ensures.room w t, c.append.ensures.room) in
+    let spare : kept_free past + need past c.args.actor c.args.act ≤ c.append.new.self.spare + 1 = omega (arith, c.in_ok-answer.ensures.room w t, c.append.ensures.room) in
     let later : last_stamp past + 1 ≤ c.max-stamp.result + 1 = omega (arith, c.max-stamp.ensures, t.stamp) in
     let record_now = record-step o.config o.unit u.history.entries u.folded u.history.spare c.append.new.self.spare u.payload (u.payload + c.bytes_in.result) w e c.args.stamp
     r t.record_is refl asked later fits full spare (ap (λ n. u.payload + n) c.bytes_in.ensures) in
@@ -328,7 +328,7 @@ returns-clause-stands g c = λ h s.
     let has = room-of limit u.folded past c.args.actor c.args.stamp c.args.act within full in
     let fits : c.max-stamp.result + 1 < 2 ^ 64 = stamp-next c.max-stamp.result c.max-stamp.type_inv (ap (λ (n : ℕ). n == 2 ^ 64 - 1) (c.max-stamp.ensures ∙ ap (max c.args.stamp) t.stamp) ∙ has.stamps) in
     let kept : c.append.new.self.entries ≡ u.history.entries ++ e ∷ [] = c.append.ensures.added ∙ ap (λ l. l ++ e ∷ []) c.perform.ensures.entries in
-    let spare : reserved past + need past c.args.actor c.args.act ≤ c.append.new.self.spare + 1 = omega (arith, c.in_ok-answer.ensures.room w t, c.append.ensures.room) in
+    let spare : kept_free past + need past c.args.actor c.args.act ≤ c.append.new.self.spare + 1 = omega (arith, c.in_ok-answer.ensures.room w t, c.append.ensures.room) in
     let later : last_stamp past + 1 ≤ c.max-stamp.result + 1 = omega (arith, c.max-stamp.ensures, t.stamp) in
     let record_now = record-step o.config o.unit u.history.entries u.folded u.history.spare c.append.new.self.spare u.payload (u.payload + c.bytes_in.result) w e c.args.stamp
     r t.record_is refl asked later fits full spare (ap (λ n. u.payload + n) c.bytes_in.ensures) in

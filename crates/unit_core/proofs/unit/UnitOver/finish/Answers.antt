@@ -14,7 +14,7 @@ use Rattle.cm_history.specs.declared.refused.ActRefused.{ActRefused}
 use Rattle.unit_core.specs.UnitState.{UnitState}
 use Rattle.unit_core.specs.Acting.{past, serves_operation, ends_operation_at}
 use Rattle.unit_core.proofs.Planned.{ends-serves}
-use Rattle.token_pins.specs.Pinning.{rods_of, rod_shown}
+use Rattle.rod_store.specs.Pinning.{rods_of, rod_shown}
 use Rattle.unit_core.specs.Versions.{shares_table}
 use Rattle.unit_core.specs.inner.Seen.{shares_shown}
 use Rattle.unit_core.proofs.WriterSteps.{stands-with, table-are}

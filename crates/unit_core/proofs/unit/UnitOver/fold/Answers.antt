@@ -15,7 +15,7 @@ use Rattle.std.proofs.Common.{length-append}
 use Rattle.std.proofs.lemmas.List.{length-drop}
 use Rattle.unit_core.proofs.Folds.{all-short, told-fold}
 use Rattle.unit_core.proofs.Steps.{record-fold}
-use Rattle.token_pins.specs.Pinning.{rods_of}
+use Rattle.rod_store.specs.Pinning.{rods_of}
 use Rattle.unit_core.proofs.unit.UnitOver.fold.Goals as goal
 
 pub record_all-end-requires-clause-short : goal.record_all-end-requires-clause-short

@@ -3,7 +3,7 @@ use Rattle.cm_history.specs.History.{past_of}
 use Rattle.unit_core.specs.inner.Agreeing.{TablesAgree}
 use Rattle.unit_core.proofs.Steps.{known-of}
 use Rattle.unit_core.proofs.Standing.{own-drop}
-use Rattle.token_pins.specs.Pinning.{rods_of}
+use Rattle.rod_store.specs.Pinning.{rods_of}
 use Rattle.unit_core.proofs.unit.UnitOver.into_history.Goals as goal
 
 pub returns-clause-own : goal.returns-clause-own

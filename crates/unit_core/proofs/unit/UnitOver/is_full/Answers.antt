@@ -11,12 +11,12 @@ use Rattle.unit_core.proofs.Steps.{known-of}
 use Rattle.cm_base.specs.declared.config.UnitConfig.{UnitConfig}
 use Rattle.copy_jobs.specs.Jobs as jobs
 use Rattle.cm_history.specs.Deeds.{last_stamp}
-use Rattle.cm_history.specs.Room.{reserved, need, payload, bytes_in}
+use Rattle.cm_history.specs.Room.{kept_free, need, payload, bytes_in}
 use Rattle.unit_core.specs.inner.Agreeing.{payload_in}
 use Rattle.unit_core.proofs.Steps.{length-kept, payload-kept}
 use Rattle.unit_core.proofs.Reserving.{reserved-is}
 use Rattle.unit_core.proofs.Rooms.{full-stamps, full-entries, full-bytes}
-use Rattle.token_pins.specs.Pinning.{rods_of}
+use Rattle.rod_store.specs.Pinning.{rods_of}
 use Rattle.unit_core.proofs.unit.UnitOver.is_full.Goals as goal
 
 pub need-requires-clause-known : goal.need-requires-clause-known
@@ -32,7 +32,7 @@ overflow_add-kept g c =
     let past = past_of o.config o.unit w in
     let known = known-of o.config o.unit w t.record_is in
     let limit = unit_of o.config o.unit in
-    let free : c.reserved.result ≡ reserved past = c.reserved.ensures.reserved ∙ ap jobs.reserved t.jobs ∙ reserved-is o.config o.unit past known.is in
+    let free : c.reserved.result ≡ kept_free past = c.reserved.ensures.reserved ∙ ap jobs.reserved t.jobs ∙ reserved-is o.config o.unit past known.is in
     let few = t.record_is.limits.entries.1 in
     omega (arith, c.len.ensures, free, few, r.room)
 
@@ -46,7 +46,7 @@ overflow_add-kept-2 g c =
     let past = past_of o.config o.unit w in
     let known = known-of o.config o.unit w t.record_is in
     let limit = unit_of o.config o.unit in
-    let free : c.reserved.result ≡ reserved past = c.reserved.ensures.reserved ∙ ap jobs.reserved t.jobs ∙ reserved-is o.config o.unit past known.is in
+    let free : c.reserved.result ≡ kept_free past = c.reserved.ensures.reserved ∙ ap jobs.reserved t.jobs ∙ reserved-is o.config o.unit past known.is in
     let few = t.record_is.limits.entries.1 in
     omega (arith, c.len.ensures, free, few, r.room, c.need.ensures.few)
 
@@ -87,10 +87,10 @@ returns-then-kept-need g c = λ h s.
     let count : length past - u.folded ≡ length u.history.entries = length-kept o.config o.unit u.history.entries u.folded w t.record_is.own r.keeps in
     let bytes : payload u.folded past ≡ payload_in u.history.entries = payload-kept o.config o.unit u.history.entries u.folded w t.record_is.own r.keeps in
     let within : payload u.folded past ≤ limit.payload = omega (arith, bytes, r.bytes) in
-    let free : c.reserved.result ≡ reserved past = c.reserved.ensures.reserved ∙ ap jobs.reserved t.jobs ∙ reserved-is o.config o.unit past known.is in
+    let free : c.reserved.result ≡ kept_free past = c.reserved.ensures.reserved ∙ ap jobs.reserved t.jobs ∙ reserved-is o.config o.unit past known.is in
     let needed : c.need.result ≡ need past c.args.actor c.args.act.now = c.need.ensures.need w t in
     let most : c.from.result ≡ limit.entries = c.from.ensures ∙ ap (λ (v : UnitConfig). v.entries) c.unit-unit.ensures.told in
-    let more : limit.entries < length past - u.folded + reserved past + need past c.args.actor c.args.act.now = omega (arith, c.len.ensures, count, free, needed, most) in
+    let more : limit.entries < length past - u.folded + kept_free past + need past c.args.actor c.args.act.now = omega (arith, c.len.ensures, count, free, needed, most) in
     rw (← c.self.view_is) (sym (full-entries limit u.folded past c.args.actor c.args.stamp c.args.act.now within more) ∙ sym (p.full c.args.actor c.args.stamp c.args.act.now))
 
 pub returns : goal.returns
@@ -110,10 +110,10 @@ returns g c = λ h s.
     let count : length past - u.folded ≡ length u.history.entries = length-kept o.config o.unit u.history.entries u.folded w t.record_is.own r.keeps in
     let bytes : payload u.folded past ≡ payload_in u.history.entries = payload-kept o.config o.unit u.history.entries u.folded w t.record_is.own r.keeps in
     let within : payload u.folded past ≤ limit.payload = omega (arith, bytes, r.bytes) in
-    let free : c.reserved.result ≡ reserved past = c.reserved.ensures.reserved ∙ ap jobs.reserved t.jobs ∙ reserved-is o.config o.unit past known.is in
+    let free : c.reserved.result ≡ kept_free past = c.reserved.ensures.reserved ∙ ap jobs.reserved t.jobs ∙ reserved-is o.config o.unit past known.is in
     let needed : c.need.result ≡ need past c.args.actor c.args.act.now = c.need.ensures.need w t in
     let most : c.from.result ≡ limit.entries = c.from.ensures ∙ ap (λ (v : UnitConfig). v.entries) c.unit-unit.ensures.told in
-    let room : length past - u.folded + reserved past + need past c.args.actor c.args.act.now ≤ limit.entries = omega (arith, c.len.ensures, count, free, needed, most) in
+    let room : length past - u.folded + kept_free past + need past c.args.actor c.args.act.now ≤ limit.entries = omega (arith, c.len.ensures, count, free, needed, most) in
     let sums : u.payload + c.bytes_in.result ≡ payload u.folded past + bytes_in c.args.act.now = ap (λ n. n + c.bytes_in.result) (r.payload ∙ sym bytes) ∙ ap (λ n. payload u.folded past + n) c.bytes_in.ensures in
     let limit-bytes : c.from-2.result ≡ limit.payload = c.from-2.ensures ∙ ap (λ (v : UnitConfig). v.payload) c.unit-unit.ensures.told in
     let last : max c.args.stamp (last_stamp past) ≡ c.max.result = ap (max c.args.stamp) (sym t.stamp) ∙ sym c.max.ensures in

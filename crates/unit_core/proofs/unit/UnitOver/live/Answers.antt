@@ -11,7 +11,7 @@ use Rattle.cm_history.specs.Tokens.{tokens}
 use Rattle.rod_store.specs.Kept.{live}
 use Rattle.unit_core.proofs.Asking.{live-count}
 use Rattle.rod_store.proofs.PublicLaws.{count-with}
-use Rattle.token_pins.specs.Pinning.{rods_of, rod_shown}
+use Rattle.rod_store.specs.Pinning.{rods_of, rod_shown}
 use Rattle.unit_core.proofs.unit.UnitOver.live.Goals as goal
 
 pub returns-clause-live : goal.returns-clause-live

@@ -8,7 +8,7 @@ use Rattle.unit_core.specs.inner.Shown.{image_shown}
 use Rattle.unit_core.proofs.Standing.{stands-own}
 use Rattle.unit_core.proofs.Steps.{known-of}
 use Rattle.unit_core.proofs.Blocks.{mapped-agrees}
-use Rattle.token_pins.specs.Pinning.{rods_of}
+use Rattle.rod_store.specs.Pinning.{rods_of}
 use Rattle.unit_core.proofs.unit.UnitOver.mapped.Goals as goal
 
 pub returns-clause-mapped : goal.returns-clause-mapped

@@ -3,7 +3,7 @@ use Rattle.cm_history.specs.Folding.{StandsFor}
 use Rattle.unit_core.proofs.AnswersAs.{answers_as}
 use Rattle.unit_core.specs.inner.Shown.{image_shown}
 use Rattle.cm_history.specs.Image.{Image}
-use Rattle.token_pins.specs.Pinning.{rods_of}
+use Rattle.rod_store.specs.Pinning.{rods_of}
 use Rattle.unit_core.proofs.unit.UnitOver.moment.Goals as goal
 
 pub returns-clause-told : goal.returns-clause-told

@@ -4,7 +4,7 @@ use Rattle.cm_base.specs.Units.{unit_of}
 use Rattle.unit_core.specs.inner.Agreeing.{TablesAgree}
 use Rattle.unit_core.proofs.Standing.{stands-own}
 use Rattle.unit_core.proofs.Steps.{tables-start, record-start}
-use Rattle.token_pins.specs.Pinning.{rods_of, rod_shown}
+use Rattle.rod_store.specs.Pinning.{rods_of, rod_shown}
 use Rattle.rod_store.specs.Kept.{kept_with}
 use Rattle.unit_core.proofs.WriterSteps.{table-are, writers-start}
 use Rattle.unit_core.proofs.unit.UnitOver.new.Goals as goal

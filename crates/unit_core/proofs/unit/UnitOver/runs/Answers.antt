@@ -22,7 +22,7 @@ use Rattle.unit_core.specs.inner.Tables.{jobs_of}
 use Rattle.unit_core.proofs.Jobs.{IsNexus, busy-is}
 use Rattle.unit_core.proofs.Pumping.{pump-idle}
 use Rattle.unit_core.proofs.Planned.{IsKnown, own-of}
-use Rattle.token_pins.specs.Pinning.{rods_of}
+use Rattle.rod_store.specs.Pinning.{rods_of}
 use Rattle.unit_core.specs.Versions.{shares_table}
 use Rattle.unit_core.specs.inner.Seen.{shares_shown}
 use Rattle.unit_core.proofs.unit.UnitOver.runs.Goals as goal

@@ -7,7 +7,7 @@ use Rattle.unit_core.specs.inner.Agreeing.{TablesAgree}
 use Rattle.unit_core.specs.inner.Shown.{image_shown}
 use Rattle.unit_core.proofs.Standing.{stands-own}
 use Rattle.unit_core.proofs.Steps.{known-of}
-use Rattle.token_pins.specs.Pinning.{rods_of}
+use Rattle.rod_store.specs.Pinning.{rods_of}
 use Rattle.unit_core.proofs.unit.UnitOver.serves.Goals as goal
 
 pub serves-requires-clause-known : goal.serves-requires-clause-known

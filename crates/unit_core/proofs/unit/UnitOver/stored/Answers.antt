@@ -4,7 +4,7 @@ use Rattle.cm_history.specs.History.{past_of}
 use Rattle.cm_history.specs.Tokens.{tokens}
 use Rattle.lba_ranges.specs.Denoted.{row}
 use Rattle.cm_history.specs.Folding.{StandsFor}
-use Rattle.token_pins.specs.Pinning.{rods_of, rod_shown}
+use Rattle.rod_store.specs.Pinning.{rods_of, rod_shown}
 use Rattle.unit_core.specs.UnitState.{UnitState, Stands, shared_by}
 use Rattle.unit_core.proofs.AnswersAs.{answers_as}
 use Rattle.unit_core.specs.Versions.{needed, seen_versions, shares_table, sights, writer_seen}

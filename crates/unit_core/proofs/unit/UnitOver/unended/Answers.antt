@@ -4,7 +4,7 @@ use Rattle.cm_history.specs.History.{past_of}
 use Rattle.cm_history.specs.Image.{Image}
 use Rattle.cm_history.proofs.PublicLaws.{past-is}
 use Rattle.copy_jobs.specs.Unended.{unended}
-use Rattle.token_pins.specs.Pinning.{rods_of}
+use Rattle.rod_store.specs.Pinning.{rods_of}
 use Rattle.unit_core.proofs.AnswersAs.{answers_as}
 use Rattle.unit_core.specs.inner.Agreeing.{TablesAgree}
 use Rattle.unit_core.specs.inner.Shown.{image_shown}
