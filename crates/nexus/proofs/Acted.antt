@@ -17,8 +17,8 @@ use Rattle.merged_history.specs.Merged.{merged}
 use Rattle.merged_history.specs.Own.{Rises}
 use Rattle.merged_history.specs.Passes.{of_unit}
 use Rattle.merged_history.specs.PassRules.{IsPass}
-use Rattle.merged_history.proofs.PublicLaws.{pass-makes, rises-append}
-use Rattle.pass_register.specs.Passes.{PassState}
+use Rattle.merged_history.proofs.PublicLaws.{pass-makes, rises-append, MayMake}
+use Rattle.merged_history.specs.Seats.{PassState}
 use Rattle.turn_gate.specs.declared.view.Own.{Own}
 use Rattle.turn_gate.specs.Marks.{AtMost}
 use Rattle.unit_gate.specs.declared.asked.Acted.{Acted}
@@ -33,7 +33,6 @@ use Rattle.nexus.specs.inner.Keeping.{gates_of, entries_of, owns, seens, pass_vi
 use Rattle.nexus.proofs.Last.{stamp-above, last_stamp_of-push, rises-last, rises-long}
 use Rattle.nexus.proofs.Turning.{view-same, own-at, seen-at, gates-kept, holds-kept, seens-set, misses-set, marks-set, misses-here, misses-before, marks-here, marks-before}
 use Rattle.nexus.proofs.Places.{map-set}
-use Rattle.merged_history.proofs.PublicLaws.{MayMake}
 
 entries_of-push : (own : List (Own Entry)) (o : Own Entry) → entries_of (own ++ o ∷ []) ≡ entries_of own ++ o.entry ∷ []
 entries_of-push [] o = refl

@@ -11,8 +11,8 @@ use Rattle.merged_history.specs.Own.{IsAsked}
 use Rattle.merged_history.specs.Resumed.{IsResumed}
 use Rattle.merged_history.specs.Passes.{of_unit, AreFrom}
 use Rattle.merged_history.specs.PassRules.{AreLonger, IsRoot}
-use Rattle.merged_history.proofs.PublicLaws.{of-from, root-closes, root-resumes, root-sees}
-use Rattle.pass_register.specs.Passes.{RootState, own_of}
+use Rattle.merged_history.proofs.PublicLaws.{of-from, root-closes, root-resumes, root-sees, AreHistories}
+use Rattle.merged_history.specs.Seats.{RootState, own_of}
 use Rattle.unit_gate.specs.declared.kin.RecorderFacts.{RecorderFacts}
 use Rattle.unit_gate.specs.declared.kin.UnitKin.{UnitKin}
 use Rattle.unit_gate.specs.declared.recorded_unit.ClosedUnit.{ClosedUnit}
@@ -26,7 +26,6 @@ use Rattle.nexus.specs.inner.Keeping.{AreAbove, AreGates, IsAbove, IsOpened, Kee
 use Rattle.nexus.specs.inner.Rooms.{Room, HasRoom}
 use Rattle.nexus.specs.inner.Closing.{IsAlone, AreAlone, IsReady, AreReady, AreEntered, AreHeld, AreClosed, given_back}
 use Rattle.nexus.proofs.Entering.{map-entered, each-entered, entered-gates, entered-held, entered-long, entered-longer, entered-above, entered-from, kept_in}
-use Rattle.merged_history.proofs.PublicLaws.{AreHistories}
 use Rattle.nexus.proofs.Safe.{above-more}
 use Rattle.nexus.proofs.Opened.{each-parts, opened-longer}
 

@@ -12,8 +12,8 @@ use Rattle.merged_history.specs.Merged.{merged}
 use Rattle.merged_history.specs.Passes.{of_unit}
 use Rattle.merged_history.specs.PassRules.{IsRoot, AreLonger}
 use Rattle.merged_history.proofs.PublicLaws.{In-append, In-split, in-merged, all-in, unit-stands, root-joins, IsJoinedTo, own_of-other, own_of-own}
-use Rattle.pass_register.specs.declared.known.Ticket.{Ticket}
-use Rattle.pass_register.specs.Passes.{Joined, RootState, PassState, own_of, IsJoined}
+use Rattle.merged_history.specs.declared.known.Ticket.{Ticket}
+use Rattle.merged_history.specs.Seats.{Joined, RootState, PassState, own_of, IsJoined}
 use Rattle.turn_gate.specs.declared.view.Own.{Own}
 use Rattle.turn_gate.specs.declared.view.Joined.{Joined as JoinedSeat}
 use Rattle.unit_gate.specs.SeatActs.{UnitSeat}

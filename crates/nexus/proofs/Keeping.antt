@@ -1,5 +1,5 @@
 -- A pass keeps a unit's turn, and gives it back
-use Rattle.std.proofs.Common.{Ok, Err, IfOk, OnOk, ◌<◌, ◌≡◌, ℕ, zero, suc, ◌+◌, List, [], ◌∷◌, length, map, refl, ap, sym, ◌∙◌, subst, arith, Bool, true, false, Some, length-append}
+use Rattle.std.proofs.Common.{Ok, Err, IfOk, OnOk, ◌<◌, ◌≤◌, ◌≡◌, ℕ, zero, suc, ◌+◌, List, [], ◌∷◌, length, map, refl, ap, sym, ◌∙◌, subst, arith, false, Some, length-append}
 use Rattle.std.specs.declared.result.Result.{Result}
 use Rattle.std.specs.List.{All}
 use Rattle.std.specs.Prelude.{slice_set, slice_get, slice_index_or, Option}
@@ -14,7 +14,7 @@ use Rattle.merged_history.specs.Merged.{merged}
 use Rattle.merged_history.specs.Passes.{of_unit}
 use Rattle.merged_history.specs.PassRules.{IsHistory}
 use Rattle.merged_history.proofs.PublicLaws.{pass-sees, longer-set, set-at}
-use Rattle.pass_register.specs.Passes.{PassState, ticket_of}
+use Rattle.merged_history.specs.Seats.{PassState, ticket_of}
 use Rattle.unit_gate.specs.declared.kin.RecorderFacts.{RecorderFacts}
 use Rattle.unit_gate.specs.declared.kin.UnitKin.{UnitKin}
 use Rattle.unit_gate.specs.Recorded.{RecordedState, StandsFor, kin_of, marks_of}
@@ -22,11 +22,11 @@ use Rattle.unit_gate.specs.SeatActs.{UnitSeat, IsHeldBy, Missed, HasTaken as Has
 use Rattle.nexus.specs.Worlds.{PassView, UnitGate, WorldView, IsOf, IsFreePass, FoundTaken}
 use Rattle.nexus.specs.Roots.{RootView, IsRootOf, WasMade, WasTaken}
 use Rattle.nexus.specs.inner.Gates.{config_of}
-use Rattle.nexus.specs.Holding.{HasTaken, IsHeldAt, HoldView}
+use Rattle.nexus.specs.Holding.{HasTaken, HasWaited, IsHeldAt, HoldView}
 use Rattle.nexus.specs.inner.Keeping.{gates_of, entries_of, owns, seens, pass_view, KeepsPass}
 use Rattle.nexus.proofs.Acted.{kin_with}
 use Rattle.nexus.proofs.Places.{gate-at, map-set, map-get, map-kept, map-index, map-here}
-use Rattle.nexus.proofs.Turning.{kin-is, view-same, seen-at, gates-kept, holds-kept, owns-kept, seens-set, marks-set, marks-here, marks-before}
+use Rattle.nexus.proofs.Turning.{kin-is, view-same, seen-at, gates-kept, holds-kept, owns-kept, seens-set, misses-set, misses-here, misses-before, marks-set, marks-here, marks-before}
 
 module _ (pass : PassState) (seats : List UnitSeat) (actor : Actor) (seq last : ℕ) (keeps : KeepsPass (config_of (gates_of seats)) pass.ticket seats actor seq last)
     (unit : ℕ) (before after : UnitSeat) (low : unit < length seats) (at : before ≡ slice_index_or seats unit before) where
@@ -36,9 +36,9 @@ module _ (pass : PassState) (seats : List UnitSeat) (actor : Actor) (seq last : 
   abbrev view_after : PassView
   view_after = pass_view (config_of (gates_of (slice_set seats unit after))) pass (slice_set seats unit after)
 
-  -- ---- the turn was taken by this pass
+  -- ---- the turn was taken by this pass, which may have found it taken before
 
-  module _ (given : UnitKin) (took : HasTakenTurn (kin_with config unit given) before after) where
+  module _ (given : UnitKin) (misses : ℕ) (took : HasTakenTurn (kin_with config unit given) (record before { misses = misses }) after) where
     longer : IsPrefix (of_unit (seens seats) unit) after.seen
     longer = subst (λ l. IsPrefix l after.seen) (sym (seen-at seats unit before after low at)) took.turn.longer
 
@@ -67,13 +67,24 @@ module _ (pass : PassState) (seats : List UnitSeat) (actor : Actor) (seq last : 
       rising = keeps.rising;
     }
 
-    pub was-taken : HasTaken (pass_view config pass seats) view_after unit
-    was-taken = record {
+    taken-by : (ms : List ℕ) → map (λ (s : UnitSeat). s.misses) (slice_set seats unit after) ≡ ms → HasTaken (record (pass_view config pass seats) { misses = ms }) view_after unit
+    taken-by ms misses_are = record {
       turn = record { longer = subst (IsPrefix (of_unit (seens seats) unit)) (sym seen-here) longer; is_history = subst (IsHistory unit) (sym seen-here) took.turn.is_history };
       marks = rw (marks-here seats unit before after low at, marks-before seats unit before after low at) took.marks;
       pass = view-same _ _ _ _ _ _ _ _ _ _ _ _ _ _ _ _ (ap config_of gates-after) gates-after (ap merged owns-after) (seens-after ∙ ap (slice_set (seens seats) unit) (sym seen-here))
           (map-set (λ (s : UnitSeat). s.holds) seats unit after ∙ ap (slice_set (map (λ (s : UnitSeat). s.holds) seats) unit) (ap (λ (s : UnitSeat). s.holds) took.seat))
-          (map-kept (λ (s : UnitSeat). s.misses) seats unit before after low at (ap (λ (s : UnitSeat). s.misses) took.seat)) (marks-set seats unit before after low at);
+          misses_are (marks-set seats unit before after low at);
+    }
+
+    pub was-taken : misses ≡ before.misses → HasTaken (pass_view config pass seats) view_after unit
+    was-taken same = taken-by (map (λ (s : UnitSeat). s.misses) seats) (map-kept (λ (s : UnitSeat). s.misses) seats unit before after low at (ap (λ (s : UnitSeat). s.misses) took.seat ∙ same))
+
+    pub has-waited : before.misses ≤ misses → HasWaited (pass_view config pass seats) view_after unit
+    has-waited up = record {
+      misses =
+          let m = misses-here seats unit before after low at in let b = misses-before seats unit before after low at in let n = ap (λ (s : UnitSeat). s.misses) took.seat in
+          omega (arith, m, b, n, up);
+      taken = taken-by _ (misses-set seats unit before after low at);
     }
 
     pub is-held : (u : RecordedState) → IsHeldBy before.gate.kin after u → IsHeldAt view_after (record { unit = unit; turn = u })
@@ -188,15 +199,6 @@ taken-fewer before after pass taken =
     let one = length-append taken.front (pass.ticket ∷ taken.back) in
     let two = length-append taken.front taken.back in
     omega (arith, was, now, one, two)
-
--- ---- a unit that was held and given back
-
-pub free-again : (holds : List Bool) (unit : ℕ) → All (λ h. h ≡ false) holds → All (λ h. h ≡ false) (slice_set (slice_set holds unit true) unit false)
-free-again [] unit all k d low = absurd (omega (arith, low))
-free-again (h ∷ hs) zero all zero d low = refl
-free-again (h ∷ hs) zero all (suc k) d low = all (suc k) d (omega (arith, low))
-free-again (h ∷ hs) (suc n) all zero d low = all 0 d (omega arith)
-free-again (h ∷ hs) (suc n) all (suc k) d low = free-again hs n (λ i e less. all (suc i) e (omega (arith, less))) k d (omega (arith, low))
 
 -- ---- facts of a result
 

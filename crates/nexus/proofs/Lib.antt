@@ -11,6 +11,7 @@ pub mod Acted
 pub mod NotDone
 pub mod Staying
 pub mod Keeping
+pub mod Counting
 pub mod Opening
 pub mod GivenBack
 pub mod Resumed

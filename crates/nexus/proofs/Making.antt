@@ -10,8 +10,8 @@ use Rattle.merged_history.specs.Merged.{all_of, merged, put_in_order}
 use Rattle.merged_history.specs.Passes.{AreFrom}
 use Rattle.merged_history.specs.PassRules.{made_after, MayPass}
 use Rattle.merged_history.proofs.PublicLaws.{root-makes, pass-new}
-use Rattle.pass_register.specs.declared.known.Ticket.{Ticket}
-use Rattle.pass_register.specs.Passes.{RootState, PassState, own_of, ticket_of}
+use Rattle.merged_history.specs.declared.known.Ticket.{Ticket}
+use Rattle.merged_history.specs.Seats.{RootState, PassState, own_of, ticket_of}
 use Rattle.turn_gate.specs.declared.view.Own.{Own}
 use Rattle.unit_gate.specs.SeatActs.{UnitSeat}
 use Rattle.nexus.specs.Worlds.{UnitGate}

@@ -15,7 +15,7 @@ use Rattle.merged_history.specs.Merged.{merged}
 use Rattle.merged_history.specs.Passes.{of_unit}
 use Rattle.merged_history.specs.PassRules.{AreLonger}
 use Rattle.merged_history.proofs.PublicLaws.{pass-sees, longer-set, set-at}
-use Rattle.pass_register.specs.Passes.{PassState}
+use Rattle.merged_history.specs.Seats.{PassState}
 use Rattle.recorder.specs.Recording.{Rose}
 use Rattle.unit_gate.specs.declared.kin.RecorderFacts.{RecorderFacts}
 use Rattle.unit_gate.specs.declared.kin.UnitKin.{UnitKin}

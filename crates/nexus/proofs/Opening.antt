@@ -8,7 +8,7 @@ use Rattle.cm_history.proofs.PublicLaws.{Each}
 use Rattle.merged_history.specs.Own.{IsAsked}
 use Rattle.merged_history.specs.Passes.{of_unit}
 use Rattle.merged_history.proofs.PublicLaws.{root-new}
-use Rattle.pass_register.specs.Passes.{RootState}
+use Rattle.merged_history.specs.Seats.{RootState}
 use Rattle.atomic_table.specs.Seated.{TableId}
 use Rattle.turn_gate.specs.inner.Seats.{first_seat}
 use Rattle.unit_core.specs.UnitState.{UnitState, Stands}

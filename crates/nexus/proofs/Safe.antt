@@ -12,7 +12,7 @@ use Rattle.std.proofs.lemmas.Bool.Decides.{nat_tests}
 use Rattle.merged_history.specs.Merged.{merged}
 use Rattle.merged_history.specs.Passes.{AreFrom, of_unit}
 use Rattle.merged_history.proofs.PublicLaws.{unit-stands}
-use Rattle.pass_register.specs.Passes.{PassState}
+use Rattle.merged_history.specs.Seats.{PassState}
 use Rattle.recorder.specs.Recording.{Rose}
 use Rattle.turn_gate.specs.declared.view.Own.{Own}
 use Rattle.turn_gate.specs.Marks.{AtMost}
@@ -21,7 +21,7 @@ use Rattle.unit_gate.specs.declared.asked.AskedAct.{AskedAct}
 use Rattle.unit_gate.specs.declared.kin.UnitKin.{UnitKin}
 use Rattle.unit_gate.specs.declared.refused.TryRefused.{TryRefused}
 use Rattle.unit_gate.specs.Asking.{entry_of as entry_at_gate}
-use Rattle.unit_gate.specs.SeatActs.{UnitSeat, HasActed, HasSeen, HasTaken, IsRefused, IsTryRefused, Missed, faults_of, folded_of, late_of, WasSaved as WasSavedAt, IsSaved as IsSavedAt}
+use Rattle.unit_gate.specs.SeatActs.{UnitSeat, HasActed, HasSeen, HasTaken, HasWaited, IsRefused, IsTryRefused, Missed, faults_of, folded_of, late_of, WasSaved as WasSavedAt, IsSaved as IsSavedAt}
 use Rattle.nexus.specs.Worlds.{UnitGate, HasSome}
 use Rattle.nexus.specs.Safe.{IsRecorded, IsSafe, IsSafeOn}
 use Rattle.nexus.specs.inner.Keeping.{AreSafe, IsAbove, IsSafeFrom, IsSafeSeat, StandWithin, entries_of, gates_of, owns, pass_view, seens}
@@ -158,6 +158,10 @@ not-taken-safe eager kin before after asked (TryRefused.Act e) was is = refused-
 pub taken-safe : (eager : Bool) (kin : UnitKin) (before after : UnitSeat) → HasTaken kin before after → IsSafeSeat eager before → IsSafeSeat eager after
 taken-safe eager kin before after took is =
     grown-safe eager before after (ap (λ (s : UnitSeat). s.gate) took.seat) (ap (λ (s : UnitSeat). s.own) took.seat) took.turn.longer took.marks is
+
+pub waited-safe : (eager : Bool) (kin : UnitKin) (before after : UnitSeat) → HasWaited kin before after → IsSafeSeat eager before → IsSafeSeat eager after
+waited-safe eager kin before after waited is =
+    grown-safe eager before after (ap (λ (s : UnitSeat). s.gate) waited.taken.seat) (ap (λ (s : UnitSeat). s.own) waited.taken.seat) waited.taken.turn.longer waited.taken.marks is
 
 pub gave-safe : (eager : Bool) (before after : UnitSeat) → after ≡ record before { holds = false } → IsSafeSeat eager before → IsSafeSeat eager after
 gave-safe eager before after gave is = subst (IsSafeSeat eager) (sym gave) record { above = is.above; safe = is.safe }

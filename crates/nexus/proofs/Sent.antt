@@ -4,8 +4,8 @@ use denote.Param.Send.{IsSend, IsSync, sendable, view_send, view_sync, recorded_
 use denote.Struct.Declared as Declared
 use Rattle.std.proofs.Crossing as Crossing
 use Rattle.cm_history.proofs.act.Actor.TheSendSync as actor
-use Rattle.pass_register.proofs.register.PassSeat.TheSendSync as slip
-use Rattle.pass_register.proofs.register.Register.TheSendSync as register
+use Rattle.merged_history.proofs.register.PassSeat.TheSendSync as slip
+use Rattle.merged_history.proofs.register.Register.TheSendSync as register
 use Rattle.recorder.specs.declared.Recorder.{Ghosts}
 use Rattle.turn_gate.proofs.gate.Gate.TheSendSync as gate
 use Rattle.turn_gate.proofs.gate.GateSeat.TheSendSync as seat

@@ -13,8 +13,8 @@ use Rattle.cm_history.specs.Limits.{within_limits}
 use Rattle.merged_history.specs.Merged.{merged}
 use Rattle.merged_history.specs.Passes.{of_unit}
 use Rattle.merged_history.proofs.PublicLaws.{map-at}
-use Rattle.pass_register.specs.declared.known.Ticket.{Ticket}
-use Rattle.pass_register.specs.Passes.{PassState}
+use Rattle.merged_history.specs.declared.known.Ticket.{Ticket}
+use Rattle.merged_history.specs.Seats.{PassState}
 use Rattle.turn_gate.specs.declared.view.Own.{Own}
 use Rattle.unit_gate.specs.declared.kin.UnitKin.{UnitKin}
 use Rattle.unit_gate.specs.SeatActs.{UnitSeat}

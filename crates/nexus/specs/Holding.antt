@@ -1,5 +1,5 @@
 -- A unit's turn that a pass keeps
-use Rattle.std.specs.Prelude.{◌≡◌, ℕ, List, [], slice_get, slice_set, slice_index_or, Some, true, false}
+use Rattle.std.specs.Prelude.{◌≡◌, ◌≤◌, ℕ, List, [], slice_get, slice_set, slice_index, slice_index_or, Some, true, false}
 use Rattle.merged_history.specs.Passes.{of_unit}
 use Rattle.turn_gate.specs.Marks.{AtMost}
 use Rattle.unit_gate.specs.Recorded.{RecordedState, StandsFor, kin_of, marks_of}
@@ -27,3 +27,8 @@ pub record HasTaken (before after : PassView) (unit : ℕ) : Type 0 where
     holds = slice_set before.holds unit true;
     marks = slice_set before.marks unit (slice_index_or after.marks unit []);
   }
+
+-- the pass has waited for the unit's turn, which it may have found taken, and has taken it then
+pub record HasWaited (before after : PassView) (unit : ℕ) : Type 0 where
+  pub misses : slice_index before.misses unit ≤ slice_index after.misses unit
+  pub taken : HasTaken (record before { misses = slice_set before.misses unit (slice_index after.misses unit) }) after unit

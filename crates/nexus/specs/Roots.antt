@@ -5,8 +5,8 @@ use Rattle.cm_base.specs.Configuration.{Configuration}
 use Rattle.cm_history.specs.declared.act.Actor.{Actor}
 use Rattle.cm_history.specs.declared.act.Entry.{Entry}
 use Rattle.merged_history.specs.PassRules.{AreLonger, made_after}
-use Rattle.pass_register.specs.declared.known.Ticket.{Ticket}
-use Rattle.pass_register.specs.Passes.{Joined, ticket_of}
+use Rattle.merged_history.specs.declared.known.Ticket.{Ticket}
+use Rattle.merged_history.specs.Seats.{Joined, ticket_of}
 use Rattle.turn_gate.specs.Marks.{AtMost}
 use Rattle.nexus.specs.Worlds.{UnitGate, WorldView, PassView}
 

@@ -18,7 +18,7 @@ use Rattle.cm_history.specs.Operations.{would_serve}
 use Rattle.cm_history.specs.Room.{is_full}
 use Rattle.merged_history.specs.Passes.{of_unit}
 use Rattle.merged_history.specs.PassRules.{IsHistory}
-use Rattle.pass_register.specs.declared.known.Ticket.{Ticket}
+use Rattle.merged_history.specs.declared.known.Ticket.{Ticket}
 use Rattle.recorder.specs.Recording.{Rose}
 use Rattle.turn_gate.specs.Marks.{AtMost}
 use Rattle.turn_gate.specs.Seats.{GateName}

@@ -13,7 +13,7 @@ use crate::root::Root;
 use crate::world::World;
 use cm_base::{Config, OutOfMemory};
 use cm_history::History;
-use pass_register::{Register, RootSeat};
+use merged_history::{Register, RootSeat};
 use recorder::{NoRecorder, Recorder};
 use std::alloc::Global;
 use std::marker::Model;

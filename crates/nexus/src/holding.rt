@@ -1,14 +1,17 @@
 // A pass keeps a unit's turn for longer than one act.
 ghost use Rattle.std.specs.Prelude.{◌≡◌, ◌<◌, length, slice_index_or, slice_set, IfSome, IfNone, false};
+ghost use Rattle.merged_history.specs.Passes.{of_unit};
+ghost use Rattle.unit_gate.specs.Counting.{count_over};
 ghost use Rattle.nexus.specs.Worlds.{IsOf, FoundTaken};
-ghost use Rattle.nexus.specs.Holding.{HasTaken, IsHeldAt};
+ghost use Rattle.nexus.specs.Holding.{HasTaken, HasWaited, IsHeldAt};
 
 use crate::pass::Pass;
 use crate::world::World;
 use recorder::Recorder;
 use std::marker::Model;
+use std::sync::Wait;
 use turn_gate::Turn;
-use unit_gate::RecordedUnit;
+use unit_gate::{RecordedUnit, UnitCount};
 
 /// A unit's turn that a pass keeps. It can't be let go: `World::release` takes it.
 pub struct Hold<R: Recorder + Drop> {
@@ -22,6 +25,18 @@ impl<R: Recorder + Drop> Model for Hold<R> {
     ghost Value = { HoldView };
 
     ghost view = { λ h. record { unit = h.unit; turn = h.turn } };
+}
+
+impl<R: Recorder + Drop> Hold<R> {
+    /// What is counted of the unit now: over its whole history, which the pass that keeps the turn has seen. It takes no
+    /// memory.
+    pub fn count(&self, pass: &Pass<R>) -> UnitCount
+        requires { IsHeldAt pass.now self.now }
+        ensures { result ≡ count_over pass.now.config self.now.unit (of_unit pass.now.seen self.now.unit) }
+    {
+        let _ = &pass.seats;
+        self.turn.look().count()
+    }
 }
 
 impl<R: Recorder + Drop> World<R> {
@@ -43,6 +58,23 @@ impl<R: Recorder + Drop> World<R> {
             return None;
         };
         Some(Hold { unit, turn })
+    }
+
+    /// Takes a unit's turn as `hold` does, and sleeps while it is taken. How often it was found taken, `misses` counts. It
+    /// takes no memory.
+    pub fn hold_waiting<W: Wait>(&self, rt: &W, pass: &mut Pass<R>, unit: u16) -> Hold<R>
+        requires pass { IsOf self.now pass.old }
+        requires configured { unit < length self.now.config.units }
+        requires free { slice_index_or pass.old.holds unit false ≡ false }
+        ensures waited { HasWaited pass.old pass.new unit }
+        ensures held { IsHeldAt pass.new result }
+        ensures unit { result.unit ≡ unit }
+    {
+        let index = usize::from(unit);
+        let gate = &self.gates[index];
+        let seat = &mut pass.seats[index];
+        let turn = unit_gate::hold_waiting(rt, gate, seat);
+        Hold { unit, turn }
     }
 
     /// Gives a unit's turn back, which the pass has kept. It takes no memory.

@@ -2,7 +2,7 @@ ghost use Rattle.std.specs.Prelude.{◌≡◌, true};
 ghost use Rattle.nexus.specs.Safe.{IsSafe, IsSoundPass};
 
 use cm_history::Actor;
-use pass_register::PassSeat;
+use merged_history::PassSeat;
 use recorder::Recorder;
 use std::marker::Model;
 use turn_gate::GateSeat;

@@ -2,7 +2,7 @@ ghost use Rattle.std.specs.Prelude.{◌≡◌};
 ghost use Rattle.nexus.specs.Safe.{IsSoundRoot};
 
 use crate::rooms::Rooms;
-use pass_register::RootSeat;
+use merged_history::RootSeat;
 use recorder::Recorder;
 use std::marker::Model;
 use turn_gate::GateSeat;

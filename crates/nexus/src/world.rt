@@ -2,7 +2,7 @@ ghost use Rattle.std.specs.Prelude.{◌≡◌, ◌<◌, ◌^◌, ◌+◌, length
 ghost use Rattle.std.specs.List.{All};
 ghost use Rattle.cm_history.specs.declared.act.Actor.{Actor};
 ghost use Rattle.merged_history.specs.PassRules.{MayPass, made_after};
-ghost use Rattle.pass_register.specs.Passes.{IsJoined, own_of};
+ghost use Rattle.merged_history.specs.Seats.{IsJoined, own_of};
 ghost use Rattle.merged_history.specs.Merged.{merged};
 ghost use Rattle.nexus.specs.Worlds.{IsOf, IsFreePass};
 ghost use Rattle.nexus.specs.Roots.{IsRootOf, WasMade, WasTaken};
@@ -13,7 +13,7 @@ use crate::root::Root;
 use crate::seats::{join_all, split_all};
 use cm_base::OutOfMemory;
 use cm_history::{Actor, Entry};
-use pass_register::{PassSeat, Register, RootSeat};
+use merged_history::{PassSeat, Register, RootSeat};
 use recorder::Recorder;
 use std::alloc::Global;
 use std::marker::Model;

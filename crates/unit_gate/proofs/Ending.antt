@@ -1,5 +1,5 @@
 -- A unit goes on with a history: the operations of which it has still the ends to make are ended
-use Rattle.std.proofs.Common.{◌≡◌, ◌<◌, ◌≤◌, ℕ, ◌+◌, ◌-◌, ◌^◌, List, [], ◌∷◌, ◌++◌, length, take, refl, ap, sym, ◌∙◌, subst, arith, take_at, true, false, Bool, inl}
+use Rattle.std.proofs.Common.{◌≡◌, ◌<◌, ℕ, ◌+◌, ◌-◌, ◌^◌, List, [], ◌∷◌, ◌++◌, length, take, refl, ap, sym, ◌∙◌, subst, arith, take_at, true, false, Bool, inl}
 use Rattle.std.specs.Prelude.{◌==◌, fold, filter, max, is_some, Option, Some, None, option_map, IfSome, if◌then◌else◌}
 use Rattle.std.proofs.lemmas.Bool.{eq-eqb}
 use Rattle.cm_base.specs.Configuration.{Configuration}

@@ -1,20 +1,19 @@
 -- The operations that are ended when a unit goes on with a history
-use Rattle.std.proofs.Common.{◌≡◌, ℕ, ◌+◌, ◌-◌, ◌^◌, ◌<◌, ◌≤◌, List, [], ◌∷◌, ◌++◌, length, refl, ap, sym, ◌∙◌, subst, arith, append_assoc, append-nil, true, false, Bool, inl, inr, true≢false}
-use Rattle.std.specs.Prelude.{◌⊎◌, ◌==◌, ◌&&◌, ◌||◌, not, map, filter, find, fold, cond, Option, Some, None, option_map, is_some, max, if◌then◌else◌}
+use Rattle.std.proofs.Common.{◌≡◌, ℕ, ◌+◌, ◌-◌, ◌^◌, ◌<◌, List, [], ◌∷◌, ◌++◌, refl, ap, sym, ◌∙◌, subst, arith, append_assoc, append-nil, true, false, Bool, inl, inr, true≢false}
+use Rattle.std.specs.Prelude.{◌⊎◌, ◌==◌, ◌&&◌, ◌||◌, not, map, filter, find, cond, Option, Some, None, option_map, max, if◌then◌else◌}
 use Rattle.std.proofs.lemmas.Bool.{eq-eqb}
 use Rattle.std.proofs.lemmas.Bool.Decides.{nat_tests}
-use Rattle.std.proofs.lemmas.List.Sums.{fold-append}
 use Rattle.cm_base.specs.Configuration.{Configuration}
 use Rattle.cm_history.specs.declared.act.Act.{Act}
 use Rattle.cm_history.specs.declared.act.Actor.{Actor}
 use Rattle.cm_history.specs.declared.act.Entry.{Entry}
 use Rattle.cm_history.specs.Answers.{deed}
 use Rattle.cm_history.specs.Deeds.{Deed, is_answered, moment, last_stamp, same_actor}
-use Rattle.cm_history.specs.History.{on, one_more, past_of}
-use Rattle.cm_history.specs.Operations.{Operation, Form, OfToken, OfCopy, form_of, id_of, same_form, same_key, has_key, fits, would_serve, running, kept, operations, operation_after, serves, is_running, is_running_as, is_running_state, is_running_copy, is_foreground, is_background, is_failure, was_stopped, was_ended, is_ending, state_of, result_of, result_or, is_making, keep, made_operation, makes_operation}
-use Rattle.cm_history.proofs.PublicLaws.{Each, Each-by, Each-in, In, IsPast, KeysApart, keys-apart, kept_in, running_kept, find-filter, find-in, served-or-not, past-is, past_of-mine, same_actor-self, same_form-self, left-running, and_first, and_second}
+use Rattle.cm_history.specs.History.{past_of}
+use Rattle.cm_history.specs.Operations.{Operation, Form, OfToken, OfCopy, form_of, id_of, same_form, same_key, has_key, fits, would_serve, kept, operations, operation_after, serves, is_running, is_running_as, is_running_state, is_running_copy, is_foreground, is_background, was_ended, is_ending, state_of, result_of, result_or, is_making, keep, made_operation, makes_operation}
+use Rattle.cm_history.proofs.PublicLaws.{Each, Each-by, Each-in, In, IsPast, KeysApart, keys-apart, kept_in, running_kept, find-filter, served-or-not, past-is, past_of-mine, same_actor-self, same_form-self, left-running, and_first, and_second}
 use Rattle.unit_core.specs.Unended.{is_by_initiator}
-use Rattle.unit_gate.specs.Opening.{all_unended, terminated_copy, ending_act, ending, endings, opening_entries}
+use Rattle.unit_gate.specs.Opening.{all_unended, ending_act, ending, endings, opening_entries}
 
 -- ---- the operations that are to be ended, among those that are kept
 

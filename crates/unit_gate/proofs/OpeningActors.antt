@@ -1,6 +1,6 @@
 -- Who made the entries with which a unit goes on: each ending is of the actor of its operation, who stands in the history
-use Rattle.std.proofs.Common.{◌≡◌, ℕ, ◌+◌, ◌-◌, ◌^◌, List, [], ◌∷◌, ◌++◌, sym, ap, subst, true, false, Bool}
-use Rattle.std.specs.Prelude.{◌==◌, fold, filter, map, if◌then◌else◌}
+use Rattle.std.proofs.Common.{ℕ, ◌+◌, ◌-◌, ◌^◌, List, [], ◌∷◌, sym, subst, true, false, Bool}
+use Rattle.std.specs.Prelude.{◌==◌, fold, map, if◌then◌else◌}
 use Rattle.cm_base.specs.Configuration.{Configuration}
 use Rattle.cm_history.specs.declared.act.Actor.{Actor}
 use Rattle.cm_history.specs.declared.act.Entry.{Entry}

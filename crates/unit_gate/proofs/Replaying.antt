@@ -1,6 +1,6 @@
 -- A unit goes on with a history: its entries are done again
 use Rattle.std.proofs.Common.{◌≡◌, ◌<◌, ◌≤◌, ℕ, zero, suc, ◌+◌, ◌-◌, ◌^◌, List, [], ◌∷◌, ◌++◌, length, take, drop, slice_get, refl, ap, sym, ◌∙◌, subst, arith, take_all, true, false, Bool}
-use Rattle.std.specs.Prelude.{◌==◌, ◌&&◌, ◌||◌, fold, max, nat_lt, Option, Some, None, if◌then◌else◌}
+use Rattle.std.specs.Prelude.{◌==◌, ◌&&◌, ◌||◌, fold, max, nat_lt, Some, None, if◌then◌else◌}
 use Rattle.std.proofs.lemmas.Bool.Decides.{nat_tests}
 use Rattle.cm_base.specs.Configuration.{Configuration}
 use Rattle.cm_base.specs.Units.{unit_of}
@@ -13,7 +13,7 @@ use Rattle.cm_history.specs.History.{one_more, past_of}
 use Rattle.cm_history.specs.Image.{Image}
 use Rattle.cm_history.specs.Legal.{may_ask}
 use Rattle.cm_history.specs.Limits.{within_limits}
-use Rattle.cm_history.specs.Room.{is_full, is_write, bytes_in, payload, need, reserved}
+use Rattle.cm_history.specs.Room.{is_full, is_write, bytes_in, payload, need, kept_free}
 use Rattle.cm_history.proofs.PublicLaws.{Each-in, get-in}
 use Rattle.merged_history.specs.Own.{IsAsked, Rises}
 use Rattle.unit_core.specs.Acting.{entry_at, is_full_at}
@@ -33,7 +33,7 @@ full-alike : (unit : UnitConfig) (folded : ℕ) (past : List Deed) (actor : Acto
 full-alike unit folded past actor stamp act low below =
     let here : (max (stamp - 1) (last_stamp past) == 2 ^ 64 - 1) ≡ false = grind (arith, nat_tests, low, below) in
     let there : (max 0 (last_stamp past) == 2 ^ 64 - 1) ≡ false = grind (arith, nat_tests, low, below) in
-    ap (λ t. t || nat_lt unit.entries (length past - folded + reserved past + need past actor act) || (is_write act && nat_lt unit.payload (payload folded past + bytes_in act))) (here ∙ sym there)
+    ap (λ t. t || nat_lt unit.entries (length past - folded + kept_free past + need past actor act) || (is_write act && nat_lt unit.payload (payload folded past + bytes_in act))) (here ∙ sym there)
 
 -- the last stamp of a unit is that of its image
 pub last-shown : (s : UnitState) (h : List Entry) → Stands s h → s.image.last_stamp ≡ last_stamp (past_of s.config s.unit h)

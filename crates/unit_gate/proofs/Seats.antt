@@ -18,7 +18,7 @@ use Rattle.unit_gate.specs.Recorded.{RecordedState, StandsFor, kin_of, marks_of,
 use Rattle.unit_gate.specs.UnitActs as unit
 use Rattle.unit_gate.specs.UnitActs.{DidAct, NotDone}
 use Rattle.unit_gate.specs.inner.Keeping as keeping
-use Rattle.unit_gate.specs.SeatActs.{UnitSeat, HasActed, HasSeen, HasTaken, IsRefused, WasFolded, WasSaved, IsSaved, counted, faults_of, folded_of, late_of}
+use Rattle.unit_gate.specs.SeatActs.{UnitSeat, HasActed, HasSeen, HasTaken, HasWaited, IsRefused, WasFolded, WasSaved, IsSaved, counted, faults_of, folded_of, late_of}
 use Rattle.unit_gate.proofs.Standing.{all-folded, stands-history}
 
 -- ---- in the turn
@@ -246,6 +246,11 @@ taken before mid unit stands longer above is =
       marks = subst (λ m. AtMost before.marks m) (sym marks) above;
       seat = is ∙ ap (λ m. record before { seen = mid.seen; holds = true; marks = m }) (sym marks);
     }
+
+-- and so was one that the seat has waited for
+pub waited : (before mid : UnitSeat) (unit : RecordedState) → StandsFor unit mid.seen → IsPrefix before.seen mid.seen → AtMost before.marks (marks_of unit) → before.misses ≤ mid.misses
+    → mid ≡ record before { seen = mid.seen; holds = true; marks = marks_of unit; misses = mid.misses } → HasWaited (kin_of unit) before mid
+waited before mid unit stands longer above misses is = record { misses = misses; taken = taken (record before { misses = mid.misses }) mid unit stands longer above is }
 
 -- ---- facts of a result
 

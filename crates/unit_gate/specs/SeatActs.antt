@@ -113,6 +113,11 @@ pub record HasTaken (kin : UnitKin) (before after : UnitSeat) : Type 0 where
   pub marks : AtMost before.marks after.marks
   pub seat : after ≡ record before { seen = after.seen; holds = true; marks = after.marks }
 
+-- the seat has waited for the turn, which it may have found taken, and has taken it then
+pub record HasWaited (kin : UnitKin) (before after : UnitSeat) : Type 0 where
+  pub misses : before.misses ≤ after.misses
+  pub taken : HasTaken kin (record before { misses = after.misses }) after
+
 -- the seat has the turn of a unit of this kin
 pub record IsHeldBy (kin : Option UnitKin) (seat : UnitSeat) (unit : RecordedState) : Type 0 where
   pub holds : seat.holds ≡ true

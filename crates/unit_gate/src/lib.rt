@@ -11,7 +11,7 @@ mod resuming;
 mod seat_acts;
 
 pub use asked::{Acted, AskedAct};
-pub use holding::{hold, release};
+pub use holding::{hold, hold_waiting, release};
 pub use kin::{RecorderFacts, UnitKin};
 pub use recorded_unit::{ClosedUnit, RecordedUnit, UnitCount};
 pub use refused::TryRefused;

@@ -11,6 +11,7 @@ ghost use Rattle.turn_gate.specs.Marks.{AtMost};
 ghost use Rattle.unit_core.specs.UnitState.{Stands};
 ghost use Rattle.unit_core.specs.declared.folding.FoldEnd.{FoldEnd};
 ghost use Rattle.unit_gate.specs.Asking.{IsAtLastStamp, ends_one, is_full_at, past, serves_operation};
+ghost use Rattle.unit_gate.specs.Counting.{count_over};
 ghost use Rattle.unit_gate.specs.Recorded.{HasRecorded, StandsFor, facts, kin_of, marks_of, without_last};
 ghost use Rattle.unit_gate.specs.UnitActs.{DidAct, NotDone, WasFolded};
 ghost use Rattle.unit_gate.specs.inner.Keeping.{WasSaved};
@@ -73,7 +74,7 @@ impl<R: Recorder + Drop> Gated for RecordedUnit<R> {
     }
 }
 
-/// What is counted of a unit at the end, over its whole history.
+/// What is counted of a unit, over its whole history.
 #[derive(Debug, Drop, Clone, Copy, PartialEq, Eq)]
 pub struct UnitCount {
     /// How many entries its history has.
@@ -299,6 +300,17 @@ impl<R: Recorder + Drop> RecordedUnit<R> {
         self.unit.folded()
     }
 
+    /// What is counted of the unit, over each history for which it stands now. It takes no memory.
+    pub fn count(&self) -> UnitCount
+        ensures { (h : List Entry) → StandsFor self.now h → result ≡ count_over self.now.unit.config self.now.unit.unit h }
+    {
+        UnitCount {
+            steps: self.length(),
+            live: self.unit.live(),
+            mapped: self.unit.mapped(),
+        }
+    }
+
     /// What is left of the unit: the kept entries, the counts over each history for which it stands, and the recorder. It
     /// takes no memory.
     pub fn into_closed(self) -> ClosedUnit<R>
@@ -317,11 +329,7 @@ impl<R: Recorder + Drop> RecordedUnit<R> {
         ensures front { R.front result.recorder ≡ self.opening.front }
         ensures fits { FirstFits (R.fits result.recorder) result.history.entries }
     {
-        let count = UnitCount {
-            steps: self.length(),
-            live: self.unit.live(),
-            mapped: self.unit.mapped(),
-        };
+        let count = self.count();
         let RecordedUnit {
             unit,
             recorder,

@@ -12,9 +12,10 @@ use lba_ranges::BlockList;
 use nexus::{Pass, Store, World};
 use recorder::NoRecorder;
 use std::alloc::Global;
+use std::sync::Wait;
 use std::test::Fail;
 use std::thread::{Threads, join};
-use unit_gate::{ResumeRefused, TryRefused};
+use unit_gate::{ResumeRefused, TryRefused, UnitCount};
 
 /// A machine of two units of 100 blocks of 512 bytes.
 fn machine(alloc: Global) -> Result<Config, Fail>
@@ -217,9 +218,24 @@ fn beside_a_hold<R: Threads + Sync>(
     Ok(told)
 }
 
+/// What is counted of the second unit in a turn that the pass waits for.
+fn counted<R: Wait>(rt: &R, world: &World<NoRecorder>, pass: &mut Pass<NoRecorder>) -> UnitCount
+    requires second { 1 < length world.now.config.units }
+    requires pass { IsFreePass world.now 0 pass.old }
+    ensures { IsFreePass world.now 0 pass.new }
+{
+    let hold = world.hold_waiting(rt, pass, 1);
+    let count = hold.count(pass);
+    world.release(pass, hold);
+    count
+}
+
 /// What comes of a READ on the first unit and of a WRITE on the second while a pass holds the first one, of a READ on the
-/// first behind that, and how many entries the merged history has.
-fn held<R: Threads + Sync>(rt: &R, alloc: Global) -> Result<(Told, Told, Told, usize), Fail> {
+/// first behind that, what is counted of the second then, and how many entries the merged history has.
+fn held<R: Threads + Wait + Sync>(
+    rt: &R,
+    alloc: Global,
+) -> Result<(Told, Told, Told, UnitCount, usize), Fail> {
     let config = machine(alloc)?;
     let (world, mut root) = World::new(alloc, &config)?;
     let mut holder = world.pass(alloc, &mut root)?;
@@ -228,19 +244,26 @@ fn held<R: Threads + Sync>(rt: &R, alloc: Global) -> Result<(Told, Told, Told, u
     let (first, second, other) = beside_a_hold(rt, &world, &config, &mut holder, other, write)?;
     let mut other = other;
     let later = read(&world, &config, 1, &mut other, 0);
+    let count = counted(rt, &world, &mut holder);
     world.join(&mut root, holder);
     world.join(&mut root, other);
     match world.close(alloc, root) {
-        Ok(closed) => Ok((first, second, later, closed.merged.len())),
+        Ok(closed) => Ok((first, second, later, count, closed.merged.len())),
         Err(_) => Err("no memory for the merged history".into()),
     }
 }
 
-/// A pass that holds a unit keeps others out of that unit alone, until it gives the turn back.
+/// A pass that holds a unit keeps others out of that unit alone, until it gives the turn back; in a turn that it waits for it
+/// counts what the unit has then.
 #[test]
 fn a_held_unit_keeps_others_out(rt: HostRuntime) -> Result<(), Fail> {
     let found = held(&rt, rt.alloc())?;
-    assert_eq!(rt; found, (Told::Held, Told::Done, Told::Done, 2));
+    let count = UnitCount {
+        steps: 1,
+        live: 0,
+        mapped: 1,
+    };
+    assert_eq!(rt; found, (Told::Held, Told::Done, Told::Done, count, 2));
     Ok(())
 }
 

@@ -4,7 +4,7 @@ use Rattle.atomic_table.specs.Seated.{TableId}
 use Rattle.cm_base.specs.Configuration.{Configuration}
 use Rattle.cm_history.specs.declared.act.Entry.{Entry}
 use Rattle.cm_history.specs.Members.{Each}
-use Rattle.pass_register.specs.Passes.{RootState}
+use Rattle.merged_history.specs.Seats.{RootState}
 use Rattle.turn_gate.specs.inner.Seats.{first_seat}
 use Rattle.unit_core.specs.UnitState.{UnitState, Stands}
 use Rattle.unit_gate.specs.Opening.{opening_entries}

@@ -9,8 +9,8 @@ use Rattle.cm_history.specs.Members.{Each}
 use Rattle.merged_history.specs.Merged.{merged}
 use Rattle.merged_history.specs.Own.{Rises, IsAsked}
 use Rattle.merged_history.specs.PassRules.{IsPass, IsRoot}
-use Rattle.pass_register.specs.declared.known.Ticket.{Ticket}
-use Rattle.pass_register.specs.Passes.{Joined, RootState, PassState, own_of}
+use Rattle.merged_history.specs.declared.known.Ticket.{Ticket}
+use Rattle.merged_history.specs.Seats.{Joined, RootState, PassState, own_of}
 use Rattle.recorder.specs.Recording.{Rose}
 use Rattle.turn_gate.specs.declared.view.Own.{Own}
 use Rattle.turn_gate.specs.declared.view.Joined.{Joined as JoinedSeat}

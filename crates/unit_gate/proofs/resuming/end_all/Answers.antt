@@ -1,4 +1,4 @@
-use Rattle.std.proofs.Common.{◌≡◌, ◌-◌, ◌^◌, sym, ◌∙◌, arith}
+use Rattle.std.proofs.Common.{◌≡◌, ◌-◌, ◌^◌, arith}
 use Rattle.unit_gate.proofs.Ending.{ended-one, ended-full, ended-all}
 use Rattle.unit_gate.proofs.resuming.end_all.Goals as goal
 

@@ -1,4 +1,4 @@
-use Rattle.std.proofs.Common.{◌≡◌, ◌≤◌, length, ap, sym, ◌∙◌, arith, Some}
+use Rattle.std.proofs.Common.{◌≤◌, length, ap, sym, ◌∙◌, arith, Some}
 use Rattle.std.proofs.lemmas.Result.{err_from_is_err_and}
 use Rattle.unit_gate.specs.declared.resuming.ResumeRefused.{ResumeRefused}
 use Rattle.unit_gate.proofs.Replaying.{its-unit, its-limits, its-asker, its-stamp, replayed-one, replayed-all, found-bad}

@@ -17,7 +17,7 @@ pub returns-clause-stands : goal.returns-clause-stands
 returns-clause-stands c =
     let early : has_late_number c.args.entry.actor ≡ false = sym c.has_late_number.ensures ∙ c.if-has_late_number.false in
     let below : c.args.entry.stamp < 2 ^ 64 = omega arith in
-    λ h is. c.drop_kept.ensures.stands _ (stands-again c.args.told.now c.args.entry c.requires.unit c.requires.none c.requires.above below early c.act.new.self c.in-Ok.ensures.stands h is)
+    λ h is. c.drop_kept.ensures.stands _ (stands-again c.args.told.now c.args.entry c.requires.unit c.requires.none c.requires.above below early c.act-2.new.self c.in-Ok.ensures.stands h is)
 
 pub returns-clause-good : goal.returns-clause-good
 returns-clause-good c =

@@ -1,7 +1,7 @@
 use Rattle.std.proofs.Common.{◌≡◌, ◌≤◌, length, map, ap, sym, subst, arith, add-one, ◌∙◌, vec_capacity}
 use Rattle.std.proofs.lemmas.List.{length-map}
 use Rattle.std.specs.Vec.Iter.{into_iter_items}
-use Rattle.pass_register.specs.Passes.{RootState}
+use Rattle.merged_history.specs.Seats.{RootState}
 use Rattle.nexus.specs.inner.Building.{BegunState, IsBegunWith}
 use Rattle.nexus.specs.inner.Gates.{config_of}
 use Rattle.nexus.specs.inner.Keeping.{KeepsRoot, gates_of, root_view}

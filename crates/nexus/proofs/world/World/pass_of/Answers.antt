@@ -1,6 +1,6 @@
 use Rattle.std.proofs.Common.{◌≡◌, ap, sym, ◌∙◌, subst, length, ◌++◌, ◌∷◌, []}
 use Rattle.merged_history.specs.PassRules.{MayPass, made_after}
-use Rattle.pass_register.specs.Passes.{PassState, RootState, own_of, ticket_of}
+use Rattle.merged_history.specs.Seats.{PassState, RootState, own_of, ticket_of}
 use Rattle.nexus.specs.Worlds.{WorldView}
 use Rattle.nexus.specs.inner.Gates.{config_of}
 use Rattle.nexus.specs.Roots.{RootView, WasMade}

@@ -2,7 +2,7 @@ use Rattle.std.proofs.Common.{◌<◌, ◌≡◌, ◌+◌, ap, sym, ◌∙◌, l
 use Rattle.std.specs.Prelude.{slice_index}
 use Rattle.cm_base.specs.Configuration.{Configuration}
 use Rattle.cm_history.specs.declared.act.Actor.TheVariants.{Pump}
-use Rattle.pass_register.specs.Passes.{own_of}
+use Rattle.merged_history.specs.Seats.{own_of}
 use Rattle.nexus.specs.Roots.{RootView, WasMade}
 use Rattle.nexus.proofs.Keeping.{made-more, on-ok}
 use Rattle.nexus.proofs.Places.{index-here}
