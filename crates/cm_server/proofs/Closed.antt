@@ -24,7 +24,7 @@ use Rattle.merged_history.specs.Passes.{of_unit}
 use Rattle.merged_history.specs.Resumed.{IsNewTo, IsOrdered, IsResumed}
 use Rattle.nexus.specs.Roots.{RootView, AreAtMost}
 use Rattle.nexus.specs.Worlds.{WorldView, PassView}
-use Rattle.pass_register.specs.Passes.{own_of}
+use Rattle.merged_history.specs.Seats.{own_of}
 
 -- ---- lists
 

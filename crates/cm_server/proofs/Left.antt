@@ -32,7 +32,7 @@ use Rattle.nexus.specs.Closing.{WasEnded}
 use Rattle.nexus.specs.Opening.{IsBegun, kins_from, no_recorder}
 use Rattle.nexus.specs.Roots.{RootView}
 use Rattle.nexus.specs.Worlds.{WorldView}
-use Rattle.pass_register.specs.declared.known.Ticket.{Ticket}
+use Rattle.merged_history.specs.declared.known.Ticket.{Ticket}
 use Rattle.session.specs.declared.end.SessionEnd.{SessionEnd}
 use Rattle.unit_gate.specs.declared.kin.RecorderFacts.{RecorderFacts}
 use Rattle.unit_gate.specs.declared.recorded_unit.ClosedUnit.{ClosedUnit}

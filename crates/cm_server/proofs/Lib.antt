@@ -44,3 +44,4 @@ pub mod StoredWorld
 pub mod Ended
 pub mod Back
 pub mod Moving
+pub mod Holding

@@ -25,7 +25,7 @@ use Rattle.merged_history.specs.PassRules.{AreLonger, AreSeen}
 use Rattle.merged_history.specs.Passes.{of_unit}
 use Rattle.nexus.specs.Roots.{RootView}
 use Rattle.nexus.specs.Worlds.{WorldView, PassView}
-use Rattle.pass_register.specs.declared.known.Ticket.{Ticket}
+use Rattle.merged_history.specs.declared.known.Ticket.{Ticket}
 
 -- ---- lists
 

@@ -8,7 +8,7 @@ use Rattle.cm_server.proofs.Passing.{known-then}
 use Rattle.cm_server.proofs.Settling.{SettledSoFar}
 use Rattle.nexus.specs.Roots.{RootView, WasMade, WasTaken}
 use Rattle.nexus.specs.Worlds.{PassView, WorldView}
-use Rattle.pass_register.specs.declared.known.Ticket.{Ticket}
+use Rattle.merged_history.specs.declared.known.Ticket.{Ticket}
 
 -- as many passes were joined as were made
 pub moved-joined : (world : WorldView) (before after : RootView) (made : ℕ) (passes : List PassView) → IsReady world after → HasJoined before after made passes → length passes ≡ made

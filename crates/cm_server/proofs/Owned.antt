@@ -15,7 +15,7 @@ use Rattle.cm_server.proofs.Makers.{session-actor, last-of}
 use Rattle.cm_server.proofs.Times.{In-nexus, times-later, times-more, times-once, times-other}
 use Rattle.nexus.specs.Roots.{RootView, AreAtMost}
 use Rattle.nexus.specs.Worlds.{WorldView, PassView}
-use Rattle.pass_register.specs.Passes.{own_of}
+use Rattle.merged_history.specs.Seats.{own_of}
 
 -- The entries of the nexus in the history are its pass's own, what the pass saw of each unit begins the unit's entries, and
 -- its marks are not above those at the end.

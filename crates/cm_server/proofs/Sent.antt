@@ -6,7 +6,6 @@ use denote.Struct.Declared.{shape}
 use denote.Struct.Field as field
 use denote.Struct.Tuple as tuple
 use Rattle.std.proofs.Common.{ℕ, List, [], ◌∷◌}
-use Rattle.std.proofs.Crossing.{Vec-sync}
 use Rattle.std.proofs.alloc.Global.TheSendSync as heap
 use Rattle.cm_base.proofs.config.Config.TheSendSync as config
 use Rattle.cm_base.specs.declared.clock.Clock as clock
@@ -28,9 +27,11 @@ ended_send K R g k r = recorded_send (Ended.the_field K R g).row _ _ (Ended.the_
 
 pub shared_sync : (ℓ : NamedLft) (R C G W : RattleType) (t : clock.Ghosts C.Denot) (h : meet.Ghosts G.Denot) (g : recorder.Ghosts R.Denot) → IsSend R → IsSync C → IsSync G → IsSync W
     → IsSync (Shared.the_row ℓ R C G W t h g)
-shared_sync ℓ R C G W t h g r c m w = recorded_sync (Shared.the_field ℓ R C G W t h g).row _ _ (Shared.the_type ℓ R C G W t h g).to_one
+shared_sync ℓ R C G W t h g r c m w =
+    let b = bell.the_sync in
+    recorded_sync (Shared.the_field ℓ R C G W t h g).row _ _ (Shared.the_type ℓ R C G W t h g).to_one
     (struct_sync (shape (Shared.the_type ℓ R C G W t h g))
-    (search (sendable, w), (heap.the_field_sync, (config.the_sync, (world-shared R g r, (Vec-sync _ bell.the_sync, (search (sendable, board.the_sync), (term.the_field_sync, (c, (search (sendable, m), tt))))))))))
+    (search (sendable, w), (heap.the_field_sync, (config.the_sync, (world-shared R g r, (search (sendable, b) depth 20, (search (sendable, board.the_sync), (term.the_field_sync, (c, (search (sendable, m), tt))))))))))
 
 -- ---- what threads are given
 

@@ -17,7 +17,7 @@ use crate::asking::words::ask_to_manage;
 use crate::served::tell;
 use crate::serving::{Manner, serve_world};
 use crate::sessions::board::Board;
-use crate::sessions::meet::NoMeet;
+use crate::sessions::meet::Meet;
 use crate::status::Status;
 use crate::term::Term;
 use cm_base::{Clock, Config, Listener, OutOfMemory, Sink, Word};
@@ -55,28 +55,43 @@ impl Recorder for Forgetting {
     }
 }
 
-/// How a manager is asked to end (own profile).
+/// What a manager is asked while it runs (own profile).
 #[derive(Drop)]
-pub struct EndRequest {
+pub struct Requests {
     board: Board,
 }
 
-impl EndRequest {
-    /// It is not asked for.
-    pub fn new() -> EndRequest {
-        EndRequest {
+impl Requests {
+    /// Nothing is asked.
+    pub fn new() -> Requests {
+        Requests {
             board: Board::new(),
         }
     }
 
-    /// Asks for it: no more connections are accepted, and the manager ends when those that are open have. A manager that
+    /// Asks for the end: no more connections are accepted, and the manager ends when those that are open have. A manager that
     /// waits for a place sees it at once, and one that waits for a connection when its accept has failed.
-    pub fn ask<W: Wait>(&self, rt: &W) {
+    pub fn ask_for_end<W: Wait>(&self, rt: &W) {
         self.board.end(rt);
     }
 
-    /// Whether it was asked for.
-    pub fn is_asked<W: Wait>(&self, rt: &W) -> bool {
+    /// Asks for the counts of all units. Whoever watches is told those of each in a turn of its own, or that there are none.
+    pub fn ask_for_counts<W: Wait>(&self, rt: &W) {
+        self.board.ask_for_counts(rt);
+    }
+
+    /// How many sessions of the manager have ended.
+    pub fn ended<W: Wait>(&self, rt: &W) -> u64 {
+        self.board.ended(rt)
+    }
+
+    /// Waits until another number of sessions have ended than this, or the end is asked for.
+    pub fn wait_for_another<W: Wait>(&self, rt: &W, ended: u64) {
+        self.board.wait_for_another(rt, ended);
+    }
+
+    /// Whether the end was asked for.
+    pub fn is_end_asked<W: Wait>(&self, rt: &W) -> bool {
         self.board.ends(rt)
     }
 }
@@ -93,14 +108,21 @@ fn recorders(alloc: Global, count: u16) -> Result<Vec<Forgetting>, OutOfMemory>
 }
 
 /// Serves connections of a new world of this configuration, whose units forget, and tells of it.
-fn manage_world<L: Listener, C: Clock + Drop + Sync, O: Sink, W: Threads + Wait + Sync>(
+fn manage_world<
+    L: Listener,
+    C: Clock + Drop + Sync,
+    O: Sink,
+    G: Meet + Sync,
+    W: Threads + Wait + Sync,
+>(
     rt: &W,
     alloc: Global,
     config: Config,
     listener: &mut L,
     clock: C,
     output: &mut O,
-    request: &EndRequest,
+    requests: &Requests,
+    meet: &G,
 ) -> Status
     ensures served { IfUnserved result ⊥ }
     ensures unpushed { IfUnreported result (output.new ≡ output.old) }
@@ -120,7 +142,7 @@ fn manage_world<L: Listener, C: Clock + Drop + Sync, O: Sink, W: Threads + Wait 
     let manner = Manner {
         term: Term::Open,
         goes_on: false,
-        board: &request.board,
+        board: &requests.board,
     };
     let left = serve_world(
         rt,
@@ -131,18 +153,24 @@ fn manage_world<L: Listener, C: Clock + Drop + Sync, O: Sink, W: Threads + Wait 
         MOST_MANAGED,
         listener,
         clock,
-        &NoMeet,
+        meet,
         manner,
     );
     tell(alloc, &left, None, output)
 }
 
-/// Serves as [`serve`] does where the words are `manage ADDRESS FILE`, until `request` is made, or 4,294,967,038
+/// Serves as [`serve`] does where the words are `manage ADDRESS FILE`, until `requests` asks for the end, or 4,294,967,038
 /// connections have come: one after the other, at most 256 at a time. A link is given back when its session has ended. Units
 /// forget: `TASK SET FULL` comes only where a record has no room though all entries before were given up.
 ///
 /// [`serve`]: crate::serve
-pub fn manage<L: Listener, C: Clock + Drop + Sync, O: Sink, W: Threads + Wait + Sync>(
+pub fn manage<
+    L: Listener,
+    C: Clock + Drop + Sync,
+    O: Sink,
+    G: Meet + Sync,
+    W: Threads + Wait + Sync,
+>(
     rt: &W,
     alloc: Global,
     words: &[Word],
@@ -150,7 +178,8 @@ pub fn manage<L: Listener, C: Clock + Drop + Sync, O: Sink, W: Threads + Wait + 
     listener: &mut L,
     clock: C,
     output: &mut O,
-    request: &EndRequest,
+    requests: &Requests,
+    meet: &G,
 ) -> Status
     ensures usage { result ≡ Status.Usage → AreManageWords words.now → ⊥ }
     ensures asked { (AreManageWords words.now → ⊥) → result ≡ Status.Usage }
@@ -173,5 +202,5 @@ pub fn manage<L: Listener, C: Clock + Drop + Sync, O: Sink, W: Threads + Wait + 
         Ok(config) => config,
         Err(fault) => return Status::from(fault),
     };
-    manage_world(rt, alloc, config, listener, clock, output, request)
+    manage_world(rt, alloc, config, listener, clock, output, requests, meet)
 }

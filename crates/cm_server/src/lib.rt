@@ -18,8 +18,9 @@ mod stored;
 mod storing;
 mod term;
 
-pub use forgetting::{EndRequest, manage};
+pub use forgetting::{Requests, manage};
 pub use laws::{served_laws, served_writes_law};
+pub use report::text::{push_line, push_unit};
 pub use served::{RecorderList, Served, serve, serve_at, serve_with};
 pub use sessions::meet::{Meet, NoMeet};
 pub use status::Status;

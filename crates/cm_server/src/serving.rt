@@ -29,7 +29,7 @@ use nexus::{Root, World};
 use recorder::Recorder;
 use std::alloc::Global;
 use std::collections::VecDeque;
-use std::sync::Wait;
+use std::sync::{Arc, Wait};
 use std::thread::{self, Scope, Threads};
 use unit_gate::ClosedUnit;
 
@@ -246,6 +246,20 @@ fn bells(alloc: Global, count: u16, rung: bool) -> Result<Vec<Bell>, OutOfMemory
     Ok(bells)
 }
 
+/// The bells of all units, which hang at the board too.
+fn hung_bells<W: Wait>(
+    rt: &W,
+    alloc: Global,
+    count: u16,
+    manner: Manner<'_>,
+) -> Result<Arc<Vec<Bell>, Global>, OutOfMemory>
+    ensures { IfOk result (λ bells. length bells.value.items ≡ count) }
+{
+    let bells = Arc::new(alloc, bells(alloc, count, manner.goes_on)?)?;
+    manner.board.hang(rt, bells.clone()?);
+    Ok(bells)
+}
+
 /// Ends what runs in the background, unless memory was wanted before, and tells how serving ends then.
 fn settle<R: Recorder + Drop, C: Clock + Drop, G: Meet, W: Wait>(
     shared: &Shared<'_, R, C, G, W>,
@@ -313,7 +327,7 @@ pub(crate) fn serve_world<
     ensures links { L.out listener.new ≡ L.out listener.old }
 {
     let mut root = root;
-    let Ok(bells) = bells(alloc, config.units(), manner.goes_on) else {
+    let Ok(bells) = hung_bells(rt, alloc, config.units(), manner) else {
         return Left {
             ran: Ran::wanted(),
             units: world.end(root),
@@ -324,7 +338,7 @@ pub(crate) fn serve_world<
         alloc,
         config,
         world,
-        bells,
+        bells: &bells,
         board: manner.board,
         term: manner.term,
         clock,

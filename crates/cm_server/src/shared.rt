@@ -19,14 +19,14 @@ pub(crate) struct Shared<'a, R: Recorder + Drop, C: Clock + Drop, G: Meet, W: Wa
     pub(crate) config: Config,
     pub(crate) world: World<R>,
     /// One of each unit's pump.
-    pub(crate) bells: Vec<Bell>,
+    pub(crate) bells: &'a [Bell],
     /// Where sessions say that they have ended.
     pub(crate) board: &'a Board,
     pub(crate) term: Term,
     pub(crate) clock: C,
     pub(crate) meet: &'a G,
     ghost same: { world.config ≡ config },
-    ghost one_each: { length bells.items ≡ length config.units },
+    ghost one_each: { length bells.now ≡ length config.units },
 }
 
 impl<R: Recorder + Drop, C: Clock + Drop, G: Meet, W: Wait> Shared<'_, R, C, G, W> {
@@ -38,5 +38,18 @@ impl<R: Recorder + Drop, C: Clock + Drop, G: Meet, W: Wait> Shared<'_, R, C, G, 
             Term::Counted => false,
             Term::Open => self.board.ends(self.rt),
         }
+    }
+
+    /// Waits for what the end of a session gives back, where one is open of so many that were begun, `ended` of which had
+    /// ended: whether it waited. Nobody waits where as many connections are served as were asked for, or no more are wanted.
+    pub(crate) fn waits(&self, begun: u32, ended: u64) -> bool {
+        if let Term::Counted = self.term {
+            return false;
+        }
+        if ended >= u64::from(begun) || self.board.ends(self.rt) {
+            return false;
+        }
+        self.board.wait_for_another(self.rt, ended);
+        true
     }
 }

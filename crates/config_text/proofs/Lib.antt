@@ -1,2 +1,3 @@
 mod Counted
 mod Found
+pub mod PublicLaws

@@ -12,7 +12,7 @@ use Rattle.cm_base.specs.declared.config.UnitConfig.{UnitConfig}
 use Rattle.scsi_sense.specs.SenseCode.{SenseCode}
 use Rattle.scsi_sense.specs.Codes.{operation_in_progress, lba_out_of_range, insufficient_resources}
 use Rattle.copy_status.specs.declared.operation.OperationStatus.{OperationStatus}
-use Rattle.copy_status.specs.CopyStatus.{CopyStatus, IsStatus, told}
+use Rattle.copy_status.specs.CopyStatus.{CopyStatus, IsStatus, told_status}
 use Rattle.copy_status.specs.StatusBytes.{information_bytes, IsTokenOf}
 use Rattle.rod_token.specs.TokenText.{words, token_text}
 use Rattle.rand_chacha.specs.ChaCha.{key_of}
@@ -43,7 +43,7 @@ abbrev key-small : OperationStatus → Type 0
 key-small (OperationStatus.Failed sense) = sense.key ≤ 15
 key-small _ = Unit {0}
 
-told-is : (populate : Bool) (s : OperationStatus) (count : ℕ) → key-small s → count ≤ 1_048_576 → IsStatus (told populate s count)
+told-is : (populate : Bool) (s : OperationStatus) (count : ℕ) → key-small s → count ≤ 1_048_576 → IsStatus (told_status populate s count)
 told-is populate OperationStatus.Completed count k low = record { code = refl; running = refl; sense = refl; key = tt; count = low }
 told-is populate (OperationStatus.Failed sense) count k low = record { code = refl; running = refl; sense = refl; key = k; count = low }
 told-is populate OperationStatus.Foreground count k low = record { code = refl; running = refl; sense = refl; key = tt; count = low }
@@ -69,7 +69,7 @@ pub record IsPlain (r : OpReport) : Type 0 where
 status-plain : (r : OpReport) → IsPlain r → IsStatus (status_of r)
 status-plain r is = go (operation_status r.background r.state) is.sense
   where
-    go : (s : OperationStatus) → IfSome (told r.populate s r.count).sense (λ x. x.key ≤ 15) → IsStatus (told r.populate s r.count)
+    go : (s : OperationStatus) → IfSome (told_status r.populate s r.count).sense (λ x. x.key ≤ 15) → IsStatus (told_status r.populate s r.count)
     go OperationStatus.Completed k = told-is r.populate OperationStatus.Completed r.count tt is.count
     go (OperationStatus.Failed sense) k = told-is r.populate (OperationStatus.Failed sense) r.count k is.count
     go OperationStatus.Foreground k = told-is r.populate OperationStatus.Foreground r.count tt is.count

@@ -17,7 +17,7 @@ use Rattle.cm_history.specs.History.{answer}
 use Rattle.cm_history.specs.Operations.{is_making}
 use Rattle.cm_history.proofs.PublicLaws.{Each, Each-append}
 use Rattle.cmd_program.specs.Program.{done, refused, ask_then, unless_refused}
-use Rattle.cmd_program.specs.TokenWrite.{TokenWrite, wanted, delete_by, deleting, started, starting, rod_part, redeemed, write_by}
+use Rattle.cmd_program.specs.TokenWrite.{TokenWrite, wanted, delete_by, deleting, started, starting, rod_part, after_redeem, write_by}
 use Rattle.odx_host.proofs.Kept.{IsQuiet}
 use Rattle.odx_host.proofs.Ran.{RanIn, not-refused, never-refused, never-busy}
 use Rattle.odx_host.proofs.Leaving.{Leaves, others-quiet, split-at}
@@ -107,7 +107,7 @@ record HasRod (config : Configuration) (nexus : ℕ) (w : TokenWrite) (all after
   pub few : w.list.offset + wanted w ≤ length rod.items
   pub ran : RanIn config nexus (starting w (rod_part w rod)) all after bytes
 
-has-rod : (config : Configuration) (nexus : ℕ) (w : TokenWrite) (all after : List Entry) (bytes : List ℕ) (told : Answer) → RanIn config nexus (redeemed w told) all after bytes
+has-rod : (config : Configuration) (nexus : ℕ) (w : TokenWrite) (all after : List Entry) (bytes : List ℕ) (told : Answer) → RanIn config nexus (after_redeem w told) all after bytes
     → HasRod config nexus w all after bytes told
 has-rod config nexus w all after bytes (Answer.Rod rod) ran = go (nat_lt (length rod.items) (w.list.offset + wanted w)) refl ran
   where
@@ -124,7 +124,7 @@ pub write-begun : (config : Configuration) (nexus n : ℕ) (w : TokenWrite) (sou
 write-begun config nexus n w source serial all before bytes low immed names was =
     go (is_configured config source) (subst (λ k. RanIn config nexus (write_by config w k) all before bytes) names was)
   where
-    found : RanIn config nexus (ask_then source (Act.Redeem w.list.token w.unit) (redeemed w)) all before bytes → Begun config nexus n all before source serial w
+    found : RanIn config nexus (ask_then source (Act.Redeem w.list.token w.unit) (after_redeem w)) all before bytes → Begun config nexus n all before source serial w
     found ran =
         let others = ran.0 in
         let r = ran.1 in
@@ -150,7 +150,7 @@ write-begun config nexus n w source serial all before bytes low immed names was 
           start = start;
         }
 
-    go : (t : Bool) → RanIn config nexus (cond t (ask_then source (Act.Redeem w.list.token w.unit) (redeemed w)) (refused token_unknown)) all before bytes
+    go : (t : Bool) → RanIn config nexus (cond t (ask_then source (Act.Redeem w.list.token w.unit) (after_redeem w)) (refused token_unknown)) all before bytes
         → Begun config nexus n all before source serial w
     go true ran = found ran
     go false ran = absurd (never-refused config nexus token_unknown all before bytes ran)

@@ -27,7 +27,7 @@ use Rattle.unit_core.specs.UnitState.{UnitState}
 use Rattle.unit_core.specs.Acting as whole
 use Rattle.unit_core.specs.Unfolded.{IsUnfolded, UnfoldedUnit, unfolded, past, is_full_at}
 use Rattle.unit_core.proofs.PublicLaws.{unfolded-entry, unfolded-full, unfolded-grown}
-use Rattle.unit_runs.proofs.PublicLaws.{set-same, shown-at, shown-set}
+use Rattle.session.proofs.PublicLaws.{set-same, shown-at, shown-set}
 use Rattle.odx_host.specs.Worlds.{MayFold}
 use Rattle.odx_host.specs.Units.{host, UnitsAt, seq, AreAfter}
 use Rattle.odx_host.specs.inner.Acting.{call, Stand, HasGoneOn}

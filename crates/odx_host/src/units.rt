@@ -29,7 +29,7 @@ pub(crate) struct Units {
 impl Model for Units {
     ghost use Rattle.std.specs.Prelude.{map};
     ghost use Rattle.unit_core.specs.Unfolded.{unfolded};
-    ghost use Rattle.unit_runs.specs.Keeping.{KeepAll};
+    ghost use Rattle.session.specs.Keeping.{KeepAll};
     ghost use Rattle.odx_host.specs.Units.{UnitsAt};
 
     ghost Value = { UnitsAt };

@@ -4,3 +4,5 @@ pub mod Hearing
 pub mod Turning
 pub mod Running
 pub mod Talking
+pub mod Leading
+pub mod PublicLaws

@@ -4,7 +4,9 @@
 mod connection;
 mod driver;
 mod end;
+mod runs;
 mod talks;
 
 pub use connection::session;
 pub use end::{SessionEnd, SessionFault};
+pub use runs::UnitRuns;

@@ -17,7 +17,7 @@ use Rattle.cmd_machine.specs.declared.command.CommandOf.{CommandOf}
 use Rattle.cmd_machine.specs.Rest.{StandsFor}
 use Rattle.any_cmds.specs.declared.phase.AnyPhase.{AnyPhase}
 use Rattle.any_cmds.specs.Meaning.{by_any}
-use Rattle.trace_replay.specs.ReplayState.{Pending, ReplayState, AddressedReply, Nowhere, is_of, waiting, without, entries_after, outcome_of, next_step, goes_on, gone_on, acted, noted_act, did, ran, next, fits}
+use Rattle.trace_replay.specs.ReplayState.{Pending, ReplayState, AddressedReply, Nowhere, is_of, waiting, without, entries_after, outcome_of, next_step, goes_on, gone_on, acted, noted_act, did, ran, after_item, item_fits}
 use Rattle.trace_replay.specs.Played.{addressed_bytes, output_of}
 use Rattle.trace_check.specs.declared.machine.Waiting.{Waiting}
 use Rattle.trace_check.specs.declared.machine.Machine.{Machine}
@@ -163,7 +163,7 @@ none-waiting config s m i is = waits-alike config (get nat_cmp m.waiting i) (wai
 -- a pump worked once
 pub pumped : (config : Configuration) (s : ReplayState) (m m' : Machine) (unit moment : ℕ) → IsStanding config s m → m'.units.config ≡ m.units.config
     → m'.units.entries ≡ entries_after m.units.config m.units.entries (Actor.Pump unit) unit moment Act.Pump → m'.waiting ≡ m.waiting → m'.replies ≡ m.replies
-    → IsStanding config (next step config s (TraceItem.Pump unit moment) Nowhere) m'
+    → IsStanding config (after_item step config s (TraceItem.Pump unit moment) Nowhere) m'
 pumped config s m m' unit moment is told entries waits replies = record {
   done = record {
     told = told ∙ is.done.told;
@@ -230,10 +230,10 @@ module _ (config : Configuration) (s : ReplayState) (m : Machine) (i moment : �
           ∙ ap (λ es. outcome_of config es (Actor.Nexus i) w.unit moment w.act) is.done.entries
           ∙ ap (λ k. outcome_of config s.entries (Actor.Nexus k) w.unit moment w.act) (sym mine)
 
-  pub ran-on : (m' : Machine) → IsStanding config (gone_on step config after-act after-note) m' → IsStanding config (next step config s (TraceItem.Run i moment) Nowhere) m'
+  pub ran-on : (m' : Machine) → IsStanding config (gone_on step config after-act after-note) m' → IsStanding config (after_item step config s (TraceItem.Run i moment) Nowhere) m'
   ran-on m' stands = subst (λ t. IsStanding config t m') (sym same) stands
     where
-      same : next step config s (TraceItem.Run i moment) Nowhere ≡ gone_on step config after-act after-note
+      same : after_item step config s (TraceItem.Run i moment) Nowhere ≡ gone_on step config after-act after-note
       same =
           ap (ran step config (record s { items = s.items + 1 }) moment Nowhere) its.there
           ∙ ap (did step config (record s { items = s.items + 1 }) moment its.p Nowhere) its.is.asks

@@ -8,11 +8,11 @@ use Rattle.cm_base.specs.declared.parsed.Parsed.TheVariants.{Whole, Short, Bad}
 use Rattle.cm_frame.specs.declared.item.TraceItem.{TraceItem}
 use Rattle.cm_frame.specs.Laws.{IsJudged}
 use Rattle.cm_frame.specs.Grammar.{header_text}
-use Rattle.cm_frame.specs.Reading.{read_item, read_header, first_fault, unit_checks, or_later, units_fault, units_told, judged_units}
+use Rattle.cm_frame.specs.Reading.{read_item, read_header, first_broken, unit_checks, or_later, units_fault, units_told, judged_units}
 use Rattle.cmd_program.specs.Judging.{step}
 use Rattle.trace_replay.specs.Items.{Done, Torn, BadRecord, Records, Trace, with_item, led_by, trace_of}
 use Rattle.trace_replay.specs.declared.fault.ReplayFault.{ReplayFault}
-use Rattle.trace_replay.specs.ReplayState.{ReplayState, Nowhere, at_first, next, fits}
+use Rattle.trace_replay.specs.ReplayState.{ReplayState, Nowhere, at_first, after_item, item_fits}
 use Rattle.trace_replay.specs.Played.{Played, play, played_from, output_of, shortage_for, shortages_behind}
 use Rattle.trace_check.specs.declared.machine.Machine.{Machine}
 use Rattle.trace_check.specs.CheckedTrace.{checked_trace, checked_after, checked_items}
@@ -39,17 +39,17 @@ trace-step n place [] item used e = absurd (subst IsJudged (sym e) tt)
 trace-step n place (b ∷ bs) item used e = ap (λ p. led_by place p (λ u. trace_of n (place + u) (drop u (b ∷ bs)))) e
 
 pub play-on : (config : Configuration) (s : ReplayState) (n place : ℕ) (bytes : List ℕ) (item : TraceItem) (used : ℕ)
-    → read_item bytes ≡ Whole item used → fits config s item ≡ true
-    → played_from step config s (suc n) place bytes [] ≡ played_from step config (next step config s item Nowhere) n (place + used) (drop used bytes) []
+    → read_item bytes ≡ Whole item used → item_fits config s item ≡ true
+    → played_from step config s (suc n) place bytes [] ≡ played_from step config (after_item step config s item Nowhere) n (place + used) (drop used bytes) []
 play-on config s n place bytes item used e fit =
     ap (λ (t : Trace). play step config s t.items t.ending []) (trace-step n place bytes item used e) ∙ rw fit refl
-    ∙ ap (λ m. played_from step config (next step config s item m) n (place + used) (drop used bytes) (shortages_behind item [])) (none-at item)
-    ∙ ap (played_from step config (next step config s item Nowhere) n (place + used) (drop used bytes)) (none-behind item)
+    ∙ ap (λ m. played_from step config (after_item step config s item m) n (place + used) (drop used bytes) (shortages_behind item [])) (none-at item)
+    ∙ ap (played_from step config (after_item step config s item Nowhere) n (place + used) (drop used bytes)) (none-behind item)
 
 -- ---- where it ends
 
 pub play-unfit : (config : Configuration) (s : ReplayState) (n place : ℕ) (bytes : List ℕ) (item : TraceItem) (used : ℕ)
-    → read_item bytes ≡ Whole item used → fits config s item ≡ false
+    → read_item bytes ≡ Whole item used → item_fits config s item ≡ false
     → played_from step config s (suc n) place bytes [] ≡ record { state = s; ending = BadRecord place }
 play-unfit config s n place bytes item used e unfit =
     ap (λ (t : Trace). play step config s t.items t.ending []) (trace-step n place bytes item used e) ∙ rw unfit refl
@@ -78,16 +78,16 @@ play-records config s place b bs = refl
 module _ (whole : Played) (n place : ℕ) (bytes : List ℕ) (m : Machine) where
   -- an item was played
   pub at-next : (at : IsAt whole (suc n) place bytes m) (item : TraceItem) (used : ℕ) (m' : Machine) → read_item bytes ≡ Whole item used
-      → fits at.config at.s item ≡ true → IsStanding at.config (next step at.config at.s item Nowhere) m' → IsAt whole n (place + used) (drop used bytes) m'
+      → item_fits at.config at.s item ≡ true → IsStanding at.config (after_item step at.config at.s item Nowhere) m' → IsAt whole n (place + used) (drop used bytes) m'
   at-next at item used m' e fit is = record {
     config = at.config;
-    s = next step at.config at.s item Nowhere;
+    s = after_item step at.config at.s item Nowhere;
     is = is;
     plays = sym (play-on at.config at.s n place bytes item used e fit) ∙ at.plays;
   }
 
   pub at-unfit : (at : IsAt whole (suc n) place bytes m) (item : TraceItem) (used : ℕ) → read_item bytes ≡ Whole item used
-      → fits at.config at.s item ≡ false → EndsBy whole (ReplayFault.BadRecord (8 + place))
+      → item_fits at.config at.s item ≡ false → EndsBy whole (ReplayFault.BadRecord (8 + place))
   at-unfit at item used e unfit = λ end. ap (λ (p : Played). by_ending p.ending end) (sym at.plays ∙ play-unfit at.config at.s n place bytes item used e unfit)
 
   pub at-bad : (fault : ℕ) → IsAt whole (suc n) place bytes m → read_item bytes ≡ Bad fault → EndsBy whole (ReplayFault.BadRecord (8 + place))
@@ -141,23 +141,23 @@ abbrev AllLow : ℕ → List (ℕ × Bool) → Type 0
 AllLow most [] = ⊤
 AllLow most (check ∷ checks) = (check.0 ≤ most) × AllLow most checks
 
-first-low : (most : ℕ) (checks : List (ℕ × Bool)) (fault : ℕ) → AllLow most checks → first_fault checks ≡ Some fault → fault ≤ most
+first-low : (most : ℕ) (checks : List (ℕ × Bool)) (fault : ℕ) → AllLow most checks → first_broken checks ≡ Some fault → fault ≤ most
 first-low most [] fault all e = cc
 first-low most (check ∷ checks) fault all e = go check.1 e (first-low most checks fault all.1)
   where
-    go : (t : Bool) → (if t then first_fault checks else Some check.0) ≡ Some fault → (first_fault checks ≡ Some fault → fault ≤ most) → fault ≤ most
+    go : (t : Bool) → (if t then first_broken checks else Some check.0) ≡ Some fault → (first_broken checks ≡ Some fault → fault ≤ most) → fault ≤ most
     go true k later = later k
     go false k later = let same : check.0 ≡ fault = cc in omega (arith, same, all.0)
 
 units-low : (n place : ℕ) (bytes : List ℕ) (fault : ℕ) → units_fault n place bytes ≡ Some fault → fault ≤ place + 32 * n
 units-low zero place bytes fault e = cc
 units-low (suc n) place bytes fault e =
-    go (first_fault (unit_checks bytes)) (units_fault n (place + 32) (drop 32 bytes)) refl e (units-low n (place + 32) (drop 32 bytes) fault)
+    go (first_broken (unit_checks bytes)) (units_fault n (place + 32) (drop 32 bytes)) refl e (units-low n (place + 32) (drop 32 bytes) fault)
   where
-    unit : (f : ℕ) → first_fault (unit_checks bytes) ≡ Some f → f ≤ 29
+    unit : (f : ℕ) → first_broken (unit_checks bytes) ≡ Some f → f ≤ 29
     unit f k = first-low 29 (unit_checks bytes) f (omega arith, (omega arith, (omega arith, (omega arith, (omega arith, (omega arith, (omega arith, tt))))))) k
 
-    go : (first later : Option ℕ) → first_fault (unit_checks bytes) ≡ first → or_later place first later ≡ Some fault
+    go : (first later : Option ℕ) → first_broken (unit_checks bytes) ≡ first → or_later place first later ≡ Some fault
         → (later ≡ Some fault → fault ≤ (place + 32) + 32 * n) → fault ≤ place + 32 * suc n
     go None later f k rest = let h = rest k in omega (arith, h)
     go (Some at) later f k rest = let here : place + at ≡ fault = cc in let low = unit at f in omega (arith, here, low)

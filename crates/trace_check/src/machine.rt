@@ -5,7 +5,7 @@ ghost use Rattle.cmd_program.specs.Meaning.{IsOfLength, IsOutcomeOf};
 ghost use Rattle.cmd_program.specs.Judging.{step};
 ghost use Rattle.cmd_machine.specs.Rest.{StandsFor, IsSoundAt};
 ghost use Rattle.any_cmds.specs.Meaning.{by_any, IsSoundAny};
-ghost use Rattle.trace_replay.specs.ReplayState.{Pending, ReplayState, Nowhere, at_first, entries_after, outcome_of, gone_on, next, fits};
+ghost use Rattle.trace_replay.specs.ReplayState.{Pending, ReplayState, Nowhere, at_first, entries_after, outcome_of, gone_on, after_item, item_fits};
 ghost use Rattle.trace_replay.specs.Played.{addressed_bytes};
 ghost use Rattle.trace_check.specs.inner.Machines.{IsStanding, StandsBeside, Stands};
 
@@ -116,8 +116,8 @@ impl Machine {
     fn begin(&mut self, initiator: u32, request: Request) -> Result<bool, OutOfMemory>
         requires { Stands self.old }
         ensures { (config : Configuration) (s : ReplayState) (moment : ℕ) → IsStanding config s self.old
-            → IfOk result (λ fit. (fit ≡ fits config s (TraceItem.Begin initiator moment request))
-            × (fit ≡ true → IsStanding config (next step config s (TraceItem.Begin initiator moment request) Nowhere) self.new)) }
+            → IfOk result (λ fit. (fit ≡ item_fits config s (TraceItem.Begin initiator moment request))
+            × (fit ≡ true → IsStanding config (after_item step config s (TraceItem.Begin initiator moment request) Nowhere) self.new)) }
     {
         if self.waiting.contains_key(&initiator) {
             return Ok(false);
@@ -131,8 +131,8 @@ impl Machine {
     fn run(&mut self, initiator: u32, moment: u64) -> Result<bool, OutOfMemory>
         requires { Stands self.old }
         ensures { (config : Configuration) (s : ReplayState) → IsStanding config s self.old
-            → IfOk result (λ fit. (fit ≡ fits config s (TraceItem.Run initiator moment))
-            × (fit ≡ true → IsStanding config (next step config s (TraceItem.Run initiator moment) Nowhere) self.new)) }
+            → IfOk result (λ fit. (fit ≡ item_fits config s (TraceItem.Run initiator moment))
+            × (fit ≡ true → IsStanding config (after_item step config s (TraceItem.Run initiator moment) Nowhere) self.new)) }
     {
         let Some(waiting) = self.waiting.remove(&initiator) else {
             return Ok(false);
@@ -152,8 +152,8 @@ impl Machine {
     /// Lets the pump of a unit work once, where its record has room. Whether the unit is there.
     fn pump(&mut self, unit: u16, moment: u64) -> Result<bool, OutOfMemory>
         ensures { (config : Configuration) (s : ReplayState) → IsStanding config s self.old
-            → IfOk result (λ fit. (fit ≡ fits config s (TraceItem.Pump unit moment))
-            × (fit ≡ true → IsStanding config (next step config s (TraceItem.Pump unit moment) Nowhere) self.new)) }
+            → IfOk result (λ fit. (fit ≡ item_fits config s (TraceItem.Pump unit moment))
+            × (fit ≡ true → IsStanding config (after_item step config s (TraceItem.Pump unit moment) Nowhere) self.new)) }
     {
         if !self.units.config().is_configured(unit) {
             return Ok(false);
@@ -167,8 +167,8 @@ impl Machine {
     pub(crate) fn play(&mut self, item: TraceItem) -> Result<bool, OutOfMemory>
         requires { Stands self.old }
         ensures { (config : Configuration) (s : ReplayState) → IsStanding config s self.old
-            → IfOk result (λ fit. (fit ≡ fits config s item)
-            × (fit ≡ true → IsStanding config (next step config s item Nowhere) self.new)) }
+            → IfOk result (λ fit. (fit ≡ item_fits config s item)
+            × (fit ≡ true → IsStanding config (after_item step config s item Nowhere) self.new)) }
     {
         match item {
             TraceItem::Begin {

@@ -17,7 +17,7 @@ use Rattle.cmd_program.specs.declared.step.Step.{Step}
 use Rattle.cmd_program.specs.Stepping.{Stepping, gave_up, gives_up}
 use Rattle.cmd_program.proofs.PublicLaws.{IsBusyAtEnd, EndsBusy}
 use Rattle.trace_replay.specs.Items.{Ending, BadRecord, Placed, trace_of, items_limit}
-use Rattle.trace_replay.specs.ReplayState.{Pending, ReplayState, Shortage, Nowhere, AtBegin, AtAct, AtStep, at_first, waiting, without, noted, replied, goes_on, next_step, gone_on, begun, acted, noted_at_step, noted_act, outcomes_at, outcome_of, has_no_room, did, ran, next, fits}
+use Rattle.trace_replay.specs.ReplayState.{Pending, ReplayState, Shortage, Nowhere, AtBegin, AtAct, AtStep, at_first, waiting, without, noted, replied, goes_on, next_step, gone_on, begun, acted, noted_at_step, noted_act, outcomes_at, outcome_of, has_no_room, did, ran, after_item, item_fits}
 use Rattle.trace_replay.specs.Played.{play, shortage_for, shortages_behind}
 use Rattle.trace_replay.specs.Ended.{Ended, ended_by, ended_now, ended_at_begin, ended_at_act, ended_at_run, ended_at, ended_in}
 use Rattle.trace_replay.specs.Shortages.{is_no_shortage, allowed_at_act, allowed_at_run, is_allowed, are_allowed, may_lack, allowed_after}
@@ -86,7 +86,7 @@ module _ (step : Stepping) (ends : EndsBusy step) (config : Configuration) (s : 
       (next_step step config (noted_act config s q unit moment act shortage)) i p (λ e. other (sym e)) there w
 
 item-becomes : (step : Stepping) → EndsBusy step → (config : Configuration) (s : ReplayState) (item : TraceItem) (shortage : Shortage) (i : ℕ) (p : Pending)
-    → fits config s item ≡ true → waiting i s.pending ≡ Some p → Wanted p → Becomes i (ended_at step config s item shortage) (next step config s item shortage)
+    → item_fits config s item ≡ true → waiting i s.pending ≡ Some p → Wanted p → Becomes i (ended_at step config s item shortage) (after_item step config s item shortage)
 item-becomes step ends config s (TraceItem.Begin j m request) shortage i p fit there w =
     begun-beside step config (record s { items = s.items + 1 }) j m request shortage i p
     (λ same. let mine : waiting j s.pending ≡ Some p = ap (λ k. waiting k s.pending) (sym same) ∙ there in let bad : false ≡ true = ap (λ f. not (is_some f)) (sym mine) ∙ fit in cc)
@@ -132,18 +132,18 @@ play-becomes : (step : Stepping) → EndsBusy step → (config : Configuration) 
     → waiting i s.pending ≡ Some p → Wanted p → IsBusyOrWaits i (first_of i (ended_in step config s xs shortages)) (play step config s xs ending shortages).state
 play-becomes step ends config s [] ending shortages i p there w = waits-so i s p there w
 play-becomes step ends config s (x ∷ xs) ending shortages i p there w =
-    go (fits config s x.item) refl (λ q here v. play-becomes step ends config (next step config s x.item (shortage_for x.item shortages)) xs ending (shortages_behind x.item shortages) i q here v)
+    go (item_fits config s x.item) refl (λ q here v. play-becomes step ends config (after_item step config s x.item (shortage_for x.item shortages)) xs ending (shortages_behind x.item shortages) i q here v)
   where
-    go : (t : Bool) → fits config s x.item ≡ t
-        → ((q : Pending) → waiting i (next step config s x.item (shortage_for x.item shortages)).pending ≡ Some q → Wanted q
-        → IsBusyOrWaits i (first_of i (ended_in step config (next step config s x.item (shortage_for x.item shortages)) xs (shortages_behind x.item shortages)))
-        (play step config (next step config s x.item (shortage_for x.item shortages)) xs ending (shortages_behind x.item shortages)).state)
+    go : (t : Bool) → item_fits config s x.item ≡ t
+        → ((q : Pending) → waiting i (after_item step config s x.item (shortage_for x.item shortages)).pending ≡ Some q → Wanted q
+        → IsBusyOrWaits i (first_of i (ended_in step config (after_item step config s x.item (shortage_for x.item shortages)) xs (shortages_behind x.item shortages)))
+        (play step config (after_item step config s x.item (shortage_for x.item shortages)) xs ending (shortages_behind x.item shortages)).state)
         → IsBusyOrWaits i (first_of i (cond t (ended_at step config s x.item (shortage_for x.item shortages)
-        ++ ended_in step config (next step config s x.item (shortage_for x.item shortages)) xs (shortages_behind x.item shortages)) []))
-        (cond t (play step config (next step config s x.item (shortage_for x.item shortages)) xs ending (shortages_behind x.item shortages)) (record { state = s; ending = BadRecord x.place })).state
+        ++ ended_in step config (after_item step config s x.item (shortage_for x.item shortages)) xs (shortages_behind x.item shortages)) []))
+        (cond t (play step config (after_item step config s x.item (shortage_for x.item shortages)) xs ending (shortages_behind x.item shortages)) (record { state = s; ending = BadRecord x.place })).state
     go false fit later = waits-so i s p there w
     go true fit later =
-        behind-becomes i (ended_at step config s x.item (shortage_for x.item shortages)) _ (next step config s x.item (shortage_for x.item shortages)) _
+        behind-becomes i (ended_at step config s x.item (shortage_for x.item shortages)) _ (after_item step config s x.item (shortage_for x.item shortages)) _
         (item-becomes step ends config s x.item (shortage_for x.item shortages) i p fit there w) later
 
 -- ---- the item at which memory was refused
@@ -196,36 +196,36 @@ play-shown step ends config s [] ending shortages may = tt
 play-shown step ends config s (x ∷ xs) ending shortages may = λ fit.
     let both = allowed fit in (
       one x.item refl fit both.0,
-      play-shown step ends config (next step config s x.item (shortage_for x.item shortages)) xs ending (shortages_behind x.item shortages) both.1,
+      play-shown step ends config (after_item step config s x.item (shortage_for x.item shortages)) xs ending (shortages_behind x.item shortages) both.1,
     )
   where
-    allowed : fits config s x.item ≡ true → (is_allowed step config s x.item (shortage_for x.item shortages) ≡ true)
-        × (are_allowed step config (next step config s x.item (shortage_for x.item shortages)) xs (shortages_behind x.item shortages) ≡ true)
+    allowed : item_fits config s x.item ≡ true → (is_allowed step config s x.item (shortage_for x.item shortages) ≡ true)
+        × (are_allowed step config (after_item step config s x.item (shortage_for x.item shortages)) xs (shortages_behind x.item shortages) ≡ true)
     allowed fit = both-true _ _ (subst (λ t. cond t (is_allowed step config s x.item (shortage_for x.item shortages)
-        && are_allowed step config (next step config s x.item (shortage_for x.item shortages)) xs (shortages_behind x.item shortages)) true ≡ true) fit may)
+        && are_allowed step config (after_item step config s x.item (shortage_for x.item shortages)) xs (shortages_behind x.item shortages)) true ≡ true) fit may)
 
     -- the item, and all behind it
-    from : (i : ℕ) → fits config s x.item ≡ true → Becomes i (ended_at step config s x.item (shortage_for x.item shortages)) (next step config s x.item (shortage_for x.item shortages))
+    from : (i : ℕ) → item_fits config s x.item ≡ true → Becomes i (ended_at step config s x.item (shortage_for x.item shortages)) (after_item step config s x.item (shortage_for x.item shortages))
         → IsBusyOrWaits i (first_of i (ended_in step config s (x ∷ xs) shortages)) (play step config s (x ∷ xs) ending shortages).state
     from i fit becomes =
         subst (λ t. IsBusyOrWaits i (first_of i (cond t (ended_at step config s x.item (shortage_for x.item shortages)
-        ++ ended_in step config (next step config s x.item (shortage_for x.item shortages)) xs (shortages_behind x.item shortages)) []))
-        (cond t (play step config (next step config s x.item (shortage_for x.item shortages)) xs ending (shortages_behind x.item shortages)) (record { state = s; ending = BadRecord x.place })).state) (sym fit)
-        (behind-becomes i (ended_at step config s x.item (shortage_for x.item shortages)) _ (next step config s x.item (shortage_for x.item shortages)) _ becomes
-        (λ p there w. play-becomes step ends config (next step config s x.item (shortage_for x.item shortages)) xs ending (shortages_behind x.item shortages) i p there w))
+        ++ ended_in step config (after_item step config s x.item (shortage_for x.item shortages)) xs (shortages_behind x.item shortages)) []))
+        (cond t (play step config (after_item step config s x.item (shortage_for x.item shortages)) xs ending (shortages_behind x.item shortages)) (record { state = s; ending = BadRecord x.place })).state) (sym fit)
+        (behind-becomes i (ended_at step config s x.item (shortage_for x.item shortages)) _ (after_item step config s x.item (shortage_for x.item shortages)) _ becomes
+        (λ p there w. play-becomes step ends config (after_item step config s x.item (shortage_for x.item shortages)) xs ending (shortages_behind x.item shortages) i p there w))
 
-    one : (item : TraceItem) → x.item ≡ item → fits config s x.item ≡ true → is_allowed step config s x.item (shortage_for x.item shortages) ≡ true
+    one : (item : TraceItem) → x.item ≡ item → item_fits config s x.item ≡ true → is_allowed step config s x.item (shortage_for x.item shortages) ≡ true
         → IsShown x.item (shortage_for x.item shortages) (ended_in step config s (x ∷ xs) shortages) (play step config s (x ∷ xs) ending shortages).state
     one (TraceItem.Pump unit moment) is fit ok =
         subst (λ k. IsShown k (shortage_for x.item shortages) (ended_in step config s (x ∷ xs) shortages) (play step config s (x ∷ xs) ending shortages).state) (sym is) tt
     one (TraceItem.Begin j m request) is fit ok =
         subst (λ k. IsShown k (shortage_for x.item shortages) (ended_in step config s (x ∷ xs) shortages) (play step config s (x ∷ xs) ending shortages).state) (sym is)
-        (λ some. from j fit (subst (λ k. Becomes j (ended_at step config s k (shortage_for x.item shortages)) (next step config s k (shortage_for x.item shortages))) (sym is)
+        (λ some. from j fit (subst (λ k. Becomes j (ended_at step config s k (shortage_for x.item shortages)) (after_item step config s k (shortage_for x.item shortages))) (sym is)
         (begun-short step ends config s j m request (shortage_for x.item shortages) (subst (λ k. is_allowed step config s k (shortage_for x.item shortages) ≡ true) is ok) some)))
     one (TraceItem.Run j moment) is fit ok =
         subst (λ k. IsShown k (shortage_for x.item shortages) (ended_in step config s (x ∷ xs) shortages) (play step config s (x ∷ xs) ending shortages).state) (sym is)
-        (λ some. from j fit (subst (λ k. Becomes j (ended_at step config s k (shortage_for x.item shortages)) (next step config s k (shortage_for x.item shortages))) (sym is)
-        (ran-short-becomes step ends config s j moment (shortage_for x.item shortages) (waiting j s.pending) refl (subst (λ k. fits config s k ≡ true) is fit)
+        (λ some. from j fit (subst (λ k. Becomes j (ended_at step config s k (shortage_for x.item shortages)) (after_item step config s k (shortage_for x.item shortages))) (sym is)
+        (ran-short-becomes step ends config s j moment (shortage_for x.item shortages) (waiting j s.pending) refl (subst (λ k. item_fits config s k ≡ true) is fit)
         (subst (λ k. is_allowed step config s k (shortage_for x.item shortages) ≡ true) is ok) some)))
 
 pub refusals-shown : (step : Stepping) → EndsBusy step → (bytes : List ℕ) (shortages : List Shortage) → may_lack step bytes shortages ≡ true → RefusalsAreShown step bytes shortages

@@ -17,8 +17,8 @@ use Rattle.trace_replay.specs.declared.summary.Summary.{Summary}
 use Rattle.trace_replay.specs.declared.player.Player.{Player}
 use Rattle.trace_replay.specs.declared.machine.Machine.{Machine}
 use Rattle.trace_replay.specs.Items.{items_limit}
-use Rattle.trace_replay.specs.ReplayState.{Pending, AddressedReply, ReplayState, Shortage, Nowhere, AtBegin, AtAct, AtStep, waiting, goes_on, did, ran, begun, next, next_step, acted, noted_act}
-use Rattle.trace_replay.specs.Played.{shortage_for, addressed_bytes, output_of, summary_of, is_good, is_check, is_busy, is_task_set_full}
+use Rattle.trace_replay.specs.ReplayState.{Pending, AddressedReply, ReplayState, Shortage, Nowhere, AtBegin, AtAct, AtStep, waiting, goes_on, did, ran, begun, after_item, next_step, acted, noted_act}
+use Rattle.trace_replay.specs.Played.{shortage_for, addressed_bytes, output_of, summary_of, is_good, is_check, is_busy_reply, is_task_set_full}
 use Rattle.trace_replay.specs.inner.Laws.{StandsAt}
 use Rattle.trace_replay.proofs.LoopLaws.{shortages_of}
 use Rattle.trace_replay.specs.inner.Counting.{HasRoom, with_item, with_reply, one_if}
@@ -53,7 +53,7 @@ begun-items config s i r AtBegin = refl
 begun-items config s i r AtAct = went-items s _ _
 begun-items config s i r AtStep = went-items s _ _
 
-pub next-items : (config : Configuration) (s : ReplayState) (item : TraceItem) (shortage : Shortage) → (next step config s item shortage).items ≡ s.items + 1
+pub next-items : (config : Configuration) (s : ReplayState) (item : TraceItem) (shortage : Shortage) → (after_item step config s item shortage).items ≡ s.items + 1
 next-items config s (TraceItem.Begin i moment r) shortage = begun-items config (record s { items = s.items + 1 }) i r shortage
 next-items config s (TraceItem.Run i moment) shortage = ran-items config (record s { items = s.items + 1 }) moment shortage (waiting i s.pending)
 next-items config s (TraceItem.Pump u moment) shortage = refl
@@ -85,7 +85,7 @@ room-of s few = record {
   replies = omega (arith, few.items, few.replies);
   good = omega (arith, few.items, few.replies, count_by-le-length (λ (r : AddressedReply). is_good r.reply) s.replies);
   check = omega (arith, few.items, few.replies, count_by-le-length (λ (r : AddressedReply). is_check r.reply) s.replies);
-  busy = omega (arith, few.items, few.replies, count_by-le-length (λ (r : AddressedReply). is_busy r.reply) s.replies);
+  busy = omega (arith, few.items, few.replies, count_by-le-length (λ (r : AddressedReply). is_busy_reply r.reply) s.replies);
   full = omega (arith, few.items, few.replies, count_by-le-length (λ (r : AddressedReply). is_task_set_full r.reply) s.replies);
   bytes = omega (arith, few.items, few.bytes);
 }
@@ -99,7 +99,7 @@ abbrev check-of : AddressedReply → Bool
 check-of r = is_check r.reply
 
 abbrev busy-of : AddressedReply → Bool
-busy-of r = is_busy r.reply
+busy-of r = is_busy_reply r.reply
 
 abbrev full-of : AddressedReply → Bool
 full-of r = is_task_set_full r.reply
@@ -157,7 +157,7 @@ module _ (left rest taken given : Option (List ℕ)) (p : Player) (is : IsAt lef
 
   -- how things stand behind it, with such a shortage
   abbrev pub behind : Shortage → ReplayState
-  behind shortage = next step is.config is.s item (shortage_for item (shortage ∷ []))
+  behind shortage = after_item step is.config is.s item (shortage_for item (shortage ∷ []))
 
   behind-items : (shortage : Shortage) → (behind shortage).items ≡ is.s.items + 1
   behind-items shortage = next-items is.config is.s item (shortage_for item (shortage ∷ []))

@@ -20,7 +20,7 @@ use Rattle.trace_replay.specs.declared.summary.Summary.{Summary}
 use Rattle.trace_replay.specs.declared.fault.ReplayFault.{ReplayFault}
 use Rattle.trace_replay.specs.declared.fault.ReplayFault.TheVariants.{ReadFault, WriteFault, OutOfMemory}
 use Rattle.trace_replay.specs.Items.{Ending, Placed, trace_of}
-use Rattle.trace_replay.specs.ReplayState.{Pending, ReplayState, Shortage, Nowhere, next, next_step, fits, waiting}
+use Rattle.trace_replay.specs.ReplayState.{Pending, ReplayState, Shortage, Nowhere, after_item, next_step, item_fits, waiting}
 use Rattle.trace_replay.specs.Played.{Played, played, played_from, shortage_for, shortages_behind, output_of, summary_of}
 use Rattle.trace_replay.specs.Shortages.{allowed_at_act, allowed_at_run, is_allowed, are_allowed, may_lack, met_want}
 use Rattle.cm_base.specs.Outside.{IsBeginning}
@@ -37,8 +37,8 @@ no-shortage-at-run : (step : Stepping) (config : Configuration) (s : ReplayState
 no-shortage-at-run step config s None = refl
 no-shortage-at-run step config s (Some p) = go (gave_up p.outcomes) (next_step step config p)
   where
-    go : (t : Bool) (next : Step) → cond t true (allowed_at_act config s.entries (Actor.Nexus p.initiator) Nowhere next) ≡ true
-    go true next = refl
+    go : (t : Bool) (after_item : Step) → cond t true (allowed_at_act config s.entries (Actor.Nexus p.initiator) Nowhere after_item) ≡ true
+    go true after_item = refl
     go false (Step.Do unit act) = refl
     go false (Step.Done reply) = refl
 
@@ -50,9 +50,9 @@ no-shortage-allowed step config s (TraceItem.Pump u m) = refl
 pub none-allowed : (step : Stepping) (config : Configuration) (s : ReplayState) (xs : List Placed) → are_allowed step config s xs [] ≡ true
 none-allowed step config s [] = refl
 none-allowed step config s (x ∷ xs) =
-    go (fits config s x.item) (is_allowed step config s x.item (shortage_for x.item [])) _ (no-shortage-allowed step config s x.item)
-    (ap (are_allowed step config (next step config s x.item (shortage_for x.item [])) xs) (none-behind x.item)
-    ∙ none-allowed step config (next step config s x.item (shortage_for x.item [])) xs)
+    go (item_fits config s x.item) (is_allowed step config s x.item (shortage_for x.item [])) _ (no-shortage-allowed step config s x.item)
+    (ap (are_allowed step config (after_item step config s x.item (shortage_for x.item [])) xs) (none-behind x.item)
+    ∙ none-allowed step config (after_item step config s x.item (shortage_for x.item [])) xs)
   where
     go : (t u v : Bool) → u ≡ true → v ≡ true → cond t (u && v) true ≡ true
     go true u v a b = rw (a, b) refl

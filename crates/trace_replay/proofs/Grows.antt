@@ -9,7 +9,7 @@ use Rattle.cm_history.specs.declared.act.Actor.TheVariants.{Nexus}
 use Rattle.cmd_program.specs.declared.step.Step.{Step}
 use Rattle.cmd_program.specs.Stepping.{Stepping}
 use Rattle.trace_replay.specs.Items.{Ending, BadRecord, Placed, trace_of}
-use Rattle.trace_replay.specs.ReplayState.{Pending, AddressedReply, ReplayState, Shortage, Nowhere, AtBegin, AtAct, AtStep, waiting, acted, noted_act, goes_on, next_step, begun, did, ran, changed, next, fits}
+use Rattle.trace_replay.specs.ReplayState.{Pending, AddressedReply, ReplayState, Shortage, Nowhere, AtBegin, AtAct, AtStep, waiting, acted, noted_act, goes_on, next_step, begun, did, ran, changed, after_item, item_fits}
 use Rattle.trace_replay.specs.Played.{play, shortage_for, shortages_behind, addressed_bytes, output_of}
 use Rattle.trace_replay.proofs.LoopLaws.{OutputGrows}
 use Rattle.cm_base.specs.Outside.{IsBeginning}
@@ -61,7 +61,7 @@ changed-follows step config s (TraceItem.Begin initiator moment request) shortag
 changed-follows step config s (TraceItem.Run initiator moment) shortage = ran-follows step config s moment shortage (waiting initiator s.pending)
 changed-follows step config s (TraceItem.Pump unit moment) shortage = record { more = []; is = append-nil s.replies }
 
-pub next-follows : (step : Stepping) (config : Configuration) (s : ReplayState) (item : TraceItem) (shortage : Shortage) → Follows s (next step config s item shortage)
+pub next-follows : (step : Stepping) (config : Configuration) (s : ReplayState) (item : TraceItem) (shortage : Shortage) → Follows s (after_item step config s item shortage)
 next-follows step config s item shortage =
     let f = changed-follows step config (record s { items = s.items + 1 }) item shortage in record { more = f.more; is = f.is }
 
@@ -69,12 +69,12 @@ pub play-follows : (step : Stepping) (config : Configuration) (s : ReplayState) 
     → Follows s (play step config s xs ending shortages).state
 play-follows step config s [] ending shortages = Follows-refl s
 play-follows step config s (x ∷ xs) ending shortages =
-    go (fits config s x.item)
+    go (item_fits config s x.item)
     (Follows-trans s _ _ (next-follows step config s x.item (shortage_for x.item shortages))
-    (play-follows step config (next step config s x.item (shortage_for x.item shortages)) xs ending (shortages_behind x.item shortages)))
+    (play-follows step config (after_item step config s x.item (shortage_for x.item shortages)) xs ending (shortages_behind x.item shortages)))
   where
-    go : (t : Bool) → Follows s (play step config (next step config s x.item (shortage_for x.item shortages)) xs ending (shortages_behind x.item shortages)).state
-        → Follows s (cond t (play step config (next step config s x.item (shortage_for x.item shortages)) xs ending (shortages_behind x.item shortages))
+    go : (t : Bool) → Follows s (play step config (after_item step config s x.item (shortage_for x.item shortages)) xs ending (shortages_behind x.item shortages)).state
+        → Follows s (cond t (play step config (after_item step config s x.item (shortage_for x.item shortages)) xs ending (shortages_behind x.item shortages))
         (record { state = s; ending = BadRecord x.place })).state
     go true later = later
     go false later = Follows-refl s

@@ -7,7 +7,7 @@ use Rattle.cm_base.specs.declared.parsed.Parsed.TheVariants.{Whole}
 use Rattle.cm_frame.specs.Reading.{read_item, read_header}
 use Rattle.cmd_program.specs.Stepping.{Stepping}
 use Rattle.trace_replay.specs.Items.{items_limit}
-use Rattle.trace_replay.specs.ReplayState.{ReplayState, Shortage, next, fits, at_first}
+use Rattle.trace_replay.specs.ReplayState.{ReplayState, Shortage, after_item, item_fits, at_first}
 use Rattle.trace_replay.specs.Played.{played, played_from, shortage_for, output_of}
 use Rattle.trace_replay.specs.Shortages.{may_lack, is_allowed, met_want}
 use Rattle.cm_base.specs.Outside.{IsBeginning}
@@ -32,8 +32,8 @@ GrowsSo step = (config : Configuration) (pulled : List ℕ) (shortages : List Sh
 abbrev pub StepsSo : Stepping → Type 0
 StepsSo step = (config : Configuration) (pulled : List ℕ) (shortages : List Shortage) (s : ReplayState) (n place : ℕ) (buffered : List ℕ) (item : TraceItem) (used : ℕ) (shortage : Shortage)
     → StandsAt step config pulled shortages s (suc n) place buffered
-    → read_item buffered ≡ Whole item used → fits config s item ≡ true → is_allowed step config s item (shortage_for item (shortage ∷ [])) ≡ true
-    → StandsAt step config pulled (shortages ++ shortages_of item shortage) (next step config s item (shortage_for item (shortage ∷ []))) n (place + used) (drop used buffered)
+    → read_item buffered ≡ Whole item used → item_fits config s item ≡ true → is_allowed step config s item (shortage_for item (shortage ∷ [])) ≡ true
+    → StandsAt step config pulled (shortages ++ shortages_of item shortage) (after_item step config s item (shortage_for item (shortage ∷ []))) n (place + used) (drop used buffered)
 
 -- what was output stays output
 abbrev pub OutputGrows : Stepping → Type 0

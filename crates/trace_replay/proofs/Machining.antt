@@ -20,7 +20,7 @@ use Rattle.cmd_program.specs.Stepping.{gave_up}
 use Rattle.trace_replay.specs.declared.nexus.Waiting.{Waiting}
 use Rattle.trace_replay.specs.declared.nexus.Nexus.{Nexus}
 use Rattle.trace_replay.specs.declared.machine.Machine.{Machine}
-use Rattle.trace_replay.specs.ReplayState.{Pending, ReplayState, Shortage, Nowhere, AtBegin, AtAct, AtStep, is_of, waiting, without, seq, new_entry, has_no_room, entries_after, entries_at, next_step, goes_on, acted, noted_act, did, ran, next, fits}
+use Rattle.trace_replay.specs.ReplayState.{Pending, ReplayState, Shortage, Nowhere, AtBegin, AtAct, AtStep, is_of, waiting, without, seq, new_entry, has_no_room, entries_after, entries_at, next_step, goes_on, acted, noted_act, did, ran, after_item, item_fits}
 use Rattle.trace_replay.specs.Played.{shortage_for}
 use Rattle.trace_replay.specs.Shortages.{is_no_shortage, allowed_at_act, allowed_at_run, is_allowed}
 use Rattle.trace_replay.specs.inner.Machines.{HaveCounted, IsWaiting, WentOn, HasBegun, HasRun, WaitsFor, IsNexus, IsStanding, IsEffect, effect_of}
@@ -150,13 +150,13 @@ module _ (config : Configuration) (t : ReplayState) (p : Pending) (nexus : Nexus
         (λ j other. waits-so j p.initiator t.pending (p ∷ []) other (rw (not-equal p.initiator j (λ e. other (sym e))) refl));
   }
 
-  module _ (s : ReplayState) (item : TraceItem) (shortage : Shortage) (fit : fits config s item ≡ true) (allowed : is_allowed step config s item (shortage_for item (shortage ∷ [])) ≡ true)
+  module _ (s : ReplayState) (item : TraceItem) (shortage : Shortage) (fit : item_fits config s item ≡ true) (allowed : is_allowed step config s item (shortage_for item (shortage ∷ [])) ≡ true)
       (replies : t.replies ≡ s.replies) where
-    effect : (nx : Step) (waits : Option Waiting) (reply : Option Reply) → next step config s item (shortage_for item (shortage ∷ [])) ≡ goes_on t p nx → nexus.waiting ≡ waits
+    effect : (nx : Step) (waits : Option Waiting) (reply : Option Reply) → after_item step config s item (shortage_for item (shortage ∷ [])) ≡ goes_on t p nx → nexus.waiting ≡ waits
         → Goes config p nx waits reply → IsEffect config s item (effect_of p.initiator reply) m
     effect nx None None to is goes = absurd goes
     effect nx (Some w) None to is goes =
-        let same : next step config s item (shortage_for item (shortage ∷ [])) ≡ goes_on t p (Step.Do w.unit w.act) = to ∙ ap (goes_on t p) goes.1 in
+        let same : after_item step config s item (shortage_for item (shortage ∷ [])) ≡ goes_on t p (Step.Do w.unit w.act) = to ∙ ap (goes_on t p) goes.1 in
         record {
           fit = fit;
           shortage = shortage;
@@ -165,7 +165,7 @@ module _ (config : Configuration) (t : ReplayState) (p : Pending) (nexus : Nexus
           replied = ap (λ (x : ReplayState). x.replies) same ∙ replies ∙ sym (append-nil s.replies);
         }
     effect nx None (Some reply) to is goes =
-        let same : next step config s item (shortage_for item (shortage ∷ [])) ≡ goes_on t p (Step.Done reply) = to ∙ ap (goes_on t p) goes.0 in (
+        let same : after_item step config s item (shortage_for item (shortage ∷ [])) ≡ goes_on t p (Step.Done reply) = to ∙ ap (goes_on t p) goes.0 in (
           record {
             fit = fit;
             shortage = shortage;
@@ -209,14 +209,14 @@ begun config s m m' i moment request nexus reply is idle right began told units 
     count None p is = sym is.0
     count (Some n) p is = is.0
 
-    fit : fits config s (TraceItem.Begin i moment request) ≡ true
+    fit : item_fits config s (TraceItem.Begin i moment request) ≡ true
     fit = ap (λ f. not (is_some f)) (none (get nat_cmp m.nexuses i) (waiting i s.pending) (is.nexuses i) idle)
 
     others : (j : ℕ) → (j ≡ i → ⊥) → IsNexus config s.entries j (waiting j s.pending) (get nat_cmp m'.nexuses j)
     others j other = subst (λ n. IsNexus config s.entries j (waiting j s.pending) n) (sym (rest j (not-at i j other))) (is.nexuses j)
 
     goes : (shortage : Shortage) (outcomes : List Outcome) (nx : Step) → is_allowed step config s (TraceItem.Begin i moment request) shortage ≡ true
-        → next step config s (TraceItem.Begin i moment request) shortage ≡ goes_on t (record { initiator = i; request = request; outcomes = outcomes }) nx
+        → after_item step config s (TraceItem.Begin i moment request) shortage ≡ goes_on t (record { initiator = i; request = request; outcomes = outcomes }) nx
         → Goes config (record { initiator = i; request = request; outcomes = outcomes }) nx nexus.waiting reply
         → IsEffect config s (TraceItem.Begin i moment request) (effect_of i reply) m'
     goes shortage outcomes nx allowed same so =
@@ -262,7 +262,7 @@ ran-on config s m m' i moment before nexus w reply is at some has told put rest 
         q : Pending
         q = noted_act config (record s { items = s.items + 1 }) p w.unit moment w.act run.shortage
 
-        fit : fits config s (TraceItem.Run i moment) ≡ true
+        fit : item_fits config s (TraceItem.Run i moment) ≡ true
         fit = ap is_some e
 
         allowed : is_allowed step config s (TraceItem.Run i moment) run.shortage ≡ true
@@ -271,7 +271,7 @@ ran-on config s m m' i moment before nexus w reply is at some has told put rest 
             ∙ ap (λ nx. cond (gave_up p.outcomes) (is_no_shortage run.shortage) (allowed_at_act config s.entries (Actor.Nexus p.initiator) run.shortage nx)) waits.asks
             ∙ run.allowed
 
-        same : next step config s (TraceItem.Run i moment) run.shortage ≡ goes_on t q (next_step step config q)
+        same : after_item step config s (TraceItem.Run i moment) run.shortage ≡ goes_on t q (next_step step config q)
         same =
             ap (ran step config (record s { items = s.items + 1 }) moment run.shortage) e
             ∙ ap (did step config (record s { items = s.items + 1 }) moment p run.shortage) waits.asks

@@ -31,7 +31,7 @@ use Rattle.cmd_program.specs.Meaning.{IsAskable}
 use Rattle.cmd_program.specs.WriteEnds.{ServesInVain, EndsWell, IsWriteReply, IsExcused, ran_out, IsNotStopped}
 use Rattle.cmd_program.proofs.PublicLaws.{ends-or-excused, excused-as, not-stopped, step-askable}
 use Rattle.trace_replay.specs.Items.{Placed, Ending, BadRecord, led_by, trace_of, items_limit}
-use Rattle.trace_replay.specs.ReplayState.{Pending, ReplayState, Shortage, Nowhere, AtBegin, AtAct, AtStep, is_of, waiting, without, replied, goes_on, next_step, gone_on, begun, noted, noted_at_step, outcomes_at, entries_at, entries_after, new_entry, acted, noted_act, did, ran, fits, has_no_room, outcome_of, at_first}
+use Rattle.trace_replay.specs.ReplayState.{Pending, ReplayState, Shortage, Nowhere, AtBegin, AtAct, AtStep, is_of, waiting, without, replied, goes_on, next_step, gone_on, begun, noted, noted_at_step, outcomes_at, entries_at, entries_after, new_entry, acted, noted_act, did, ran, item_fits, has_no_room, outcome_of, at_first}
 use Rattle.trace_replay.specs.ReplayState as state
 use Rattle.trace_replay.specs.Played.{played, played_after, play, shortage_for, shortages_behind}
 use Rattle.trace_replay.specs.Replayed.{IsHistory}
@@ -290,9 +290,9 @@ goes-run config s p rest r = go (next_step step config p)
 
 -- what one item does, and what it ends
 record ItemKept (config : Configuration) (left : ℕ) (s : ReplayState) (item : TraceItem) (shortage : Shortage) : Type 0 where
-  sound : Sound config (state.next step config s item shortage).entries
-  few : length (state.next step config s item shortage).entries + left ≤ 16_777_216
-  run : AllRun config (state.next step config s item shortage)
+  sound : Sound config (state.after_item step config s item shortage).entries
+  few : length (state.after_item step config s item shortage).entries + left ≤ 16_777_216
+  run : AllRun config (state.after_item step config s item shortage)
   kept : Each (IsKeptTo config) (ended_at step config s item shortage)
 
 -- the history stands before the next item
@@ -405,7 +405,7 @@ HasBytes (TraceItem.Begin initiator moment request) = AreBytes request.out
 HasBytes (TraceItem.Run initiator moment) = Unit {0}
 HasBytes (TraceItem.Pump unit moment) = Unit {0}
 
-item-kept : (config : Configuration) (left : ℕ) (s : ReplayState) (item : TraceItem) (shortage : Shortage) → AreUnits config.units → IsReady config left s.entries → HasBytes item → fits config s item ≡ true
+item-kept : (config : Configuration) (left : ℕ) (s : ReplayState) (item : TraceItem) (shortage : Shortage) → AreUnits config.units → IsReady config left s.entries → HasBytes item → item_fits config s item ≡ true
     → AllRun config s → ItemKept config left s item shortage
 item-kept config left s (TraceItem.Begin initiator moment request) shortage units ready bytes fit all = begin-kept config left s initiator moment request shortage ready bytes all
 item-kept config left s (TraceItem.Run initiator moment) shortage units ready bytes fit all = run-kept config left s initiator moment shortage units ready all
@@ -424,20 +424,20 @@ record PlayKept (config : Configuration) (s : ReplayState) (xs : List Placed) (e
 
 -- an item, and those behind it
 more-kept : (config : Configuration) (left : ℕ) (s : ReplayState) (x : Placed) (xs : List Placed) (ending : Ending) (shortages : List Shortage) → Sound config s.entries
-    → (fits config s x.item ≡ true → ItemKept config left s x.item (shortage_for x.item shortages)
-    × PlayKept config (state.next step config s x.item (shortage_for x.item shortages)) xs ending (shortages_behind x.item shortages))
+    → (item_fits config s x.item ≡ true → ItemKept config left s x.item (shortage_for x.item shortages)
+    × PlayKept config (state.after_item step config s x.item (shortage_for x.item shortages)) xs ending (shortages_behind x.item shortages))
     → PlayKept config s (x ∷ xs) ending shortages
-more-kept config left s x xs ending shortages sound both-of = let r = by (fits config s x.item) refl in record { legal = r.0; kept = r.1 }
+more-kept config left s x xs ending shortages sound both-of = let r = by (item_fits config s x.item) refl in record { legal = r.0; kept = r.1 }
   where
-    by : (t : Bool) → fits config s x.item ≡ t
-        → IsLegal config (if t then play step config (state.next step config s x.item (shortage_for x.item shortages)) xs ending (shortages_behind x.item shortages)
+    by : (t : Bool) → item_fits config s x.item ≡ t
+        → IsLegal config (if t then play step config (state.after_item step config s x.item (shortage_for x.item shortages)) xs ending (shortages_behind x.item shortages)
         else record { state = s; ending = BadRecord x.place }).state.entries
         × Each (IsKeptTo config) (if t then ended_at step config s x.item (shortage_for x.item shortages)
-        ++ ended_in step config (state.next step config s x.item (shortage_for x.item shortages)) xs (shortages_behind x.item shortages) else [])
+        ++ ended_in step config (state.after_item step config s x.item (shortage_for x.item shortages)) xs (shortages_behind x.item shortages) else [])
     by true fit = let both = both-of fit in (
       both.1.legal,
       Each-append (IsKeptTo config) (ended_at step config s x.item (shortage_for x.item shortages))
-          (ended_in step config (state.next step config s x.item (shortage_for x.item shortages)) xs (shortages_behind x.item shortages)) both.0.kept both.1.kept,
+          (ended_in step config (state.after_item step config s x.item (shortage_for x.item shortages)) xs (shortages_behind x.item shortages)) both.0.kept both.1.kept,
     )
     by false fit = (sound.legal, tt)
 
@@ -447,7 +447,7 @@ play-kept config s [] ending shortages units sound few bytes all = record { lega
 play-kept config s (x ∷ xs) ending shortages units sound few bytes all =
     more-kept config (length xs) s x xs ending shortages sound (λ fit.
     let one = item-kept config (length xs) s x.item (shortage_for x.item shortages) units (record { sound = sound; few = few }) bytes.0 fit all in
-    (one, play-kept config (state.next step config s x.item (shortage_for x.item shortages)) xs ending (shortages_behind x.item shortages) units one.sound one.few bytes.1 one.run))
+    (one, play-kept config (state.after_item step config s x.item (shortage_for x.item shortages)) xs ending (shortages_behind x.item shortages) units one.sound one.few bytes.1 one.run))
 
 -- ---- what its bytes say
 

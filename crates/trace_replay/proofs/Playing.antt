@@ -18,7 +18,7 @@ use Rattle.trace_replay.specs.declared.fault.ReplayFault.{ReplayFault}
 use Rattle.trace_replay.specs.declared.summary.Summary.{Summary}
 use Rattle.trace_replay.specs.Faults.{fault_of}
 use Rattle.trace_replay.specs.Items.{BadRecord, BadHeader, Done, Torn, items_limit}
-use Rattle.trace_replay.specs.ReplayState.{ReplayState, at_first, fits}
+use Rattle.trace_replay.specs.ReplayState.{ReplayState, at_first, item_fits}
 use Rattle.trace_replay.specs.Played.{played_from, output_of, summary_of}
 use Rattle.trace_replay.specs.Replayed.{Replayed, IsCounted}
 use Rattle.trace_replay.specs.inner.Laws.{StandsAt}
@@ -123,7 +123,7 @@ counts-filling reads reads' writes writes' FillFailed.OutOfMemory same read memo
 -- ---- a bad item at the front
 
 pub unfit-ends : (config : Configuration) (s : ReplayState) (n place : ℕ) (input : List ℕ) (item : TraceItem) (used : ℕ)
-    → 0 < n → read_item input ≡ Whole item used → fits config s item ≡ false → EndsBad config s n place input
+    → 0 < n → read_item input ≡ Whole item used → item_fits config s item ≡ false → EndsBad config s n place input
 unfit-ends config s zero place input item used some whole unfit = absurd (omega (arith, some))
 unfit-ends config s (suc n) place input item used some whole unfit =
     record { ends = λ more. play-unfit step config s n place input more item used [] whole unfit }

@@ -21,9 +21,9 @@ use Rattle.cmd_program.specs.Judging.{step, program, program_after}
 use Rattle.cmd_program.specs.Honest.{IsHonestReply}
 use Rattle.cmd_program.proofs.PublicLaws.{IsHonest, program-honest}
 use Rattle.trace_replay.specs.Items.{Placed, Ending, BadRecord, trace_of, items_limit}
-use Rattle.trace_replay.specs.ReplayState.{Pending, AddressedReply, ReplayState, Shortage, Nowhere, is_of, waiting, without, replied, goes_on, next_step, gone_on, begun, noted, acted, noted_act, did, ran, fits, has_no_room, outcome_of, at_first}
+use Rattle.trace_replay.specs.ReplayState.{Pending, AddressedReply, ReplayState, Shortage, Nowhere, is_of, waiting, without, replied, goes_on, next_step, gone_on, begun, noted, acted, noted_act, did, ran, item_fits, has_no_room, outcome_of, at_first}
 use Rattle.trace_replay.specs.ReplayState as state
-use Rattle.trace_replay.specs.Played.{played, played_after, play, shortage_for, shortages_behind, replies_that, is_busy}
+use Rattle.trace_replay.specs.Played.{played, played_after, play, shortage_for, shortages_behind, replies_that, is_busy_reply}
 use Rattle.trace_replay.proofs.ShownShortages.{none-behind}
 
 -- ---- programs that do not end BUSY
@@ -51,17 +51,17 @@ quiet-answered (Asks ask last go_on) unit act a q e k =
     quiet-of (go_on a) (q a (subst (λ x. HasKind x a) (sym same) k))
 quiet-answered (GivesUp last reply) unit act a q e k = q
 
-honest-busy : (reply : Reply) → IsHonestReply reply → is_busy reply ≡ false
+honest-busy : (reply : Reply) → IsHonestReply reply → is_busy_reply reply ≡ false
 honest-busy (Reply.Good bytes) h = refl
 honest-busy (Reply.Check sense) h = refl
 honest-busy Reply.Conflict h = refl
 honest-busy Reply.Busy h = absurd h
 honest-busy Reply.Full h = absurd h
 
-quiet-done : (p : Program) (reply : Reply) → IsQuiet p → next p ≡ Step.Done reply → is_busy reply ≡ false
-quiet-done (Ends ended) reply q e = let same : ended ≡ reply = cc in subst (λ r. is_busy r ≡ false) same (honest-busy ended q)
+quiet-done : (p : Program) (reply : Reply) → IsQuiet p → next p ≡ Step.Done reply → is_busy_reply reply ≡ false
+quiet-done (Ends ended) reply q e = let same : ended ≡ reply = cc in subst (λ r. is_busy_reply r ≡ false) same (honest-busy ended q)
 quiet-done (Asks ask last go_on) reply q e = cc
-quiet-done (GivesUp None ended) reply q e = let same : ended ≡ reply = cc in ap is_busy (sym same ∙ q)
+quiet-done (GivesUp None ended) reply q e = let same : ended ≡ reply = cc in ap is_busy_reply (sym same ∙ q)
 quiet-done (GivesUp (Some ask) ended) reply q e = cc
 
 -- ---- standings
@@ -72,7 +72,7 @@ its config p = program_after config p.request p.outcomes
 
 record Quiet (config : Configuration) (s : ReplayState) : Type 0 where
   waits : Each (λ (p : Pending). IsQuiet (its config p)) s.pending
-  said : Each (λ (r : AddressedReply). is_busy r.reply ≡ false) s.replies
+  said : Each (λ (r : AddressedReply). is_busy_reply r.reply ≡ false) s.replies
 
 others : (config : Configuration) (initiator : ℕ) (ps : List Pending) → Each (λ (p : Pending). IsQuiet (its config p)) ps → Each (λ (p : Pending). IsQuiet (its config p)) (without initiator ps)
 others config initiator ps all =
@@ -84,7 +84,7 @@ quiet-goes config s p quiet q = go (next_step step config p) refl
     go : (n : Step) → next_step step config p ≡ n → Quiet config (goes_on s p n)
     go (Step.Done reply) e = record {
       waits = others config p.initiator s.pending quiet.waits;
-      said = Each-append (λ (r : AddressedReply). is_busy r.reply ≡ false) s.replies _ quiet.said (quiet-done (its config p) reply q e, tt);
+      said = Each-append (λ (r : AddressedReply). is_busy_reply r.reply ≡ false) s.replies _ quiet.said (quiet-done (its config p) reply q e, tt);
     }
     go (Step.Do unit act) e = record {
       waits = Each-append (λ (p : Pending). IsQuiet (its config p)) (without p.initiator s.pending) _ (others config p.initiator s.pending quiet.waits) (q, tt);
@@ -117,7 +117,7 @@ quiet-ran config s initiator moment quiet = go (waiting initiator s.pending) ref
     go None e = quiet
     go (Some p) e = quiet-did config s moment p quiet (Each-in (λ (p : Pending). IsQuiet (its config p)) s.pending p quiet.waits (find-in (is_of initiator) s.pending p e))
 
-quiet-next : (config : Configuration) (s : ReplayState) (item : TraceItem) → Quiet config s → Quiet config (state.next step config s item (shortage_for item []))
+quiet-next : (config : Configuration) (s : ReplayState) (item : TraceItem) → Quiet config s → Quiet config (state.after_item step config s item (shortage_for item []))
 quiet-next config s (TraceItem.Begin initiator moment request) quiet =
     quiet-goes config (record s { items = s.items + 1 }) (record { initiator = initiator; request = request; outcomes = [] })
     (record { waits = quiet.waits; said = quiet.said }) (quiet-of (program config request) (program-honest config request))
@@ -127,27 +127,27 @@ quiet-next config s (TraceItem.Pump unit moment) quiet = record { waits = quiet.
 
 quiet-play : (config : Configuration) (s : ReplayState) (xs : List Placed) (ending : Ending) → Quiet config s → Quiet config (play step config s xs ending []).state
 quiet-play config s [] ending quiet = quiet
-quiet-play config s (x ∷ xs) ending quiet = go (fits config s x.item)
-    (subst (λ m. Quiet config (play step config (state.next step config s x.item (shortage_for x.item [])) xs ending m).state) (sym (none-behind x.item))
-    (quiet-play config (state.next step config s x.item (shortage_for x.item [])) xs ending (quiet-next config s x.item quiet)))
+quiet-play config s (x ∷ xs) ending quiet = go (item_fits config s x.item)
+    (subst (λ m. Quiet config (play step config (state.after_item step config s x.item (shortage_for x.item [])) xs ending m).state) (sym (none-behind x.item))
+    (quiet-play config (state.after_item step config s x.item (shortage_for x.item [])) xs ending (quiet-next config s x.item quiet)))
   where
-    go : (t : Bool) → Quiet config (play step config (state.next step config s x.item (shortage_for x.item [])) xs ending (shortages_behind x.item [])).state
-        → Quiet config (if t then play step config (state.next step config s x.item (shortage_for x.item [])) xs ending (shortages_behind x.item [])
+    go : (t : Bool) → Quiet config (play step config (state.after_item step config s x.item (shortage_for x.item [])) xs ending (shortages_behind x.item [])).state
+        → Quiet config (if t then play step config (state.after_item step config s x.item (shortage_for x.item [])) xs ending (shortages_behind x.item [])
         else record { state = s; ending = BadRecord x.place }).state
     go true later = later
     go false later = quiet
 
-none-busy : (rs : List AddressedReply) → Each (λ (r : AddressedReply). is_busy r.reply ≡ false) rs → count_by (λ (r : AddressedReply). is_busy r.reply) rs ≡ 0
+none-busy : (rs : List AddressedReply) → Each (λ (r : AddressedReply). is_busy_reply r.reply ≡ false) rs → count_by (λ (r : AddressedReply). is_busy_reply r.reply) rs ≡ 0
 none-busy [] all = refl
 none-busy (r ∷ rs) all =
-    sum_by-cons (λ (r : AddressedReply). cond (is_busy r.reply) 1 0) r rs
-    ∙ ap (λ t. cond t 1 0 + count_by (λ (r : AddressedReply). is_busy r.reply) rs) all.0
-    ∙ (let rest : count_by (λ (r : AddressedReply). is_busy r.reply) rs ≡ 0 = none-busy rs all.1 in omega (arith, rest))
+    sum_by-cons (λ (r : AddressedReply). cond (is_busy_reply r.reply) 1 0) r rs
+    ∙ ap (λ t. cond t 1 0 + count_by (λ (r : AddressedReply). is_busy_reply r.reply) rs) all.0
+    ∙ (let rest : count_by (λ (r : AddressedReply). is_busy_reply r.reply) rs ≡ 0 = none-busy rs all.1 in omega (arith, rest))
 
-pub quiet_law : (bytes : List ℕ) → replies_that is_busy (played step bytes []).state ≡ 0
+pub quiet_law : (bytes : List ℕ) → replies_that is_busy_reply (played step bytes []).state ≡ 0
 quiet_law bytes = go (read_header bytes)
   where
-    go : (p : Parsed Configuration) → replies_that is_busy (played_after step p bytes []).state ≡ 0
+    go : (p : Parsed Configuration) → replies_that is_busy_reply (played_after step p bytes []).state ≡ 0
     go Short = refl
     go (Bad place) = refl
     go (Whole config used) = none-busy (played_after step (Whole config used) bytes []).state.replies

@@ -11,7 +11,7 @@ use Rattle.cm_history.specs.declared.act.Actor.{Actor}
 use Rattle.cmd_program.specs.declared.step.Step.{Step}
 use Rattle.cmd_program.specs.Judging.{step}
 use Rattle.trace_replay.specs.Items.{Placed, Ending, BadRecord, trace_of, items_limit}
-use Rattle.trace_replay.specs.ReplayState.{Pending, ReplayState, Shortage, Nowhere, AtBegin, AtAct, AtStep, waiting, goes_on, next_step, gone_on, noted_at_step, acted, noted_act, did, ran, fits, at_first}
+use Rattle.trace_replay.specs.ReplayState.{Pending, ReplayState, Shortage, Nowhere, AtBegin, AtAct, AtStep, waiting, goes_on, next_step, gone_on, noted_at_step, acted, noted_act, did, ran, item_fits, at_first}
 use Rattle.trace_replay.specs.ReplayState as state
 use Rattle.trace_replay.specs.Played.{played, played_after, play, shortage_for, shortages_behind}
 use Rattle.trace_replay.specs.Ended.{Ended, ended_by, ended_now, ended_at_act, ended_at_run, ended_at, ended_in, ended_after, ended, reply_to}
@@ -21,7 +21,7 @@ said-by s p (Step.Done reply) = refl
 said-by s p (Step.Do unit act) = sym (append-nil s.replies)
 
 item-said : (config : Configuration) (s : ReplayState) (item : TraceItem) (shortage : Shortage)
-    → (state.next step config s item shortage).replies ≡ s.replies ++ map reply_to (ended_at step config s item shortage)
+    → (state.after_item step config s item shortage).replies ≡ s.replies ++ map reply_to (ended_at step config s item shortage)
 item-said config s (TraceItem.Begin initiator moment request) shortage = by shortage
   where
     says : (m : Shortage) → (gone_on step config (record s { items = s.items + 1 }) (record { initiator = initiator; request = request; outcomes = noted_at_step m })).replies
@@ -30,7 +30,7 @@ item-said config s (TraceItem.Begin initiator moment request) shortage = by shor
         said-by (record s { items = s.items + 1 }) (record { initiator = initiator; request = request; outcomes = noted_at_step m })
         (next_step step config (record { initiator = initiator; request = request; outcomes = noted_at_step m }))
 
-    by : (m : Shortage) → (state.next step config s (TraceItem.Begin initiator moment request) m).replies ≡ s.replies ++ map reply_to (ended_at step config s (TraceItem.Begin initiator moment request) m)
+    by : (m : Shortage) → (state.after_item step config s (TraceItem.Begin initiator moment request) m).replies ≡ s.replies ++ map reply_to (ended_at step config s (TraceItem.Begin initiator moment request) m)
     by AtBegin = refl
     by Nowhere = says Nowhere
     by AtAct = says AtAct
@@ -54,19 +54,19 @@ Says config s xs ending shortages = (play step config s xs ending shortages).sta
 play-said : (config : Configuration) (s : ReplayState) (xs : List Placed) (ending : Ending) (shortages : List Shortage) → Says config s xs ending shortages
 play-said config s [] ending shortages = sym (append-nil s.replies)
 play-said config s (x ∷ xs) ending shortages =
-    by (fits config s x.item) (play-said config (state.next step config s x.item (shortage_for x.item shortages)) xs ending (shortages_behind x.item shortages))
+    by (item_fits config s x.item) (play-said config (state.after_item step config s x.item (shortage_for x.item shortages)) xs ending (shortages_behind x.item shortages))
   where
     front : List Ended
     front = ended_at step config s x.item (shortage_for x.item shortages)
 
     behind : List Ended
-    behind = ended_in step config (state.next step config s x.item (shortage_for x.item shortages)) xs (shortages_behind x.item shortages)
+    behind = ended_in step config (state.after_item step config s x.item (shortage_for x.item shortages)) xs (shortages_behind x.item shortages)
 
-    by : (t : Bool) → Says config (state.next step config s x.item (shortage_for x.item shortages)) xs ending (shortages_behind x.item shortages)
-        → (if t then play step config (state.next step config s x.item (shortage_for x.item shortages)) xs ending (shortages_behind x.item shortages)
+    by : (t : Bool) → Says config (state.after_item step config s x.item (shortage_for x.item shortages)) xs ending (shortages_behind x.item shortages)
+        → (if t then play step config (state.after_item step config s x.item (shortage_for x.item shortages)) xs ending (shortages_behind x.item shortages)
         else record { state = s; ending = BadRecord x.place }).state.replies
         ≡ s.replies ++ map reply_to (if t then ended_at step config s x.item (shortage_for x.item shortages)
-        ++ ended_in step config (state.next step config s x.item (shortage_for x.item shortages)) xs (shortages_behind x.item shortages) else [])
+        ++ ended_in step config (state.after_item step config s x.item (shortage_for x.item shortages)) xs (shortages_behind x.item shortages) else [])
     by true later =
         later ∙ ap (λ l. l ++ map reply_to behind) (item-said config s x.item (shortage_for x.item shortages)) ∙ append_assoc s.replies (map reply_to front) (map reply_to behind)
         ∙ ap (λ l. s.replies ++ l) (sym (map-append reply_to front behind))

@@ -15,13 +15,13 @@ use Rattle.cmd_program.specs.declared.step.Step.{Step}
 use Rattle.cmd_program.specs.Stepping.{Stepping, gives_up, gave_up, is_no_memory}
 use Rattle.cmd_program.proofs.PublicLaws.{IsBusyAtEnd, EndsBusy}
 use Rattle.trace_replay.specs.ReplayState.{Pending, AddressedReply, ReplayState, is_of, waiting, without, noted, replied, goes_on, gone_on, next_step}
-use Rattle.trace_replay.specs.Played.{is_busy, replies_that}
+use Rattle.trace_replay.specs.Played.{is_busy_reply, replies_that}
 use Rattle.trace_replay.specs.Shortages.{met_want}
 use Rattle.cm_base.specs.declared.parsed.Parsed.{Parsed}
 use Rattle.cm_base.specs.declared.parsed.Parsed.TheVariants.{Whole, Short, Bad}
 use Rattle.cm_frame.specs.Reading.{read_header}
 use Rattle.trace_replay.specs.Items.{Ending, BadRecord, Placed, trace_of, items_limit}
-use Rattle.trace_replay.specs.ReplayState.{Shortage, Nowhere, AtBegin, AtAct, AtStep, acted, noted_act, begun, did, ran, changed, next, fits, outcome_of, outcomes_at, has_no_room, at_first}
+use Rattle.trace_replay.specs.ReplayState.{Shortage, Nowhere, AtBegin, AtAct, AtStep, acted, noted_act, begun, did, ran, changed, after_item, item_fits, outcome_of, outcomes_at, has_no_room, at_first}
 use Rattle.trace_replay.specs.Played.{played_after, play, shortage_for, shortages_behind}
 use Rattle.trace_replay.specs.Shortages.{is_no_shortage, allowed_at_act, allowed_at_run, is_allowed, are_allowed, allowed_after}
 use Rattle.trace_replay.proofs.LoopLaws.{ShortagesTell}
@@ -44,7 +44,7 @@ pub record Waits (s : ReplayState) : Type 0 where
   pub wanted : Wanted p
 
 abbrev pub HasBusy : ReplayState → Type 0
-HasBusy s = 0 < replies_that is_busy s
+HasBusy s = 0 < replies_that is_busy_reply s
 
 abbrev pub Shows : ReplayState → Type 0
 Shows s = HasBusy s ⊎ Waits s
@@ -77,16 +77,16 @@ find-any i f (x ∷ xs) p e h = go (is_of i x) e (λ k. find-any i f xs p k h)
 shows-want : (s : ReplayState) → Shows s → met_want s ≡ true
 shows-want s (inl busy) = ap (λ b. b || list_any (λ (p : Pending). list_any is_no_memory p.outcomes) s.pending) (lt-ltb 0 _ busy)
 shows-want s (inr w) =
-    ap (λ b. nat_lt 0 (replies_that is_busy s) || b) (find-any w.p.initiator (λ (p : Pending). list_any is_no_memory p.outcomes) s.pending w.p w.there (wanted-any w.p w.wanted))
-    ∙ or-true (nat_lt 0 (replies_that is_busy s))
+    ap (λ b. nat_lt 0 (replies_that is_busy_reply s) || b) (find-any w.p.initiator (λ (p : Pending). list_any is_no_memory p.outcomes) s.pending w.p w.there (wanted-any w.p w.wanted))
+    ∙ or-true (nat_lt 0 (replies_that is_busy_reply s))
 
-busy-count : (xs ys : List AddressedReply) → count_by (λ (r : AddressedReply). is_busy r.reply) xs ≤ count_by (λ (r : AddressedReply). is_busy r.reply) (xs ++ ys)
-busy-count xs ys = omega (arith, sum_by-append (λ (r : AddressedReply). cond (is_busy r.reply) 1 0) xs ys)
+busy-count : (xs ys : List AddressedReply) → count_by (λ (r : AddressedReply). is_busy_reply r.reply) xs ≤ count_by (λ (r : AddressedReply). is_busy_reply r.reply) (xs ++ ys)
+busy-count xs ys = omega (arith, sum_by-append (λ (r : AddressedReply). cond (is_busy_reply r.reply) 1 0) xs ys)
 
 pub busy-follows : (s t : ReplayState) → Follows s t → HasBusy s → HasBusy t
 busy-follows s t f busy =
-    let more : 0 < count_by (λ (r : AddressedReply). is_busy r.reply) (s.replies ++ f.more) = omega (arith, busy-count s.replies f.more, busy) in
-    subst (λ rs. 0 < count_by (λ (r : AddressedReply). is_busy r.reply) rs) f.is more
+    let more : 0 < count_by (λ (r : AddressedReply). is_busy_reply r.reply) (s.replies ++ f.more) = omega (arith, busy-count s.replies f.more, busy) in
+    subst (λ rs. 0 < count_by (λ (r : AddressedReply). is_busy_reply r.reply) rs) f.is more
 
 -- ---- who waits
 
@@ -136,8 +136,8 @@ wanted-more p more w = record {
 
 replied-busy : (s : ReplayState) (i : ℕ) (reply : Reply) → reply ≡ Reply.Busy → HasBusy (replied s i reply)
 replied-busy s i reply e =
-    let last : cond {A = ℕ} (is_busy reply) 1 0 ≡ 1 = ap (λ r. cond {A = ℕ} (is_busy r) 1 0) e in
-    omega (arith, last, sum_by-append (λ (r : AddressedReply). cond (is_busy r.reply) 1 0) s.replies ((record { initiator = i; reply = reply }) ∷ []))
+    let last : cond {A = ℕ} (is_busy_reply reply) 1 0 ≡ 1 = ap (λ r. cond {A = ℕ} (is_busy_reply r) 1 0) e in
+    omega (arith, last, sum_by-append (λ (r : AddressedReply). cond (is_busy_reply r.reply) 1 0) s.replies ((record { initiator = i; reply = reply }) ∷ []))
 
 goes_on-shows : (s : ReplayState) (p : Pending) (next : Step) → Wanted p → IsBusyAtEnd next → Shows (goes_on s p next)
 goes_on-shows s p (Step.Done reply) w busy = inl (replied-busy s p.initiator reply busy)
@@ -197,7 +197,7 @@ ran-shows step ends config s j moment shortage w = go (cases_eq w.p.initiator j)
         subst (λ found. Shows (ran step config s moment shortage found)) (sym mine) (did-shows step ends config s moment shortage (next_step step config w.p) w)
     go (inr other) = others other (waiting j s.pending) refl
 
-changed-shows : (step : Stepping) → EndsBusy step → (config : Configuration) (s : ReplayState) (item : TraceItem) (shortage : Shortage) → fits config s item ≡ true
+changed-shows : (step : Stepping) → EndsBusy step → (config : Configuration) (s : ReplayState) (item : TraceItem) (shortage : Shortage) → item_fits config s item ≡ true
     → Waits s → Shows (changed step config s item shortage)
 changed-shows step ends config s (TraceItem.Begin j moment request) shortage fit w =
     inr (begun-beside step config s j request shortage w (λ same.
@@ -207,13 +207,13 @@ changed-shows step ends config s (TraceItem.Begin j moment request) shortage fit
 changed-shows step ends config s (TraceItem.Run j moment) shortage fit w = ran-shows step ends config s j moment shortage w
 changed-shows step ends config s (TraceItem.Pump unit moment) shortage fit w = inr (record { p = w.p; there = w.there; wanted = w.wanted })
 
-next-shows : (step : Stepping) → EndsBusy step → (config : Configuration) (s : ReplayState) (item : TraceItem) (shortage : Shortage) → fits config s item ≡ true
-    → Shows s → Shows (next step config s item shortage)
-next-shows step ends config s item shortage fit (inl busy) = inl (busy-follows s (next step config s item shortage) (next-follows step config s item shortage) busy)
+next-shows : (step : Stepping) → EndsBusy step → (config : Configuration) (s : ReplayState) (item : TraceItem) (shortage : Shortage) → item_fits config s item ≡ true
+    → Shows s → Shows (after_item step config s item shortage)
+next-shows step ends config s item shortage fit (inl busy) = inl (busy-follows s (after_item step config s item shortage) (next-follows step config s item shortage) busy)
 next-shows step ends config s item shortage fit (inr w) =
     changed-shows step ends config (record s { items = s.items + 1 }) item shortage (counted item fit) (record { p = w.p; there = w.there; wanted = w.wanted })
   where
-    counted : (x : TraceItem) → fits config s x ≡ true → fits config (record s { items = s.items + 1 }) x ≡ true
+    counted : (x : TraceItem) → item_fits config s x ≡ true → item_fits config (record s { items = s.items + 1 }) x ≡ true
     counted (TraceItem.Begin i m r) f = f
     counted (TraceItem.Run i m) f = f
     counted (TraceItem.Pump u m) f = f
@@ -222,11 +222,11 @@ pub play-shows : (step : Stepping) → EndsBusy step → (config : Configuration
     → Shows s → Shows (play step config s xs ending shortages).state
 play-shows step ends config s [] ending shortages shows = shows
 play-shows step ends config s (x ∷ xs) ending shortages shows =
-    go (fits config s x.item) (λ fit. play-shows step ends config (next step config s x.item (shortage_for x.item shortages)) xs ending (shortages_behind x.item shortages)
+    go (item_fits config s x.item) (λ fit. play-shows step ends config (after_item step config s x.item (shortage_for x.item shortages)) xs ending (shortages_behind x.item shortages)
     (next-shows step ends config s x.item (shortage_for x.item shortages) fit shows))
   where
-    go : (t : Bool) → (t ≡ true → Shows (play step config (next step config s x.item (shortage_for x.item shortages)) xs ending (shortages_behind x.item shortages)).state)
-        → Shows (cond t (play step config (next step config s x.item (shortage_for x.item shortages)) xs ending (shortages_behind x.item shortages))
+    go : (t : Bool) → (t ≡ true → Shows (play step config (after_item step config s x.item (shortage_for x.item shortages)) xs ending (shortages_behind x.item shortages)).state)
+        → Shows (cond t (play step config (after_item step config s x.item (shortage_for x.item shortages)) xs ending (shortages_behind x.item shortages))
         (record { state = s; ending = BadRecord x.place })).state
     go true later = later refl
     go false later = shows
@@ -281,8 +281,8 @@ ran-short step ends config s j moment shortage (Some p) there may some = go (gav
     go false e m = did-short step ends config s moment p shortage (next_step step config p) e m some
 
 next-short : (step : Stepping) → EndsBusy step → (config : Configuration) (s : ReplayState) (item : TraceItem) (shortages : List Shortage)
-    → fits config s item ≡ true → is_allowed step config s item (shortage_for item shortages) ≡ true → is_no_shortage (shortage_for item shortages) ≡ false
-    → Shows (next step config s item (shortage_for item shortages))
+    → item_fits config s item ≡ true → is_allowed step config s item (shortage_for item shortages) ≡ true → is_no_shortage (shortage_for item shortages) ≡ false
+    → Shows (after_item step config s item (shortage_for item shortages))
 next-short step ends config s (TraceItem.Begin j m request) shortages fit may some =
     begun-shows step ends config (record s { items = s.items + 1 }) j m request (shortage_for (TraceItem.Begin j m request) shortages)
     (go (shortage_for (TraceItem.Begin j m request) shortages) may) some
@@ -335,32 +335,32 @@ pub play-tells : (step : Stepping) → EndsBusy step → (config : Configuration
     → are_allowed step config s xs shortages ≡ true → Tells step config s xs ending shortages
 play-tells step ends config s [] ending shortages may = inl refl
 play-tells step ends config s (x ∷ xs) ending shortages may =
-    go (fits config s x.item) refl may (is_no_shortage (shortage_for x.item shortages)) refl
-    (λ m. play-tells step ends config (next step config s x.item (shortage_for x.item shortages)) xs ending (shortages_behind x.item shortages) m)
+    go (item_fits config s x.item) refl may (is_no_shortage (shortage_for x.item shortages)) refl
+    (λ m. play-tells step ends config (after_item step config s x.item (shortage_for x.item shortages)) xs ending (shortages_behind x.item shortages) m)
   where
-    go : (t : Bool) → fits config s x.item ≡ t
+    go : (t : Bool) → item_fits config s x.item ≡ t
         → cond t (is_allowed step config s x.item (shortage_for x.item shortages)
-        && are_allowed step config (next step config s x.item (shortage_for x.item shortages)) xs (shortages_behind x.item shortages)) true ≡ true
+        && are_allowed step config (after_item step config s x.item (shortage_for x.item shortages)) xs (shortages_behind x.item shortages)) true ≡ true
         → (u : Bool) → is_no_shortage (shortage_for x.item shortages) ≡ u
-        → (are_allowed step config (next step config s x.item (shortage_for x.item shortages)) xs (shortages_behind x.item shortages) ≡ true
-        → Tells step config (next step config s x.item (shortage_for x.item shortages)) xs ending (shortages_behind x.item shortages))
-        → (cond t (play step config (next step config s x.item (shortage_for x.item shortages)) xs ending (shortages_behind x.item shortages)) (record { state = s; ending = BadRecord x.place })
-        ≡ cond t (play step config (next step config s x.item (shortage_for x.item [])) xs ending (shortages_behind x.item [])) (record { state = s; ending = BadRecord x.place }))
-        ⊎ Shows (cond t (play step config (next step config s x.item (shortage_for x.item shortages)) xs ending (shortages_behind x.item shortages)) (record { state = s; ending = BadRecord x.place })).state
+        → (are_allowed step config (after_item step config s x.item (shortage_for x.item shortages)) xs (shortages_behind x.item shortages) ≡ true
+        → Tells step config (after_item step config s x.item (shortage_for x.item shortages)) xs ending (shortages_behind x.item shortages))
+        → (cond t (play step config (after_item step config s x.item (shortage_for x.item shortages)) xs ending (shortages_behind x.item shortages)) (record { state = s; ending = BadRecord x.place })
+        ≡ cond t (play step config (after_item step config s x.item (shortage_for x.item [])) xs ending (shortages_behind x.item [])) (record { state = s; ending = BadRecord x.place }))
+        ⊎ Shows (cond t (play step config (after_item step config s x.item (shortage_for x.item shortages)) xs ending (shortages_behind x.item shortages)) (record { state = s; ending = BadRecord x.place })).state
     go false fit m u none later = inl refl
     go true fit m false some later =
-        inr (play-shows step ends config (next step config s x.item (shortage_for x.item shortages)) xs ending (shortages_behind x.item shortages)
+        inr (play-shows step ends config (after_item step config s x.item (shortage_for x.item shortages)) xs ending (shortages_behind x.item shortages)
         (next-short step ends config s x.item shortages fit (both-true _ _ m).0 some))
     go true fit m true none later = same (later (both-true _ _ m).1)
       where
-        same : Tells step config (next step config s x.item (shortage_for x.item shortages)) xs ending (shortages_behind x.item shortages)
-            → (play step config (next step config s x.item (shortage_for x.item shortages)) xs ending (shortages_behind x.item shortages)
-            ≡ play step config (next step config s x.item (shortage_for x.item [])) xs ending (shortages_behind x.item []))
-            ⊎ Shows (play step config (next step config s x.item (shortage_for x.item shortages)) xs ending (shortages_behind x.item shortages)).state
+        same : Tells step config (after_item step config s x.item (shortage_for x.item shortages)) xs ending (shortages_behind x.item shortages)
+            → (play step config (after_item step config s x.item (shortage_for x.item shortages)) xs ending (shortages_behind x.item shortages)
+            ≡ play step config (after_item step config s x.item (shortage_for x.item [])) xs ending (shortages_behind x.item []))
+            ⊎ Shows (play step config (after_item step config s x.item (shortage_for x.item shortages)) xs ending (shortages_behind x.item shortages)).state
         same (inr shows) = inr shows
         same (inl e) = inl (e
-            ∙ ap (λ shortage. play step config (next step config s x.item shortage) xs ending []) (no-shortage-then x.item shortages none)
-            ∙ ap (play step config (next step config s x.item (shortage_for x.item [])) xs ending) (sym (none-behind x.item)))
+            ∙ ap (λ shortage. play step config (after_item step config s x.item shortage) xs ending []) (no-shortage-then x.item shortages none)
+            ∙ ap (play step config (after_item step config s x.item (shortage_for x.item [])) xs ending) (sym (none-behind x.item)))
 
 pub shortages-tell : (step : Stepping) → EndsBusy step → ShortagesTell step
 shortages-tell step ends bytes shortages may = go (read_header bytes) may

@@ -9,7 +9,7 @@ use Rattle.cm_frame.specs.Laws.{IsJudged}
 use Rattle.cm_frame.proofs.PublicLaws.{item-stays, header-stays, UsesWithin, item-within, header-within}
 use Rattle.cmd_program.specs.Stepping.{Stepping}
 use Rattle.trace_replay.specs.Items.{Done, Torn, BadRecord, Records, Trace, with_item, led_by, trace_of, items_limit}
-use Rattle.trace_replay.specs.ReplayState.{ReplayState, Shortage, next, fits, at_first}
+use Rattle.trace_replay.specs.ReplayState.{ReplayState, Shortage, after_item, item_fits, at_first}
 use Rattle.trace_replay.specs.Played.{played, played_after, played_from, play, shortage_for, shortages_behind}
 use Rattle.trace_replay.specs.Shortages.{is_allowed, are_allowed, may_lack, may_lack_from, allowed_after}
 use Rattle.trace_replay.specs.inner.Laws.{HasHeader}
@@ -37,23 +37,23 @@ trace-step n place (b ∷ bs) more item used e =
     ∙ ap (λ rest. with_item place item (trace_of n (place + used) rest)) (drop-append-le used (b ∷ bs) more (used-within (b ∷ bs) item used e))
 
 pub play-step : (step : Stepping) (config : Configuration) (s : ReplayState) (n place : ℕ) (bytes more : List ℕ) (item : TraceItem) (used : ℕ) (shortages : List Shortage)
-    → read_item bytes ≡ Whole item used → fits config s item ≡ true
+    → read_item bytes ≡ Whole item used → item_fits config s item ≡ true
     → played_from step config s (suc n) place (bytes ++ more) shortages
-    ≡ played_from step config (next step config s item (shortage_for item shortages)) n (place + used) (drop used bytes ++ more) (shortages_behind item shortages)
+    ≡ played_from step config (after_item step config s item (shortage_for item shortages)) n (place + used) (drop used bytes ++ more) (shortages_behind item shortages)
 play-step step config s n place bytes more item used shortages e fit =
     ap (λ (t : Trace). play step config s t.items t.ending shortages) (trace-step n place bytes more item used e) ∙ rw fit refl
 
 pub may-step : (step : Stepping) (config : Configuration) (s : ReplayState) (n place : ℕ) (bytes more : List ℕ) (item : TraceItem) (used : ℕ) (shortages : List Shortage)
-    → read_item bytes ≡ Whole item used → fits config s item ≡ true → is_allowed step config s item (shortage_for item shortages) ≡ true
+    → read_item bytes ≡ Whole item used → item_fits config s item ≡ true → is_allowed step config s item (shortage_for item shortages) ≡ true
     → may_lack_from step config s (suc n) place (bytes ++ more) shortages
-    ≡ may_lack_from step config (next step config s item (shortage_for item shortages)) n (place + used) (drop used bytes ++ more) (shortages_behind item shortages)
+    ≡ may_lack_from step config (after_item step config s item (shortage_for item shortages)) n (place + used) (drop used bytes ++ more) (shortages_behind item shortages)
 may-step step config s n place bytes more item used shortages e fit may =
     ap (λ (t : Trace). are_allowed step config s t.items shortages) (trace-step n place bytes more item used e) ∙ rw (fit, may) refl
 
 -- ---- where it ends
 
 pub play-unfit : (step : Stepping) (config : Configuration) (s : ReplayState) (n place : ℕ) (bytes more : List ℕ) (item : TraceItem) (used : ℕ) (shortages : List Shortage)
-    → read_item bytes ≡ Whole item used → fits config s item ≡ false
+    → read_item bytes ≡ Whole item used → item_fits config s item ≡ false
     → played_from step config s (suc n) place (bytes ++ more) shortages ≡ record { state = s; ending = BadRecord place }
 play-unfit step config s n place bytes more item used shortages e unfit =
     ap (λ (t : Trace). play step config s t.items t.ending shortages) (trace-step n place bytes more item used e) ∙ rw unfit refl
@@ -136,18 +136,18 @@ steps step config pulled shortages s n place buffered item used shortage stands 
       ∙ ap (played step (stands.front ++ (its ++ more))) (append_assoc shortages (shortages_of item shortage) later)
       ∙ stands.plays (its ++ more) (shortages_of item shortage ++ later)
       ∙ play-step step config s n place its more item used (shortages_of item shortage ++ later) alone fit
-      ∙ ap (λ l. played_from step config (next step config s item (shortage_for item (shortages_of item shortage ++ later))) n (place + used) l (shortages_behind item (shortages_of item shortage ++ later))) (behind more)
-      ∙ ap (λ m. played_from step config (next step config s item m) n (place + used) more (shortages_behind item (shortages_of item shortage ++ later))) (shortage-first item shortage later)
-      ∙ ap (played_from step config (next step config s item (shortage_for item (shortage ∷ []))) n (place + used) more) (shortage-behind item shortage later);
+      ∙ ap (λ l. played_from step config (after_item step config s item (shortage_for item (shortages_of item shortage ++ later))) n (place + used) l (shortages_behind item (shortages_of item shortage ++ later))) (behind more)
+      ∙ ap (λ m. played_from step config (after_item step config s item m) n (place + used) more (shortages_behind item (shortages_of item shortage ++ later))) (shortage-first item shortage later)
+      ∙ ap (played_from step config (after_item step config s item (shortage_for item (shortage ∷ []))) n (place + used) more) (shortage-behind item shortage later);
   may = λ more later.
       ap (λ l. may_lack step l ((shortages ++ shortages_of item shortage) ++ later)) (append_assoc stands.front its more)
       ∙ ap (may_lack step (stands.front ++ (its ++ more))) (append_assoc shortages (shortages_of item shortage) later)
       ∙ stands.may (its ++ more) (shortages_of item shortage ++ later)
       ∙ may-step step config s n place its more item used (shortages_of item shortage ++ later) alone fit
       (ap (is_allowed step config s item) (shortage-first item shortage later) ∙ may)
-      ∙ ap (λ l. may_lack_from step config (next step config s item (shortage_for item (shortages_of item shortage ++ later))) n (place + used) l (shortages_behind item (shortages_of item shortage ++ later))) (behind more)
-      ∙ ap (λ m. may_lack_from step config (next step config s item m) n (place + used) more (shortages_behind item (shortages_of item shortage ++ later))) (shortage-first item shortage later)
-      ∙ ap (may_lack_from step config (next step config s item (shortage_for item (shortage ∷ []))) n (place + used) more) (shortage-behind item shortage later);
+      ∙ ap (λ l. may_lack_from step config (after_item step config s item (shortage_for item (shortages_of item shortage ++ later))) n (place + used) l (shortages_behind item (shortages_of item shortage ++ later))) (behind more)
+      ∙ ap (λ m. may_lack_from step config (after_item step config s item m) n (place + used) more (shortages_behind item (shortages_of item shortage ++ later))) (shortage-first item shortage later)
+      ∙ ap (may_lack_from step config (after_item step config s item (shortage_for item (shortage ∷ []))) n (place + used) more) (shortage-behind item shortage later);
 }
   where
     its : List ℕ

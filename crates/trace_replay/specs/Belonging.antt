@@ -8,7 +8,7 @@ use Rattle.cm_frame.specs.declared.item.TraceItem.{TraceItem}
 use Rattle.cm_frame.specs.Reading.{read_header}
 use Rattle.cmd_program.specs.Stepping.{Stepping, wanted_memory}
 use Rattle.trace_replay.specs.Items.{Ending, Placed, trace_of, items_limit}
-use Rattle.trace_replay.specs.ReplayState.{Pending, ReplayState, Shortage, at_first, waiting, next, fits}
+use Rattle.trace_replay.specs.ReplayState.{Pending, ReplayState, Shortage, at_first, waiting, after_item, item_fits}
 use Rattle.trace_replay.specs.Played.{play, shortage_for, shortages_behind}
 use Rattle.trace_replay.specs.Ended.{Ended, ended_in}
 use Rattle.trace_replay.specs.Shortages.{is_no_shortage}
@@ -36,9 +36,9 @@ IsShown (TraceItem.Pump unit moment) shortage ended s = Unit {0}
 -- each item up to the first that does not fit, by what ends from it on and by how things stand at the end
 abbrev pub AreShown : Stepping → Configuration → ReplayState → List Placed → Ending → List Shortage → Type 0
 AreShown step config s [] ending shortages = Unit {0}
-AreShown step config s (x ∷ xs) ending shortages = fits config s x.item ≡ true
+AreShown step config s (x ∷ xs) ending shortages = item_fits config s x.item ≡ true
     → IsShown x.item (shortage_for x.item shortages) (ended_in step config s (x ∷ xs) shortages) (play step config s (x ∷ xs) ending shortages).state
-    × AreShown step config (next step config s x.item (shortage_for x.item shortages)) xs ending (shortages_behind x.item shortages)
+    × AreShown step config (after_item step config s x.item (shortage_for x.item shortages)) xs ending (shortages_behind x.item shortages)
 
 -- behind a header that is torn or bad there is no item
 abbrev pub AreShownAfter : Stepping → Parsed Configuration → List ℕ → List Shortage → Type 0

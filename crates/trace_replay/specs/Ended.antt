@@ -12,7 +12,7 @@ use Rattle.cmd_program.specs.declared.step.Step.{Step}
 use Rattle.cmd_program.specs.Stepping.{Stepping}
 use Rattle.cmd_program.specs.WriteEnds.{IsWriteNow, EndsAsPromised}
 use Rattle.trace_replay.specs.Items.{Placed, trace_of, items_limit}
-use Rattle.trace_replay.specs.ReplayState.{Pending, AddressedReply, ReplayState, Shortage, AtBegin, at_first, waiting, next_step, next, fits, noted_at_step, noted_act}
+use Rattle.trace_replay.specs.ReplayState.{Pending, AddressedReply, ReplayState, Shortage, AtBegin, at_first, waiting, next_step, after_item, item_fits, noted_at_step, noted_act}
 use Rattle.trace_replay.specs.Played.{shortage_for, shortages_behind}
 
 -- a command with the outcomes of all its acts, and its reply
@@ -58,9 +58,9 @@ ended_at step config s (TraceItem.Pump unit moment) shortage = []
 abbrev pub ended_in : Stepping → Configuration → ReplayState → List Placed → List Shortage → List Ended
 ended_in step config s [] shortages = []
 ended_in step config s (x ∷ xs) shortages =
-    if fits config s x.item
+    if item_fits config s x.item
     then ended_at step config s x.item (shortage_for x.item shortages)
-    ++ ended_in step config (next step config s x.item (shortage_for x.item shortages)) xs (shortages_behind x.item shortages)
+    ++ ended_in step config (after_item step config s x.item (shortage_for x.item shortages)) xs (shortages_behind x.item shortages)
     else []
 
 -- behind a header that is torn or bad no command ends

@@ -11,7 +11,7 @@ use Rattle.cm_frame.specs.Reading.{read_header}
 use Rattle.cmd_program.specs.Stepping.{Stepping}
 use Rattle.trace_replay.specs.declared.summary.Summary.{Summary}
 use Rattle.trace_replay.specs.Items.{Ending, Torn, BadHeader, BadRecord, Placed, trace_of, items_limit}
-use Rattle.trace_replay.specs.ReplayState.{ReplayState, AddressedReply, Shortage, Nowhere, at_first, next, fits}
+use Rattle.trace_replay.specs.ReplayState.{ReplayState, AddressedReply, Shortage, Nowhere, at_first, after_item, item_fits}
 
 -- how things stand at the end, and why it is the end
 pub record Played : Type 0 where
@@ -42,8 +42,8 @@ shortages_behind item shortages = later_marks shortages
 abbrev pub play : Stepping → Configuration → ReplayState → List Placed → Ending → List Shortage → Played
 play step config s [] ending shortages = record { state = s; ending = ending }
 play step config s (x ∷ xs) ending shortages =
-    if fits config s x.item
-    then play step config (next step config s x.item (shortage_for x.item shortages)) xs ending (shortages_behind x.item shortages)
+    if item_fits config s x.item
+    then play step config (after_item step config s x.item (shortage_for x.item shortages)) xs ending (shortages_behind x.item shortages)
     else record { state = s; ending = BadRecord x.place }
 
 -- bytes that stand at a place, where `n` more items are allowed
@@ -86,9 +86,9 @@ is_check (Reply.Check sense) = true
 is_check _ = false
 
 -- the reply is BUSY
-abbrev pub is_busy : Reply → Bool
-is_busy Reply.Busy = true
-is_busy _ = false
+abbrev pub is_busy_reply : Reply → Bool
+is_busy_reply Reply.Busy = true
+is_busy_reply _ = false
 
 -- the reply is TASK SET FULL
 abbrev pub is_task_set_full : Reply → Bool
@@ -106,7 +106,7 @@ summary_of s = record {
   replies = length s.replies;
   good = replies_that is_good s;
   check = replies_that is_check s;
-  busy = replies_that is_busy s;
+  busy = replies_that is_busy_reply s;
   full = replies_that is_task_set_full s;
   steps = length s.entries;
   bytes = length (output_of s);

@@ -165,11 +165,11 @@ changed step config s (TraceItem.Pump unit moment) shortage =
     record s { entries = entries_after config s.entries (Actor.Pump unit) unit moment Act.Pump }
 
 -- after one more item
-abbrev pub next : Stepping → Configuration → ReplayState → TraceItem → Shortage → ReplayState
-next step config s item shortage = changed step config (record s { items = s.items + 1 }) item shortage
+abbrev pub after_item : Stepping → Configuration → ReplayState → TraceItem → Shortage → ReplayState
+after_item step config s item shortage = changed step config (record s { items = s.items + 1 }) item shortage
 
 -- A Begin fits where no command of its initiator waits, a Run where one does, and a Pump where its unit is there.
-abbrev pub fits : Configuration → ReplayState → TraceItem → Bool
-fits config s (TraceItem.Begin initiator moment request) = not (is_some (waiting initiator s.pending))
-fits config s (TraceItem.Run initiator moment) = is_some (waiting initiator s.pending)
-fits config s (TraceItem.Pump unit moment) = nat_lt unit (length config.units)
+abbrev pub item_fits : Configuration → ReplayState → TraceItem → Bool
+item_fits config s (TraceItem.Begin initiator moment request) = not (is_some (waiting initiator s.pending))
+item_fits config s (TraceItem.Run initiator moment) = is_some (waiting initiator s.pending)
+item_fits config s (TraceItem.Pump unit moment) = nat_lt unit (length config.units)

@@ -14,8 +14,8 @@ use Rattle.cmd_program.specs.declared.step.Outcome.{Outcome}
 use Rattle.cmd_program.specs.declared.step.Step.{Step}
 use Rattle.cmd_program.specs.Stepping.{Stepping, gave_up, wanted_memory}
 use Rattle.trace_replay.specs.Items.{Placed, trace_of, items_limit}
-use Rattle.trace_replay.specs.ReplayState.{Pending, ReplayState, Shortage, Nowhere, AtBegin, AtAct, AtStep, at_first, waiting, has_no_room, next_step, next, fits}
-use Rattle.trace_replay.specs.Played.{shortage_for, shortages_behind, is_busy, replies_that}
+use Rattle.trace_replay.specs.ReplayState.{Pending, ReplayState, Shortage, Nowhere, AtBegin, AtAct, AtStep, at_first, waiting, has_no_room, next_step, after_item, item_fits}
+use Rattle.trace_replay.specs.Played.{shortage_for, shortages_behind, is_busy_reply, replies_that}
 
 -- the shortage says nothing
 abbrev pub is_no_shortage : Shortage → Bool
@@ -47,9 +47,9 @@ is_allowed step config s (TraceItem.Pump unit moment) shortage = true
 abbrev pub are_allowed : Stepping → Configuration → ReplayState → List Placed → List Shortage → Bool
 are_allowed step config s [] shortages = true
 are_allowed step config s (x ∷ xs) shortages =
-    if fits config s x.item
+    if item_fits config s x.item
     then is_allowed step config s x.item (shortage_for x.item shortages)
-    && are_allowed step config (next step config s x.item (shortage_for x.item shortages)) xs (shortages_behind x.item shortages)
+    && are_allowed step config (after_item step config s x.item (shortage_for x.item shortages)) xs (shortages_behind x.item shortages)
     else true
 
 -- bytes that stand at a place, where `n` more items are allowed
@@ -69,4 +69,4 @@ may_lack step bytes shortages = allowed_after step (read_header bytes) bytes sho
 
 -- a reply is BUSY, or a command that still waits met want of memory
 abbrev pub met_want : ReplayState → Bool
-met_want s = nat_lt 0 (replies_that is_busy s) || list_any (λ (p : Pending). wanted_memory p.outcomes) s.pending
+met_want s = nat_lt 0 (replies_that is_busy_reply s) || list_any (λ (p : Pending). wanted_memory p.outcomes) s.pending

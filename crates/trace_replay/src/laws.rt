@@ -5,7 +5,7 @@ ghost use Rattle.cm_base.specs.declared.parsed.Parsed.TheVariants.{Whole};
 ghost use Rattle.cm_frame.specs.Reading.{read_header};
 ghost use Rattle.cmd_program.specs.Judging.{step};
 ghost use Rattle.trace_replay.specs.ReplayState.{Shortage};
-ghost use Rattle.trace_replay.specs.Played.{played, replies_that, is_busy};
+ghost use Rattle.trace_replay.specs.Played.{played, replies_that, is_busy_reply};
 ghost use Rattle.trace_replay.specs.Replayed.{IsHistory};
 ghost use Rattle.trace_replay.specs.Shortages.{may_lack};
 ghost use Rattle.trace_replay.specs.Belonging.{RefusalsAreShown};
@@ -15,7 +15,7 @@ use cm_frame::one_spelling_law;
 
 /// A trace that is played where memory is never refused has no reply BUSY.
 pub fn quiet_law()
-    ensures { (bytes : List ℕ) → replies_that is_busy (played step bytes []).state ≡ 0 }
+    ensures { (bytes : List ℕ) → replies_that is_busy_reply (played step bytes []).state ≡ 0 }
 {}
 
 /// What is played of any bytes, wherever memory is refused, is one legal history.

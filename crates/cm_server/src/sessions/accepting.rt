@@ -1,6 +1,7 @@
 // Connections are accepted, and a session of each is begun.
-ghost use Rattle.std.specs.Prelude.{◌≡◌, ◌≤◌, ◌<◌, ◌+◌, [], ℕ, List, suc, length, option_map, Option, None, IfOk, IfErr, IfSome, IfNone, ◌≢◌, true};
+ghost use Rattle.std.specs.Prelude.{◌≡◌, ◌≤◌, ◌<◌, ◌+◌, [], ℕ, List, suc, length, option_map, Option, None, IfOk, IfErr, IfSome, IfNone, ◌≢◌, true, OnErr};
 ghost use Rattle.cm_base.specs.Listening.{Gone};
+ghost use Rattle.cm_history.specs.declared.act.Actor.{Actor};
 ghost use Rattle.cm_server.specs.declared.sessions.accepting.AcceptEnd.{AcceptEnd};
 ghost use Rattle.cm_server.specs.declared.term.Term.{Term};
 ghost use Rattle.cm_server.specs.inner.Begun.{GoesOn, HasBegun, HasCome, HasFailed, IsBegun, SoFar, WereBegun};
@@ -8,6 +9,8 @@ ghost use Rattle.cm_server.specs.inner.Counting.{AreCounts};
 ghost use Rattle.cm_server.specs.inner.Links.{AreOut, StayOut, in_hand, link_state};
 ghost use Rattle.cm_server.specs.inner.Passes.{IsReady};
 ghost use Rattle.cm_server.specs.inner.Sessions.{Start};
+ghost use Rattle.nexus.specs.Roots.{IsRootOf, WasMade};
+ghost use Rattle.nexus.specs.Worlds.{IsFreePass};
 
 use crate::report::counts::SessionCounts;
 use crate::sessions::beginning::{Begun, begin};
@@ -16,7 +19,7 @@ use crate::sessions::meet::Meet;
 use crate::sessions::places::{Placed, Places};
 use crate::shared::Shared;
 use cm_base::{AcceptFailed, Clock, Link, Listener, OutOfMemory};
-use nexus::Root;
+use nexus::{Pass, Root};
 use recorder::Recorder;
 use std::sync::Wait;
 use std::thread::{Scope, Threads};
@@ -94,7 +97,32 @@ fn free_place<
     unreachable!()
 }
 
-/// Accepts a connection and begins a session of it.
+/// A pass for one more session, behind so many. At an open term it waits, where memory is wanted, for sessions that are
+/// open to end. `OutOfMemory` leaves the root as it was.
+fn next_pass<R: Recorder + Drop, C: Clock + Drop, G: Meet, W: Wait>(
+    shared: &Shared<'_, R, C, G, W>,
+    root: &mut Root<R>,
+    begun: u32,
+) -> Result<Pass<R>, OutOfMemory>
+    requires root { IsRootOf shared.now.world root.old }
+    requires few { root.old.made < 4_294_967_295 }
+    ensures made { IfOk result (λ p. WasMade root.old root.new p (Actor.Nexus root.old.made)) }
+    ensures free { IfOk result (λ p. IsFreePass shared.now.world root.old.made p) }
+    ensures refused { OnErr result (root.new ≡ root.old) }
+{
+    for _ in shared.rt.forever() {
+        let ended = shared.board.ended(shared.rt);
+        if let Ok(pass) = shared.world.pass(shared.alloc, root) {
+            return Ok(pass);
+        }
+        if !shared.waits(begun, ended) {
+            return Err(OutOfMemory);
+        }
+    }
+    unreachable!()
+}
+
+/// Accepts a connection and begins a session of it, behind so many.
 fn accept_one<
     's,
     'a,
@@ -111,6 +139,7 @@ fn accept_one<
     root: &mut Root<R>,
     listener: &mut L,
     number: u32,
+    begun: u32,
     place: u8,
 ) -> Result<Begun<K, R, C>, Accepted<K>>
     requires ready { IsReady shared.now.world root.old }
@@ -136,7 +165,7 @@ fn accept_one<
         Err(AcceptFailed) if shared.ends() => return Err(Accepted::served(AcceptEnd::Asked)),
         Err(AcceptFailed) => return Err(Accepted::served(AcceptEnd::Failed)),
     };
-    match shared.world.pass(shared.alloc, root) {
+    match next_pass(shared, root, begun) {
         Ok(pass) => Ok(begin(scope, shared, link, pass, number, place)),
         Err(OutOfMemory) => Err(Accepted {
             end: AcceptEnd::OutOfMemory,
@@ -185,7 +214,7 @@ pub(crate) fn accept_all<
         let Some(place) = free_place(shared, root, listener, places, counts) else {
             return Accepted::served(AcceptEnd::Asked);
         };
-        match accept_one(scope, shared, root, listener, first + index, place) {
+        match accept_one(scope, shared, root, listener, first + index, index, place) {
             Ok(begun) => places.add(Placed { place, begun }),
             Err(end) => return end,
         }

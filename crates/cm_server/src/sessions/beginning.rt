@@ -73,7 +73,7 @@ fn talk<B: Origin, K: Link + Drop, R: Recorder + Drop, C: Clock + Drop, G: Meet,
         rt: shared.rt,
         meet: shared.meet,
         world: &shared.world,
-        bells: &shared.bells,
+        bells: shared.bells,
         number,
         pass,
         safety: Safety {
@@ -98,7 +98,7 @@ fn talk<B: Origin, K: Link + Drop, R: Recorder + Drop, C: Clock + Drop, G: Meet,
     }
 }
 
-/// Serves one connection by a pass of its own, and then says on the board that the session at this place has ended.
+/// Serves one connection by a pass of its own, and then says that the session at this place has ended.
 fn run<K: Link + Drop, R: Recorder + Drop, C: Clock + Drop, G: Meet, W: Wait>(
     shared: &Shared<'_, R, C, G, W>,
     link: K,
@@ -114,6 +114,7 @@ fn run<K: Link + Drop, R: Recorder + Drop, C: Clock + Drop, G: Meet, W: Wait>(
         (link_state K.left K.taken K.read_faults K.write_faults result.link) result.pass result.end) }
 {
     let ended = talk::<Brand, K, R, C, G, W>(shared, link, pass, number);
+    shared.meet.ended(number, ended.end);
     shared.board.leave(shared.rt, place);
     ended
 }

@@ -1,4 +1,6 @@
-use std::sync::{Condvar, Mutex, Wait};
+use crate::pumps::bell::Bell;
+use std::alloc::Global;
+use std::sync::{Arc, Condvar, Mutex, Wait};
 
 /// Some of 256 places, a bit for each.
 #[derive(Clone, Copy)]
@@ -57,16 +59,33 @@ impl PlaceSet {
 struct Said {
     /// The places that were left since they were last taken.
     left: PlaceSet,
+    /// How many sessions have ended in all.
+    ended: u64,
     /// No more connections are wanted.
     ends: bool,
 }
 
+/// The bells of the pumps, once there are some, and whether counts were asked for before.
+#[derive(Drop)]
+struct Hung {
+    bells: Option<Arc<Vec<Bell>, Global>>,
+    asked: bool,
+}
+
+/// Asks at each bell.
+fn ask_all<W: Wait>(rt: &W, bells: &[Bell]) {
+    for bell in bells {
+        bell.ask(rt);
+    }
+}
+
 /// Where the threads of sessions say that these have ended, by their places, and whoever wants it that no more connections
-/// are accepted. To say so takes no memory.
+/// are accepted, or that the units be counted. To say so takes no memory.
 #[derive(Drop)]
 pub(crate) struct Board {
     said: Mutex<Said>,
     moved: Condvar,
+    hung: Mutex<Hung>,
 }
 
 impl Board {
@@ -75,9 +94,32 @@ impl Board {
         Board {
             said: Mutex::new(Said {
                 left: PlaceSet::none(),
+                ended: 0,
                 ends: false,
             }),
             moved: Condvar::new(),
+            hung: Mutex::new(Hung {
+                bells: None,
+                asked: false,
+            }),
+        }
+    }
+
+    /// The bells of all units hang here from now on: what was asked for before is asked now.
+    pub(crate) fn hang<W: Wait>(&self, rt: &W, bells: Arc<Vec<Bell>, Global>) {
+        let mut hung = self.hung.lock(rt);
+        if hung.asked {
+            ask_all(rt, &bells);
+        }
+        hung.bells = Some(bells);
+    }
+
+    /// Asks each pump for the counts of its unit.
+    pub(crate) fn ask_for_counts<W: Wait>(&self, rt: &W) {
+        let mut hung = self.hung.lock(rt);
+        hung.asked = true;
+        if let Some(bells) = &hung.bells {
+            ask_all(rt, bells);
         }
     }
 
@@ -85,6 +127,7 @@ impl Board {
     pub(crate) fn leave<W: Wait>(&self, rt: &W, place: u8) {
         let mut said = self.said.lock(rt);
         said.left = said.left.and(PlaceSet::of(place));
+        said.ended = said.ended.saturating_add(1);
         self.moved.notify_all();
     }
 
@@ -98,6 +141,20 @@ impl Board {
     /// Whether that was said.
     pub(crate) fn ends<W: Wait>(&self, rt: &W) -> bool {
         self.said.lock(rt).ends
+    }
+
+    /// How many sessions have ended.
+    pub(crate) fn ended<W: Wait>(&self, rt: &W) -> u64 {
+        self.said.lock(rt).ended
+    }
+
+    /// Waits until another number of sessions have ended than this, or no more connections are wanted.
+    pub(crate) fn wait_for_another<W: Wait>(&self, rt: &W, ended: u64) {
+        let _said = self.moved.wait_while(
+            rt,
+            self.said.lock(rt),
+            |said| said.ended == ended && !said.ends,
+        );
     }
 
     /// The places that were left since they were last taken.

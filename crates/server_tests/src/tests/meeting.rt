@@ -48,6 +48,12 @@ impl Meet for UntilAnswered {
             self.answered.store(true, Ordering::SeqCst);
         }
     }
+
+    fn ended(&self, _session: u32, _end: SessionEnd) {}
+
+    fn counts<R: Recorder + Drop>(&self, _unit: u16, _pass: &Pass<R>, _hold: &Hold<R>) {}
+
+    fn uncounted(&self, _unit: u16) {}
 }
 
 #[test]

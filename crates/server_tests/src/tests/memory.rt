@@ -74,6 +74,12 @@ impl Meet for Alone {
     fn replies<R: Recorder + Drop>(&self, _session: u32, _pass: &Pass<R>) {}
 
     fn told(&self, _session: u32) {}
+
+    fn ended(&self, _session: u32, _end: SessionEnd) {}
+
+    fn counts<R: Recorder + Drop>(&self, _unit: u16, _pass: &Pass<R>, _hold: &Hold<R>) {}
+
+    fn uncounted(&self, _unit: u16) {}
 }
 
 #[test]

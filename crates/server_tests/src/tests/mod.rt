@@ -12,8 +12,9 @@ use cm_server::{
     DiskList, Meet, RecorderList, Served, Status, Stored, serve, serve_at, serve_stored, serve_with,
 };
 use listening::TestListener;
-use nexus::Pass;
+use nexus::{Hold, Pass};
 use recorder::Recorder;
+use session::SessionEnd;
 use std::alloc::Global;
 use std::sync::Wait;
 use std::test::Fail;

@@ -3,7 +3,7 @@ use Rattle.std.specs.Prelude.{ℕ, ◌+◌, ◌^◌, ◌<◌, length, Bool, if�
 use Rattle.cm_frame.specs.declared.frame.Reply.{Reply}
 use Rattle.cm_frame.specs.Grammar.{reply_bytes}
 use Rattle.trace_replay.specs.declared.summary.Summary.{Summary}
-use Rattle.trace_replay.specs.Played.{is_good, is_check, is_busy, is_task_set_full}
+use Rattle.trace_replay.specs.Played.{is_good, is_check, is_busy_reply, is_task_set_full}
 
 -- one more item, after which there were so many acts
 abbrev pub with_item : Summary → ℕ → Summary
@@ -18,7 +18,7 @@ with_reply c reply = record c {
   replies = c.replies + 1;
   good = c.good + one_if (is_good reply);
   check = c.check + one_if (is_check reply);
-  busy = c.busy + one_if (is_busy reply);
+  busy = c.busy + one_if (is_busy_reply reply);
   full = c.full + one_if (is_task_set_full reply);
   bytes = c.bytes + (4 + length (reply_bytes reply));
 }

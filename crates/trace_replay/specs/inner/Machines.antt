@@ -32,7 +32,7 @@ use Rattle.trace_replay.specs.declared.nexus.Waiting.{Waiting}
 use Rattle.trace_replay.specs.declared.nexus.Nexus.{Nexus}
 use Rattle.trace_replay.specs.declared.machine.Machine.{Machine}
 use Rattle.trace_replay.specs.declared.machine.Effect.{Effect}
-use Rattle.trace_replay.specs.ReplayState.{Pending, AddressedReply, ReplayState, Shortage, Nowhere, AtBegin, AtAct, AtStep, waiting, seq, new_entry, has_no_room, entries_after, outcome_of, noted, noted_at_step, outcomes_at, entries_at, next_step, next, fits}
+use Rattle.trace_replay.specs.ReplayState.{Pending, AddressedReply, ReplayState, Shortage, Nowhere, AtBegin, AtAct, AtStep, waiting, seq, new_entry, has_no_room, entries_after, outcome_of, noted, noted_at_step, outcomes_at, entries_at, next_step, after_item, item_fits}
 use Rattle.trace_replay.specs.Played.{shortage_for}
 use Rattle.trace_replay.specs.Shortages.{is_no_shortage, allowed_at_act, is_allowed}
 
@@ -192,14 +192,14 @@ pub record IsStanding (config : Configuration) (s : ReplayState) (m : Machine) :
 
 -- the item was played, with such a shortage, and these are its replies
 pub record HasPlayed (config : Configuration) (s : ReplayState) (item : TraceItem) (replies : List AddressedReply) (m : Machine) : Type 0 where
-  pub fit : fits config s item ≡ true
+  pub fit : item_fits config s item ≡ true
   pub shortage : Shortage
   pub allowed : is_allowed step config s item (shortage_for item (shortage ∷ [])) ≡ true
-  pub state : IsStanding config (next step config s item (shortage_for item (shortage ∷ []))) m
-  pub replied : (next step config s item (shortage_for item (shortage ∷ []))).replies ≡ s.replies ++ replies
+  pub state : IsStanding config (after_item step config s item (shortage_for item (shortage ∷ []))) m
+  pub replied : (after_item step config s item (shortage_for item (shortage ∷ []))).replies ≡ s.replies ++ replies
 
 abbrev pub IsEffect : Configuration → ReplayState → TraceItem → Effect → Machine → Type 0
-IsEffect config s item Effect.Unfit m = fits config s item ≡ false
+IsEffect config s item Effect.Unfit m = item_fits config s item ≡ false
 IsEffect config s item Effect.Quiet m = HasPlayed config s item [] m
 IsEffect config s item (Effect.Answers initiator reply) m =
     HasPlayed config s item ((record { initiator = initiator; reply = reply }) ∷ []) m × IsOfLength reply

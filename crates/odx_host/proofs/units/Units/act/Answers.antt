@@ -5,8 +5,8 @@ use Rattle.cmd_program.specs.Meaning.{IsAskedOf}
 use Rattle.unit_core.specs.Unfolded.{IsUnfolded, unfolded}
 use Rattle.unit_core.proofs.PublicLaws.{unfolded-after}
 use Rattle.unit_core.specs.Acting as acting
-use Rattle.unit_runs.specs.Keeping.{KeepAll}
-use Rattle.unit_runs.proofs.PublicLaws.{keep-with, next-fits, stamp-left}
+use Rattle.session.specs.Keeping.{KeepAll}
+use Rattle.session.proofs.PublicLaws.{keep-with, next-fits, stamp-left}
 use Rattle.odx_host.specs.Units.{host, UnitsAt, AreAfter}
 use Rattle.odx_host.proofs.UnitsOn.{one-config, after-same}
 use Rattle.odx_host.proofs.UnitsDo.{unit-found, limits-of, asked-of, form-of, full-by, next-of, did-nexus, same-list, left-of, last-of}

@@ -4,7 +4,7 @@ use Rattle.std.proofs.lemmas.List.{get_or-replicate, length-map}
 use Rattle.unit_core.specs.UnitState.{UnitState}
 use Rattle.unit_core.specs.Unfolded.{IsUnfolded, unfolded}
 use Rattle.unit_core.proofs.PublicLaws.{unfolded-first}
-use Rattle.unit_runs.proofs.PublicLaws.{pushed-each, shown-each}
+use Rattle.session.proofs.PublicLaws.{pushed-each, shown-each}
 use Rattle.odx_host.proofs.units.Units.new.Goals as goal
 
 pub loop-unit-preserved : goal.loop-unit-preserved

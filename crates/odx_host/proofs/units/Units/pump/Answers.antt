@@ -6,8 +6,8 @@ use Rattle.cm_history.specs.declared.act.Actor.{Actor}
 use Rattle.unit_core.specs.Unfolded.{IsUnfolded, unfolded}
 use Rattle.unit_core.proofs.PublicLaws.{unfolded-after}
 use Rattle.unit_core.specs.Acting as acting
-use Rattle.unit_runs.specs.Keeping.{KeepAll}
-use Rattle.unit_runs.proofs.PublicLaws.{keep-with, next-fits, stamp-left}
+use Rattle.session.specs.Keeping.{KeepAll}
+use Rattle.session.proofs.PublicLaws.{keep-with, next-fits, stamp-left}
 use Rattle.odx_host.specs.Units.{UnitsAt, AreAfter}
 use Rattle.odx_host.proofs.UnitsOn.{one-config, after-same}
 use Rattle.odx_host.proofs.UnitsDo.{unit-found, asked-of, did-pump, same-list, left-of, gone-none, gone-pump, pump-found, last-of}
