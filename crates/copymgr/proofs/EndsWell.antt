@@ -9,7 +9,7 @@ use Rattle.generator.specs.Settings.{settings}
 use Rattle.generator.specs.Generated.{items, generated}
 use Rattle.generator.specs.WellFormed.{HeaderIsRead, ItemsFit, TwelveEach, header_length}
 use Rattle.trace_replay.specs.Items.{Ending, Done, Torn, BadHeader, BadRecord, Records, Placed, trace_of, items_limit}
-use Rattle.trace_replay.specs.ReplayState.{ReplayState, Shortage, at_first, next, fits}
+use Rattle.trace_replay.specs.ReplayState.{ReplayState, Shortage, at_first, after_item, item_fits}
 use Rattle.trace_replay.specs.Played.{Played, play, played, played_after, shortage_for, shortages_behind}
 use Rattle.round_counts.proofs.PublicLaws.{items-end}
 
@@ -29,10 +29,10 @@ play-ends : (step : Stepping) (config : Configuration) (s : ReplayState) (xs : L
     → EndsWell ending → EndsWell (play step config s xs ending shortages).ending
 play-ends step config s [] ending shortages well = well
 play-ends step config s (x ∷ xs) ending shortages well =
-    either (λ (p : Played). EndsWell p.ending) (fits config s x.item)
-    (play step config (next step config s x.item (shortage_for x.item shortages)) xs ending (shortages_behind x.item shortages))
+    either (λ (p : Played). EndsWell p.ending) (item_fits config s x.item)
+    (play step config (after_item step config s x.item (shortage_for x.item shortages)) xs ending (shortages_behind x.item shortages))
     (record { state = s; ending = BadRecord x.place })
-    (play-ends step config (next step config s x.item (shortage_for x.item shortages)) xs ending (shortages_behind x.item shortages) well) tt
+    (play-ends step config (after_item step config s x.item (shortage_for x.item shortages)) xs ending (shortages_behind x.item shortages) well) tt
 
 pub generated-ends : (step : Stepping) → IsReadBack IsItem item_bytes read_item → HeaderIsRead → ItemsFit → TwelveEach
     → (rounds : ℕ) → rounds ≤ 4096 → (shortages : List Shortage) → EndsWell (played step (generated rounds) shortages).ending

@@ -7,6 +7,7 @@ mod announced;
 mod chained;
 #[cfg(test)]
 mod checks;
+mod configuring;
 mod ending;
 mod ends;
 mod folder_notes;
@@ -21,7 +22,10 @@ mod journal_cause;
 mod journal_files;
 #[cfg(test)]
 mod journal_tests;
+mod last_report;
+mod managed;
 mod managing;
+mod open_links;
 mod order;
 mod ready;
 #[cfg(test)]
@@ -42,10 +46,12 @@ mod storing;
 #[cfg(test)]
 mod tests;
 mod top;
+mod unit_counts;
 mod unit_files;
 mod unkept;
 #[cfg(test)]
 mod unkept_tests;
+mod watching;
 
 use cm_base::{OutOfMemory, StandardInput, StandardOutput, Word};
 use ending::Ending;

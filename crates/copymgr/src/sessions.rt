@@ -5,10 +5,9 @@ use crate::rows::sessions::{TWO_UNITS, WorkedSession, sessions};
 use crate::tests::{Failing, bytes_of, sink_of, source_of};
 use cm_base::{Bytes, Config, MemoryLink, SetClock};
 use cm_frame::{Parsed, read_header};
-use session::{SessionEnd, SessionFault, session};
+use session::{SessionEnd, SessionFault, UnitRuns, session};
 use std::alloc::Global;
 use std::test::Fail;
-use unit_runs::UnitRuns;
 
 /// WRITE (16) of two blocks, and READ (16) of three.
 const REQUESTS: &str = "0000040000008a000000000000000000000000020000 11*512 22*512 \

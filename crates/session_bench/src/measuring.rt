@@ -1,11 +1,10 @@
 use crate::words::Failed;
 use cm_base::{Bytes, CallList, Config, MemoryLink, MemorySink, MemorySource, SetClock};
-use session::session;
+use session::{UnitRuns, session};
 use std::alloc::Global;
 use std::io::{Input, Print, Read};
 use std::time::{Clock, Duration, Instant};
 use trace_replay::replay;
-use unit_runs::UnitRuns;
 
 /// All of standard input, which is given by pulls as long as they are asked for.
 fn whole_input<R: Input>(rt: &R, alloc: Global) -> Result<MemorySource, Failed> {

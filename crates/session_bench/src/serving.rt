@@ -3,11 +3,10 @@ ghost use Rattle.std.specs.Prelude.{◌≡◌};
 use crate::standard_link::StandardLink;
 use crate::words::Failed;
 use cm_base::{Clock, Config};
-use session::{SessionEnd, SessionFault, session};
+use session::{SessionEnd, SessionFault, UnitRuns, session};
 use std::alloc::Global;
 use std::cell::Cell;
 use std::io::{self, Input, Print};
-use unit_runs::UnitRuns;
 
 /// A clock that rises by as many seconds each time that it is read.
 #[derive(Drop)]

@@ -1,4 +1,0 @@
-use Rattle.pass_register.proofs.register.Register.split.Given as goal
-
-abbrev pub ghosts-split_seat : goal.ghosts-split_seat
-ghosts-split_seat a = record { actor = a.actor }

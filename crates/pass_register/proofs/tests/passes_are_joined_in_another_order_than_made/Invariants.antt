@@ -1,5 +1,0 @@
-use Rattle.std.proofs.Common.{[]}
-use Rattle.pass_register.proofs.tests.passes_are_joined_in_another_order_than_made.Given as goal
-
-abbrev pub ghost-join : goal.ghost-join
-ghost-join a = []

@@ -1,3 +1,0 @@
-pub mod Pinned
-pub mod RodsShown
-pub mod PublicLaws

@@ -1,2 +1,0 @@
-pub mod Pinning
-pub mod TokenChanges
