@@ -8,6 +8,7 @@ import os
 import socket
 import sys
 import threading
+import time
 
 from . import serving
 from .unit import Unit
@@ -24,6 +25,18 @@ class ForgettingUnit(Unit):
         finally:
             self.folded = self.entries
             self.payload = 0
+
+
+class OpenLink:
+    def __init__(self, link, session):
+        self.link, self.session = link, session
+        self.since = time.time()
+
+    def close(self):
+        try:
+            self.link.shutdown(socket.SHUT_RDWR)
+        except OSError:
+            pass  # it ended by itself
 
 
 class Manager(serving.Server):
@@ -43,8 +56,8 @@ class Manager(serving.Server):
         for pump in pumps:
             pump.start()
         self.accept_all(listener)
-        for session in list(self.open.values()):
-            session.join()
+        for opened in list(self.open.values()):
+            opened.session.join()
         for bell, pump in zip(self.bells, pumps):
             bell.end()
             pump.join()
@@ -64,7 +77,7 @@ class Manager(serving.Server):
             link.setsockopt(socket.IPPROTO_TCP, socket.TCP_NODELAY, 1)
             session = threading.Thread(target=self.one, args=(number, link))
             with self.changed:
-                self.open[number] = session
+                self.open[number] = OpenLink(link, session)
             session.start()
             number += 1
 
@@ -84,10 +97,38 @@ class Manager(serving.Server):
         except OSError:
             pass  # it listens no more
 
+    def answer(self, line):
+        """The lines of an answer to a request that does not end the manager."""
+        words = line.split(" ")
+        if line == "report":
+            with self.changed, self.turn:
+                return [line, *self.report_lines(), f"open {len(self.open)}"]
+        if line == "units":
+            with self.turn:
+                return [line, *self.unit_lines()]
+        if line == "connections":
+            with self.changed:
+                return [line, *(f"{number} {int(time.time() - opened.since)}" for number, opened in self.open.items())]
+        if words[0] == "close" and len(words) == 2 and words[1].isascii() and words[1].isdigit() and int(words[1]) < 1 << 32:
+            with self.changed:
+                opened = self.open.get(int(words[1]))
+                if opened:
+                    opened.close()
+                return [f"close {int(words[1])}", "closed" if opened else "none"]
+        return ["unknown"]
+
+    def close_all(self):
+        with self.changed:
+            for opened in self.open.values():
+                opened.close()
+
     def read_requests(self, address):
         """Answers what stands on standard input, up to a request that asks for the end."""
         for line in sys.stdin.buffer:
-            if line == b"end\n":
+            request = line.decode(errors="replace").removesuffix("\n")
+            if request in ("end", "stop"):
                 self.end(address)
+                if request == "stop":
+                    self.close_all()
                 return
-            os.write(1, b"unknown\n\n")
+            os.write(1, "".join(line + "\n" for line in [*self.answer(request), ""]).encode())

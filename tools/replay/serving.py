@@ -198,13 +198,19 @@ class Server:
         except RecordFull:
             pass
 
+    def unit_lines(self):
+        """What is counted of each unit."""
+        counts = [f"steps {unit.entries} live {len(unit.live())} mapped {len(unit.held)}" for unit in self.units]
+        return [f"unit {number} {count}" for number, count in enumerate(counts)]
+
+    def report_lines(self):
+        """What was served so far."""
+        sessions = [f"sessions {self.sessions}", f"faults {self.faults}", "memory 0", f"commands {self.commands}"]
+        return [*sessions, *self.unit_lines(), f"total {sum(unit.entries for unit in self.units)}"]
+
     def report(self):
         """What was served, once it ended."""
-        lines = [f"sessions {self.sessions}", f"faults {self.faults}", "memory 0", f"commands {self.commands}"]
-        for unit in self.units:
-            counts = f"steps {unit.entries} live {len(unit.live())} mapped {len(unit.held)}"
-            lines.append(f"unit {unit.number} {counts}")
-        lines.append(f"total {sum(unit.entries for unit in self.units)}")
+        lines = self.report_lines()
         if self.is_recorded:
             lines.append(f"kept {sum(len(unit.record) for unit in self.units)}")
         return "".join(line + "\n" for line in lines)

@@ -84,7 +84,7 @@ def write(report):
 
 def manage(address, file):
     """Serves connections at an address to units of the configuration in a file, until a request asks for the end, and
-    reports."""
+    reports behind the line `ended`."""
     try:
         data = pathlib.Path(file).read_bytes()
     except OSError as error:
@@ -95,7 +95,7 @@ def manage(address, file):
         place = listener.getsockname()[:2]
         threading.Thread(target=manager.read_requests, args=(place,), daemon=True).start()
         manager.manage(listener)
-    write(manager.report())
+    write("ended\n" + manager.report())
 
 
 def run(address, sessions, new_server):

@@ -333,7 +333,7 @@ class Here(unittest.TestCase):
     def test_what_is_reached(self):
         for path, name in [
             ("crates/trace_replay/specs/Played.antt", "played"),
-            ("crates/trace_replay/specs/ReplayState.antt", "next"),
+            ("crates/trace_replay/specs/ReplayState.antt", "after_item"),
             ("crates/cm_history/specs/Answers.antt", "answer_after"),
             ("crates/cm_history/specs/Laws.antt", "TokenPromise"),
             ("crates/cm_history/specs/Laws.antt", "CountPromise"),

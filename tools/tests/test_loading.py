@@ -100,7 +100,7 @@ class Tool(unittest.TestCase):
         said, why, status = support.run("managing-load", program, "--connections", "300", "--places", "64")
         lines = said.decode().splitlines()
         self.assertEqual((lines[-1].split()[1:], why, status), (["passed,", "0", "failed"], "", 0), lines)
-        self.assertTrue(lines[2].startswith("sessions: 300, and the clients counted 300"), lines)
+        self.assertTrue(any(line.startswith("sessions: 300, and the clients counted 300") for line in lines), lines)
 
     def test_the_plain_manager(self):
         self.is_managed("-")

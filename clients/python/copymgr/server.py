@@ -5,6 +5,7 @@ import os
 import re
 import subprocess
 import tempfile
+import threading
 
 from .errors import Ended
 from .wire import PLAIN_MANAGE, PLAIN_SERVE, PROGRAM, frames
@@ -101,7 +102,8 @@ class Server:
 class Manager(Server):
     """A program that serves units of these shapes, which forget, until it is asked to end: `WORDS ADDRESS FILE`.
 
-    Its `address` is where it serves.
+    Its `address` is where it serves. What it says on standard error is read all the time, since a full pipe would stop it;
+    the last lines are kept.
     """
 
     def __init__(self, shapes, words=None, host="127.0.0.1"):
@@ -114,19 +116,42 @@ class Manager(Server):
             self.address = self.told_address()
         finally:
             os.unlink(file.name)
+        self.errors, self.program.stderr = self.program.stderr, None
+        self.said = collections.deque(maxlen=100)
+        self.reader = threading.Thread(target=self.read_errors, daemon=True)
+        self.reader.start()
+
+    def read_errors(self):
+        while line := self.errors.readline():
+            self.said.append(line.decode(errors="replace"))
+
+    def ask(self, request):
+        """The lines of the answer to a request that does not end it, but for the first, which repeats the request, and
+        the empty one at the end."""
+        self.program.stdin.write(request.encode() + b"\n")
+        lines = []
+        while (line := self.program.stdout.readline()) != b"\n":
+            if not line:
+                raise Ended("the manager ended: " + "".join(self.said).strip())
+            lines.append(line.decode().rstrip("\n"))
+        return lines[1:]
 
     def report(self, seconds=None):
         """Asks for its end, waits for it, at most so long, and gives what it reports."""
-        output, said = self.program.communicate(b"end\n", timeout=seconds)
+        output, _ = self.program.communicate(b"end\n", timeout=seconds)
         if self.program.returncode:
-            why = said.decode(errors="replace").strip()
+            self.reader.join(seconds)
+            why = "".join(self.said).strip()
             raise Ended(f"the manager ended with status {self.program.returncode}: {why}")
-        return report_of(output.decode())
+        return report_of(output.decode().rpartition("ended\n")[2])
 
     def close(self):
         """Ends the program at once."""
-        super().close()
-        self.program.stdin.close()
+        self.program.kill()
+        self.program.wait()
+        self.reader.join()
+        for stream in self.program.stdin, self.program.stdout, self.errors:
+            stream.close()
 
 
 def report_of(text):
